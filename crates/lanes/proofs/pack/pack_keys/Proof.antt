@@ -1,0 +1,27 @@
+-- `lanes::pack::pack_keys` meets its contract, by those of the sort and of the seating. Assumes nothing.
+use mathlib.Core.Path.{subst}
+use mathlib.Core.List.{List}
+use Prim.Native.Nat.{ℕ}
+use Rattle.lanes.specs.Keys.{Seated}
+use borrow.Author.Needs.{needs}
+use Rattle.lanes.proofs.pack.pack_keys.Statement.{statement}
+use Rattle.lanes.proofs.pack.pack_keys.Tie as tie
+
+sort-rows-requires : tie.Need-sort-rows-requires
+sort-rows-requires c κs = search needs
+
+seat-keys-requires : tie.Need-seat-keys-requires
+seat-keys-requires c κs = search needs
+
+same-length : tie.Need-same-length
+same-length c = search needs
+
+same-length-2 : tie.Need-same-length-2
+same-length-2 c = search needs
+
+returns : tie.Need-returns
+returns c = subst (λ (rows : List (List ℕ)). Seated rows (c .before .seat-keys .last .0) (c .before .seat-keys .result)) (c .before .before .before .before .before .sort-rows .ensures) (c .before .seat-keys .ensures)
+
+pub pack-keys-spec : {M : Type 1} → statement M
+pack-keys-spec =
+    tie.close (tie.spec sort-rows-requires seat-keys-requires same-length same-length-2 returns)

@@ -1,0 +1,7 @@
+pub mod Sort
+pub mod Lanes
+pub mod LaneCall
+pub mod Keys
+pub mod Table
+pub mod Apart
+pub mod Examples
