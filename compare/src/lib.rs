@@ -1,0 +1,3 @@
+//! The Rattle libraries behind safe functions, to be run beside the oracle.
+
+pub mod rattle;

@@ -1,0 +1,262 @@
+//! Demand 3, checked clause by clause on a board and a finished plan. It knows
+//! nothing of how plans are made: only document 01's words of demand 3, and
+//! which wires make a group.
+
+use crate::board::{Board, Port};
+use crate::facts::{Facts, Group};
+use crate::plan::*;
+use crate::plan_read;
+use std::collections::HashMap;
+
+/// A clause that does not hold, and where.
+#[derive(Clone, Debug, PartialEq, Eq)]
+pub struct Fault {
+    pub clause: &'static str,
+    pub what: String,
+}
+
+struct Case<'a> {
+    board: &'a Board,
+    plan: &'a Plan,
+    facts: Facts<'a>,
+    groups: Vec<Group>,
+    /// The group of each wire that is in one.
+    group_of: HashMap<usize, usize>,
+    /// What arrives at each rerouter.
+    arrivals: Vec<Vec<End>>,
+}
+
+type Clause = fn(&Case) -> Option<String>;
+
+/// Each clause by its name.
+pub const CLAUSES: [&str; 11] = [
+    "ends", "feeder", "names", "target", "source", "twice", "sum", "distance", "corner", "bound",
+    "overlap",
+];
+const CHECKS: [Clause; 11] = [
+    ends, feeder, names, target, source, twice, sum, distance, corner, bound, overlap,
+];
+
+/// The clauses of demand 3 that a plan sheet breaks on a board.
+pub fn check_sheet(board: &Board, plan: &[u8]) -> Vec<Fault> {
+    match plan_read::read(plan) {
+        Ok(plan) => check(board, &plan),
+        Err(line) => vec![Fault {
+            clause: "sheet",
+            what: format!("plan line {line} does not fit"),
+        }],
+    }
+}
+
+/// The clauses of demand 3 that a plan breaks on a board.
+pub fn check(board: &Board, plan: &Plan) -> Vec<Fault> {
+    let facts = Facts::new(board);
+    let groups = facts.groups();
+    let mut group_of = HashMap::new();
+    for (i, g) in groups.iter().enumerate() {
+        group_of.extend(g.taps.iter().map(|t| (t.wire, i)));
+    }
+    let mut arrivals = vec![Vec::new(); plan.rerouters.len()];
+    for b in &plan.bus_wires {
+        if let End::Bus(to) = b.to
+            && to < arrivals.len()
+        {
+            arrivals[to].push(b.from);
+        }
+    }
+    let case = Case {
+        board,
+        plan,
+        facts,
+        groups,
+        group_of,
+        arrivals,
+    };
+    let broken =
+        |(clause, check): (&'static str, Clause)| check(&case).map(|what| Fault { clause, what });
+    CLAUSES.into_iter().zip(CHECKS).filter_map(broken).collect()
+}
+
+impl Case<'_> {
+    /// The bus wires that end at a port, with the numbers of their records.
+    fn deliveries(&self) -> impl Iterator<Item = (usize, &BusWire, Port)> {
+        let all = self.plan.bus_wires.iter().enumerate();
+        all.filter_map(|(i, b)| match b.to {
+            End::Port(p) => Some((i, b, p)),
+            End::Bus(_) => None,
+        })
+    }
+
+    /// The way back from where a delivery leaves: its port and the rerouters
+    /// on it. `None` where it comes to no port.
+    fn way_back(&self, from: End) -> Option<(Port, usize)> {
+        let mut at = from;
+        for distance in 0..=self.plan.rerouters.len() {
+            match at {
+                End::Port(p) => return Some((p, distance)),
+                End::Bus(r) => at = *self.arrivals.get(r)?.first()?,
+            }
+        }
+        None
+    }
+
+    fn part(&self, end: End) -> Option<u8> {
+        match end {
+            End::Bus(r) => self.plan.rerouters.get(r).map(|r| r.part),
+            End::Port(_) => None,
+        }
+    }
+}
+
+/// Bus wires name rerouters that are there.
+fn ends(case: &Case) -> Option<String> {
+    let there = |e: End| !matches!(e, End::Bus(r) if r >= case.plan.rerouters.len());
+    let bad = |b: &BusWire| !there(b.from) || !there(b.to);
+    let i = case.plan.bus_wires.iter().position(bad)?;
+    Some(format!("bus wire {i} names a rerouter that is not there"))
+}
+
+/// Each rerouter has exactly one bus wire arriving, from a port or from a
+/// rerouter with a lower number.
+fn feeder(case: &Case) -> Option<String> {
+    let bad = |(r, from): (usize, &Vec<End>)| match from[..] {
+        [End::Port(_)] => None,
+        [End::Bus(f)] if f < r => None,
+        _ => Some(r),
+    };
+    let r = case.arrivals.iter().enumerate().find_map(bad)?;
+    Some(format!("rerouter {r} is fed by {:?}", case.arrivals[r]))
+}
+
+/// A delivery names a wire of the board, and no other bus wire names one; it
+/// leaves a rerouter. T counts the records and the deliveries.
+fn names(case: &Case) -> Option<String> {
+    for (i, b) in case.plan.bus_wires.iter().enumerate() {
+        let ends_at_port = matches!(b.to, End::Port(_));
+        let leaves_bus = matches!(b.from, End::Bus(_));
+        let fits = match b.delivery {
+            Some((wire, _)) => ends_at_port && leaves_bus && wire < case.board.wires.len(),
+            None => !ends_at_port,
+        };
+        if !fits {
+            return Some(format!("bus wire {i} names {:?}", b.delivery));
+        }
+    }
+    let [rerouters, bus_wires, deliveries, direct, _] = case.plan.totals;
+    let named = case
+        .plan
+        .bus_wires
+        .iter()
+        .filter(|b| b.delivery.is_some())
+        .count();
+    let right = rerouters == case.plan.rerouters.len()
+        && bus_wires == case.plan.bus_wires.len()
+        && deliveries == named
+        && direct + named == case.board.wires.len();
+    (!right).then(|| format!("totals {:?}", case.plan.totals))
+}
+
+/// Each delivery goes to the target of the wire it names.
+fn target(case: &Case) -> Option<String> {
+    let bad = |(i, b, to): (usize, &BusWire, Port)| {
+        let wire = case.board.wires.get(b.delivery?.0)?;
+        (wire.target != to).then_some(i)
+    };
+    let i = case.deliveries().find_map(bad)?;
+    Some(format!("bus wire {i} ends at another port than its wire"))
+}
+
+/// The way back ends at the source of the wire named.
+fn source(case: &Case) -> Option<String> {
+    let bad = |(i, b, _): (usize, &BusWire, Port)| {
+        let wire = case.board.wires.get(b.delivery?.0)?;
+        let back = case.way_back(b.from).map(|(port, _)| port);
+        (back != Some(wire.source)).then_some(i)
+    };
+    let i = case.deliveries().find_map(bad)?;
+    Some(format!(
+        "bus wire {i} does not lead back to its wire's source"
+    ))
+}
+
+/// No wire is delivered twice.
+fn twice(case: &Case) -> Option<String> {
+    let mut seen = vec![false; case.board.wires.len()];
+    for b in &case.plan.bus_wires {
+        if let Some((wire, _)) = b.delivery
+            && let Some(seen) = seen.get_mut(wire)
+            && std::mem::replace(seen, true)
+        {
+            return Some(format!("wire {wire} is delivered twice"));
+        }
+    }
+    None
+}
+
+/// Bus wires are as many as rerouters and deliveries.
+fn sum(case: &Case) -> Option<String> {
+    let right = case.plan.rerouters.len() + case.deliveries().count();
+    let have = case.plan.bus_wires.len();
+    (have != right).then(|| format!("{have} bus wires, not {right}"))
+}
+
+/// The stored distance is the count of rerouters on the way back.
+fn distance(case: &Case) -> Option<String> {
+    let bad = |(i, b, _): (usize, &BusWire, Port)| {
+        let (_, stored) = b.delivery?;
+        let counted = case.way_back(b.from).map(|(_, d)| d);
+        (counted != Some(stored)).then(|| format!("bus wire {i}: {counted:?}, not {stored}"))
+    };
+    case.deliveries().find_map(bad)
+}
+
+/// The distance through a corner is 1.
+fn corner(case: &Case) -> Option<String> {
+    let bad = |(i, b, _): (usize, &BusWire, Port)| {
+        let (_, stored) = b.delivery?;
+        let through = case.part(b.from) == Some(PART_CORNER);
+        (through && stored != 1).then(|| format!("bus wire {i}: {stored} through a corner"))
+    };
+    case.deliveries().find_map(bad)
+}
+
+/// Otherwise it is at most 3, the group's rows up to its own and its columns
+/// on its row.
+fn bound(case: &Case) -> Option<String> {
+    let bad = |(i, b, _): (usize, &BusWire, Port)| {
+        let (wire, stored) = b.delivery?;
+        if case.part(b.from) == Some(PART_CORNER) {
+            return None;
+        }
+        let Some(group) = case.group_of.get(&wire).map(|g| &case.groups[*g]) else {
+            return Some(format!("bus wire {i}: wire {wire} is in no group"));
+        };
+        let row = case.facts.tap(wire).ok()?.row;
+        let rows = group.rows().iter().filter(|r| **r <= row).count();
+        let most = 3 + rows + group.columns(row);
+        (stored > most).then(|| format!("bus wire {i}: {stored} is over {most}"))
+    };
+    case.deliveries().find_map(bad)
+}
+
+/// No two of a page's heads, links and taps overlap.
+fn overlap(case: &Case) -> Option<String> {
+    let mut near: HashMap<(usize, i32, i32), Vec<usize>> = HashMap::new();
+    let bricks = &case.plan.rerouters;
+    for (i, r) in bricks.iter().enumerate() {
+        if !matches!(r.part, PART_HEAD | PART_LINK | PART_TAP) {
+            continue;
+        }
+        let (bx, by) = (r.x.div_euclid(2), r.y.div_euclid(2));
+        for (dx, dy) in (-1..=1).flat_map(|dx| (-1..=1).map(move |dy| (dx, dy))) {
+            for j in near.get(&(r.page, bx + dx, by + dy)).into_iter().flatten() {
+                let other = &bricks[*j];
+                if (r.x - other.x).abs() < 2 && (r.y - other.y).abs() < 2 {
+                    return Some(format!("rerouters {j} and {i} overlap"));
+                }
+            }
+        }
+        near.entry((r.page, bx, by)).or_default().push(i);
+    }
+    None
+}

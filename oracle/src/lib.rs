@@ -1,0 +1,31 @@
+//! The oracle of the gutter router: the Rust original behind document 01's
+//! sheets, a reader of that document of its own, and what is needed to compare
+//! the two with a port of them.
+
+pub mod board;
+pub mod check3;
+pub mod facts;
+pub mod r#gen;
+pub mod harness;
+pub mod lanes;
+pub mod model;
+pub mod plan;
+pub mod plan_read;
+pub mod records;
+pub mod rng;
+pub mod sheet;
+pub mod shrink;
+pub mod soak;
+pub mod text;
+
+pub use board::{Board, Limits, Refusal};
+pub use harness::run_plan;
+pub use plan::Plan;
+
+/// The answer to one sheet: the plan sheet, or the `E` line of its refusal.
+pub fn answer(text: &[u8], limits: &Limits) -> String {
+    match board::parse(text, limits).and_then(|b| run_plan(&b)) {
+        Ok(plan) => plan.sheet(),
+        Err(refusal) => refusal.line_of_text(),
+    }
+}

@@ -1,0 +1,98 @@
+//! The plan and the plan sheet.
+
+use crate::board::Port;
+use std::fmt::Write;
+
+#[derive(Clone, Debug, PartialEq, Eq)]
+pub struct PageAnswer {
+    pub lanes: i32,
+    pub band: i32,
+}
+
+pub const PART_SOURCE: u8 = 1;
+pub const PART_HEAD: u8 = 2;
+pub const PART_LINK: u8 = 3;
+pub const PART_TAP: u8 = 4;
+pub const PART_GATE_SIDE: u8 = 5;
+pub const PART_CORNER: u8 = 6;
+
+#[derive(Clone, Debug, PartialEq, Eq)]
+pub struct Rerouter {
+    pub x: i32,
+    pub y: i32,
+    pub z: i32,
+    pub rotation: u8,
+    pub role: u8,
+    pub part: u8,
+    pub colour: u32,
+    pub page: usize,
+    pub lane: Option<i32>,
+}
+
+#[derive(Clone, Copy, Debug, PartialEq, Eq)]
+pub enum End {
+    Port(Port),
+    Bus(usize),
+}
+
+#[derive(Clone, Debug, PartialEq, Eq)]
+pub struct BusWire {
+    pub from: End,
+    pub to: End,
+    /// A delivery's wire and distance.
+    pub delivery: Option<(usize, usize)>,
+}
+
+#[derive(Clone, Debug, Default, PartialEq, Eq)]
+pub struct Plan {
+    pub pages: Vec<PageAnswer>,
+    pub rerouters: Vec<Rerouter>,
+    pub bus_wires: Vec<BusWire>,
+    /// Ascending, each once.
+    pub suppressed: Vec<Port>,
+    /// The T record: rerouters, bus wires, deliveries, direct, laid groups.
+    pub totals: [usize; 5],
+}
+
+fn end(out: &mut String, end: &End) {
+    let _ = match end {
+        End::Port(p) => write!(out, "\tp\t{}\t{}", p.node, p.port),
+        End::Bus(n) => write!(out, "\tb\t{n}\t-"),
+    };
+}
+
+impl Plan {
+    /// The plan sheet, byte for byte.
+    pub fn sheet(&self) -> String {
+        let mut s = String::new();
+        for (i, p) in self.pages.iter().enumerate() {
+            let _ = writeln!(s, "L\t{i}\t{}\t{}", p.lanes, p.band);
+        }
+        for (i, r) in self.rerouters.iter().enumerate() {
+            let _ = write!(
+                s,
+                "R\t{i}\t{}\t{}\t{}\t{}\t{}\t{}\t{}\t{}\t",
+                r.x, r.y, r.z, r.rotation, r.role, r.part, r.colour, r.page
+            );
+            let _ = match r.lane {
+                Some(lane) => writeln!(s, "{lane}"),
+                None => writeln!(s, "-"),
+            };
+        }
+        for b in &self.bus_wires {
+            s.push('B');
+            end(&mut s, &b.from);
+            end(&mut s, &b.to);
+            let _ = match b.delivery {
+                Some((wire, distance)) => writeln!(s, "\t{wire}\t{distance}"),
+                None => writeln!(s, "\t-\t-"),
+            };
+        }
+        for u in &self.suppressed {
+            let _ = writeln!(s, "U\t{}\t{}", u.node, u.port);
+        }
+        let [r, b, d, direct, laid] = self.totals;
+        let _ = writeln!(s, "T\t{r}\t{b}\t{d}\t{direct}\t{laid}");
+        s
+    }
+}
