@@ -1,0 +1,105 @@
+-- What a field holds: the tests of the code are those of the rules.
+use mathlib.Core.Path.{_≡_, refl, sym, _∙_, ap}
+use mathlib.Core.Bool.{Bool, true, false, _&&_, not, Bool·beq}
+use Prim.Native.Nat.{ℕ, _+_, _-_, _≤_, _<_, zero-le}
+use native.Mathlib.Nat.{le-antisymm}
+use lib.Arith.{lt-of-le-ne}
+use lib.Dec.{eqb, leb}
+use borrow.Author.Tests.{le-leb, lt-leb, eq-eqb, ne-eqb}
+use Rattle.sheet.specs.declared.line.Cell.{Cell}
+use Rattle.sheet.specs.declared.line.Cell.the-variants.{Holds, OutOfRange, Malformed}
+use Rattle.sheet.specs.Number.{Number, missing, plus, minus}
+use Rattle.sheet.specs.declared.number.Scanned.{Scanned}
+use Rattle.sheet.specs.declared.number.Scanned.the-variants.{Bad, Missing, Plus, Minus}
+use Rattle.sheet.specs.Walk.{numberIn}
+use Rattle.sheet.specs.Table.{Column, MISSING, NEVER, AS_BEFORE, SECTIONS, letters}
+use Rattle.sheet.specs.Record.{allowed, within, present, isMissing, cellOf, placeOf}
+
+pub allowed-never : (gap : ℕ) (before gone : Bool) → gap ≡ NEVER → not gone ≡ allowed gap before gone
+unfolding allowed
+allowed-never gap before gone e = rw e
+
+pub allowed-pair : (gap : ℕ) (before gone : Bool) → gap ≡ AS_BEFORE → Bool·beq before gone ≡ allowed gap before gone
+unfolding allowed
+allowed-pair gap before gone e = rw e
+
+pub allowed-free : (gap : ℕ) (before gone : Bool) → (gap ≡ NEVER → ⊥) → (gap ≡ AS_BEFORE → ⊥) → true ≡ allowed gap before gone
+unfolding allowed
+allowed-free gap before gone n p = rw (ne-eqb gap NEVER n, allowed) (rw (ne-eqb gap AS_BEFORE p))
+
+module _ (low high v : ℕ) where
+  pub within-holds : low ≤ v → v ≤ high → Holds v ≡ within low high true v
+  unfolding within
+  within-holds l h = rw (le-leb low v l, le-leb v high h, within)
+
+  pub within-low : (fits : Bool) → v < low → OutOfRange ≡ within low high fits v
+  unfolding within
+  within-low true h = rw (lt-leb low v h, within)
+  within-low false h = refl
+
+  pub within-high : high < v → OutOfRange ≡ within low high true v
+  unfolding within
+  within-high h = rw (lt-leb v high h, within) (go (leb low v))
+    where
+      go : (b : Bool) → OutOfRange ≡ elim (b && false) as (λ _. Cell) [ true ↦ Holds v | false ↦ OutOfRange ]
+      go true = refl
+      go false = refl
+
+  pub within-not : OutOfRange ≡ within low high false v
+  unfolding within
+  within-not = refl
+
+pub cell-allowed : (c : Column) (before : Bool) (n : Number) → allowed (c .gap) before (isMissing n) ≡ true → present c n ≡ cellOf c before n
+unfolding cellOf
+cell-allowed c before n e = rw (e, cellOf)
+
+pub cell-not : (c : Column) (before : Bool) (n : Number) → allowed (c .gap) before (isMissing n) ≡ false → Malformed ≡ cellOf c before n
+unfolding cellOf
+cell-not c before n e = rw (e, cellOf)
+
+-- what a scanned field holds, by what was scanned
+module _ (c : Column) (before : Bool) (n : Scanned) where
+  pub cell-bad : n ≡ Bad → Malformed ≡ cellOf c before (numberIn n)
+  unfolding cellOf present
+  cell-bad e = rw e (go (allowed (c .gap) before false))
+    where
+      go : (b : Bool) → Malformed ≡ elim b as (λ _. Cell) [ true ↦ Malformed | false ↦ Malformed ]
+      go true = refl
+      go false = refl
+
+  pub cell-missing : (end : ℕ) → n ≡ Missing end → allowed (c .gap) before true ≡ true → Holds MISSING ≡ cellOf c before (numberIn n)
+  unfolding present
+  cell-missing end e a = rw e (cell-allowed c before missing a)
+
+  pub cell-plus : (v end : ℕ) → n ≡ Plus v end → allowed (c .gap) before false ≡ true
+      → within (c .low) (c .high) true (c .origin + v) ≡ cellOf c before (numberIn n)
+  unfolding present
+  cell-plus v end e a = rw e (cell-allowed c before (plus v) a)
+
+  pub cell-minus : (v end : ℕ) → n ≡ Minus v end → allowed (c .gap) before false ≡ true
+      → within (c .low) (c .high) (leb v (c .origin)) (c .origin - v) ≡ cellOf c before (numberIn n)
+  unfolding present
+  cell-minus v end e a = rw e (cell-allowed c before (minus v) a)
+
+  pub cell-refused : (gone : Bool) → isMissing (numberIn n) ≡ gone → allowed (c .gap) before gone ≡ false → Malformed ≡ cellOf c before (numberIn n)
+  cell-refused gone e a = cell-not c before (numberIn n) (rw e a)
+
+-- a letter that is none of the six
+pub no-section : (b : ℕ) → (b ≡ 80 → ⊥) → (b ≡ 78 → ⊥) → (b ≡ 67 → ⊥) → (b ≡ 70 → ⊥) → (b ≡ 88 → ⊥) → (b ≡ 87 → ⊥)
+    → SECTIONS ≡ placeOf b letters 0
+unfolding placeOf
+no-section b p n c f x w =
+    rw (ne-eqb b 80 p, placeOf)
+    (rw (ne-eqb b 78 n, placeOf)
+    (rw (ne-eqb b 67 c, placeOf) (rw (ne-eqb b 70 f, placeOf) (rw (ne-eqb b 88 x, placeOf) (rw (ne-eqb b 87 w, placeOf))))))
+
+-- a number up to six that is none of the sections' numbers
+pub past-sections : (s : ℕ) → s ≤ 6 → (s ≡ 0 → ⊥) → (s ≡ 1 → ⊥) → (s ≡ 2 → ⊥) → (s ≡ 3 → ⊥) → (s ≡ 4 → ⊥) → (s ≡ 5 → ⊥) → s ≡ 6
+past-sections s h a b c d e f =
+    let h5 : 0 < s = lt-of-le-ne (zero-le) (λ (p : 0 ≡ s). a (sym p)) in
+    let h4 : 1 < s = lt-of-le-ne h5 (λ (p : 1 ≡ s). b (sym p)) in
+    let h3 : 2 < s = lt-of-le-ne h4 (λ (p : 2 ≡ s). c (sym p)) in
+    let h2 : 3 < s = lt-of-le-ne h3 (λ (p : 3 ≡ s). d (sym p)) in
+    let h1 : 4 < s = lt-of-le-ne h2 (λ (p : 4 ≡ s). e (sym p)) in
+    let h0 : 5 < s = lt-of-le-ne h1 (λ (p : 5 ≡ s). f (sym p)) in
+    le-antisymm h h0

@@ -1,0 +1,245 @@
+// One line of a sheet: its section, and what its fields hold.
+ghost use mathlib.Core.Path.{_≡_};
+ghost use mathlib.Core.Bool.{false, true};
+ghost use Prim.Native.Nat.{ℕ, _+_, _-_, _≤_, _<_};
+ghost use lib.Dec.{leb};
+ghost use lib.ListN.{length, drop, getD};
+ghost use Rattle.sheet.specs.Text.{TAB, NEWLINE};
+ghost use Rattle.sheet.specs.Table.{Column, SECTIONS, columnsOf, letters};
+ghost use Rattle.sheet.specs.Record.{allowed as mayStand, placeOf, within, cellOf, isMissing, emptyRow, unread as noRecord};
+ghost use Rattle.sheet.specs.Reading.{sheetLines};
+ghost use Rattle.sheet.specs.Answer.{frontLine};
+ghost use Rattle.sheet.specs.Walk.{Separator, separatorAt, numberIn, endIn, isMalformed, fitsAfter, rowAfter, columnIn, columnRows, fieldsFrom, lineAnswer, lineEnd, LineSays};
+use crate::number::Scanned;
+use crate::number::byte_is;
+use crate::number::number_at;
+use crate::table::MISSING;
+use crate::table::first_column;
+
+// What one field holds: the number held, a number that can be read and is out of range, or nothing that may stand there.
+pub enum Cell {
+    Holds(u32),
+    OutOfRange,
+    Malformed,
+}
+
+// A line: whether it can be read and its numbers are in range, its section, and where the next line starts.
+pub struct LineAt {
+    pub read: bool,
+    pub fits: bool,
+    pub section: usize,
+    pub next: usize,
+}
+
+// Whether a field that is missing or not may stand in a column after one that is missing or not.
+fn allowed(gap: u32, before: bool, gone: bool) -> bool
+    ensures { λ r. ⌜ r ≡ mayStand gap before gone ⌝ }
+{
+    if gap == 0 {
+        !gone
+    } else if gap == 2 {
+        before == gone
+    } else {
+        true
+    }
+}
+
+// A number at or above zero.
+fn plus_cell(origin: u32, low: u32, high: u32, v: u64) -> Cell
+    requires { ⌜ origin ≤ high ⌝ }
+    ensures { λ r. ⌜ r ≡ within low high true (origin + v) ⌝ }
+{
+    if ((high - origin) as u64) < v {
+        return Cell::OutOfRange;
+    }
+    let held = origin + (v as u32);
+    if held < low {
+        return Cell::OutOfRange;
+    }
+    Cell::Holds(held)
+}
+
+// A number below zero.
+fn minus_cell(origin: u32, low: u32, high: u32, v: u64) -> Cell
+    requires { ⌜ origin ≤ high ⌝ }
+    ensures { λ r. ⌜ r ≡ within low high (leb v origin) (origin - v) ⌝ }
+{
+    if (origin as u64) < v {
+        return Cell::OutOfRange;
+    }
+    let held = origin - (v as u32);
+    if held < low {
+        return Cell::OutOfRange;
+    }
+    Cell::Holds(held)
+}
+
+// What a field holds.
+pub fn cell_of(c: [u32; 4], before: bool, n: Scanned) -> Cell
+    requires { ⌜ getD c 0 0 ≤ getD c 2 0 ⌝ }
+    ensures { λ r. ⌜ r ≡ cellOf (columnIn c) before (numberIn n) ⌝ }
+{
+    match n {
+        Scanned::Bad => Cell::Malformed,
+        Scanned::Missing(_) => {
+            if allowed(c[3], before, true) {
+                Cell::Holds(MISSING)
+            } else {
+                Cell::Malformed
+            }
+        }
+        Scanned::Plus(v, _) => {
+            if allowed(c[3], before, false) {
+                plus_cell(c[0], c[1], c[2], v)
+            } else {
+                Cell::Malformed
+            }
+        }
+        Scanned::Minus(v, _) => {
+            if allowed(c[3], before, false) {
+                minus_cell(c[0], c[1], c[2], v)
+            } else {
+                Cell::Malformed
+            }
+        }
+    }
+}
+
+fn end_of(n: Scanned) -> usize
+    ensures { λ r. ⌜ r ≡ endIn n ⌝ }
+{
+    match n {
+        Scanned::Bad => 0,
+        Scanned::Missing(e) => e,
+        Scanned::Plus(_, e) => e,
+        Scanned::Minus(_, e) => e,
+    }
+}
+
+fn is_missing(n: Scanned) -> bool
+    ensures { λ r. ⌜ r ≡ isMissing (numberIn n) ⌝ }
+{
+    match n {
+        Scanned::Bad => false,
+        Scanned::Missing(_) => true,
+        Scanned::Plus(_, _) => false,
+        Scanned::Minus(_, _) => false,
+    }
+}
+
+fn unread() -> LineAt
+    ensures { λ r. ⌜ r ≡ lineAnswer 0 noRecord ⌝ }
+{
+    LineAt {
+        read: false,
+        fits: false,
+        section: 6,
+        next: 0,
+    }
+}
+
+// The row of a record of section `s` before its fields are read.
+fn clear(row: &mut [u32; 16], s: usize)
+    requires { ⌜ s < SECTIONS ⌝ }
+    ensures { λ _. ⌜ now (row .exit) ≡ emptyRow s ⌝ }
+{
+    *row = [0; 16];
+    row[0] = s as u32;
+}
+
+fn is_malformed(c: Cell) -> bool
+    ensures { λ r. ⌜ r ≡ isMalformed c ⌝ }
+{
+    match c {
+        Cell::Holds(_) => false,
+        Cell::OutOfRange => false,
+        Cell::Malformed => true,
+    }
+}
+
+// Stores what a field holds as the row's k-th number. Answers whether all numbers so far are in range.
+fn put_cell(row: &mut [u32; 16], k: usize, c: Cell, fits: bool) -> bool
+    requires { ⌜ k < 16 ⌝ }
+    ensures { λ r. ⌜ (r ≡ fitsAfter c fits) × (now (row .exit) ≡ rowAfter c (now (row .entry)) k) ⌝ }
+{
+    match c {
+        Cell::Holds(v) => {
+            row[k] = v;
+            fits
+        }
+        Cell::OutOfRange => false,
+        Cell::Malformed => fits,
+    }
+}
+
+// The byte that ends a field: a tab, or byte 10 after the last.
+fn separator(k: usize, end: usize) -> u8
+    requires { ⌜ k < end ⌝ }
+    ensures { λ r. ⌜ r ≡ separatorAt k end ⌝ }
+{
+    if k < end - 1 { 9 } else { 10 }
+}
+
+// The fields of a record of section `s`, from `at` on.
+fn fields_at(columns: &[[u32; 4]], text: &[u8], at: usize, s: usize, row: &mut [u32; 16]) -> LineAt
+    requires { ⌜ (now columns ≡ columnRows) × (at ≤ length (now text)) × (s < SECTIONS) ⌝ }
+    ensures { λ r. ⌜ LineSays (fieldsFrom (columnsOf s) (drop at (now (text .entry))) false true 1 (emptyRow s)) (lineEnd at (drop at (now (text .entry)))) r (now (row .exit)) ⌝ }
+{
+    let first = first_column(s);
+    let end = first_column(s + 1);
+    clear(row, s);
+    let mut before = false;
+    let mut fits = true;
+    let mut next = at;
+    let mut i = first;
+    while i < end {
+        let n = number_at(text, next, separator(i, end));
+        let held = cell_of(columns[i], before, n);
+        if is_malformed(held) {
+            return unread();
+        }
+        fits = put_cell(row, i - first + 1, held, fits);
+        before = is_missing(n);
+        next = end_of(n) + 1;
+        i += 1;
+    }
+    LineAt {
+        read: true,
+        fits,
+        section: s,
+        next,
+    }
+}
+
+// The section that a letter names, or 6.
+fn section_of(b: u8) -> usize
+    ensures { λ r. ⌜ r ≡ placeOf b letters 0 ⌝ }
+{
+    match b {
+        b'P' => 0,
+        b'N' => 1,
+        b'C' => 2,
+        b'F' => 3,
+        b'X' => 4,
+        b'W' => 5,
+        _ => 6,
+    }
+}
+
+// The line that starts at `at`.
+pub fn line_at(columns: &[[u32; 4]], text: &[u8], at: usize, row: &mut [u32; 16]) -> LineAt
+    requires { ⌜ now columns ≡ columnRows ⌝ }
+    ensures { λ r. ⌜ LineSays (frontLine (sheetLines (drop at (now (text .entry))))) (lineEnd at (drop at (now (text .entry)))) r (now (row .exit)) ⌝ }
+{
+    if text.len() <= at {
+        return unread();
+    }
+    let s = section_of(text[at]);
+    if s == 6 {
+        return unread();
+    }
+    if !byte_is(text, at + 1, 9) {
+        return unread();
+    }
+    fields_at(columns, text, at + 2, s, row)
+}
