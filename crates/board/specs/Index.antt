@@ -1,0 +1,42 @@
+-- How the code finds the record that an id names: entries chained by bucket, stated by place and not by following links. No rule of document 01 stands here.
+use Prim.Native.Nat.{ℕ, zero, suc, _%_, _≤_, _<_}
+use mathlib.Core.Path.{_≡_}
+use mathlib.Core.Bool.{Bool}
+use mathlib.Core.List.{List}
+use lib.Dec.{eqb}
+use lib.ListN.{length, getD}
+use Rattle.board.specs.Lists.{Found, none, at, newest}
+use Rattle.board.specs.declared.ids.Found.{Found as FoundId}
+use Rattle.board.specs.declared.ids.Found.the-variants.{At, Nothing}
+
+-- An index that may not be there, as the code answers it.
+abbrev pub foundOf : Found → FoundId
+foundOf none = Nothing
+foundOf (at i) = At i
+
+-- An entry that may not be there as one number: 0, or one more than its index.
+abbrev pub link : Found → ℕ
+link none = zero
+link (at i) = suc i
+
+-- The first n entries, chained by bucket: a bucket's head is its newest entry, an entry's next the newest one before it in the same bucket.
+pub record Chained (buckets : ℕ) (bucket : ℕ → ℕ) (nexts heads : List ℕ) (n : ℕ) : Type 0 where
+  pub entries : n ≤ length nexts
+  pub width : buckets ≤ length heads
+  pub head : (k : ℕ) → k < buckets → getD heads k 0 ≡ link (newest (λ j. eqb (bucket j) k) n)
+  pub next : (i : ℕ) → i < n → getD nexts i 0 ≡ link (newest (λ j. eqb (bucket j) (bucket i)) i)
+
+abbrev pub BUCKETS : ℕ
+BUCKETS = 4096
+
+abbrev pub bucketOf : ℕ → ℕ
+bucketOf id = id % BUCKETS
+
+-- The first n ids, chained.
+pub record Index (ids nexts heads : List ℕ) (n : ℕ) : Type 0 where
+  pub room : n ≤ length ids
+  pub chained : Chained BUCKETS (λ i. bucketOf (getD ids i 0)) nexts heads n
+
+-- The newest of the first n entries that has the id.
+unfoldable pub entryOf : List ℕ → ℕ → ℕ → Found
+entryOf ids n id = newest (λ i. eqb (getD ids i 0) id) n

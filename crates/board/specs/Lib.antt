@@ -1,0 +1,10 @@
+pub mod Lists
+pub mod Board
+pub mod Refusals
+pub mod Rows
+pub mod Groups
+pub mod Demands
+pub mod Planning
+pub mod Tables
+pub mod Index
+pub mod Walk

@@ -1,0 +1,92 @@
+// Which record an id names, and a chip's top chip. Ids are chained by bucket, so that no board makes a lookup slow: at most ID_MOST / BUCKETS,
+// 244, further ids share a bucket.
+use sheet::table::MISSING;
+ghost use mathlib.Core.Path.{_≡_};
+ghost use mathlib.Core.List.{List};
+ghost use Prim.Native.Nat.{ℕ, _≤_, _<_};
+ghost use lib.ListN.{length, getD, set};
+ghost use Rattle.board.specs.Board.{Board};
+ghost use Rattle.board.specs.Refusals.{chipAt};
+ghost use Rattle.board.specs.Groups.{topChip};
+ghost use Rattle.board.specs.Index.{Index, foundOf, entryOf};
+
+// An index that may not be there.
+pub enum Found {
+    At(usize),
+    Nothing,
+}
+
+// The id of a node or a chip.
+pub struct NodeId(pub u32);
+
+const BUCKETS: u32 = 4096;
+
+fn bucket_of(id: u32) -> usize
+    ensures { λ r. ⌜ r ≡ Rattle.board.specs.Index.bucketOf id ⌝ }
+{
+    (id % BUCKETS) as usize
+}
+
+// The newest of the first `n` entries that has the id.
+pub fn find_id(ids: &[u32], nexts: &[u32], heads: &[u32], n: usize, id: NodeId) -> Found
+    requires { ⌜ Index (now ids) (now nexts) (now heads) n ⌝ }
+    ensures { λ r. ⌜ r ≡ foundOf (entryOf (now (ids .entry)) n (id .0)) ⌝ }
+{
+    let wanted = id.0;
+    let mut link = heads[bucket_of(wanted)];
+    while link != 0 {
+        let i = (link - 1) as usize;
+        if ids[i] == wanted {
+            return Found::At(i);
+        }
+        link = nexts[i];
+    }
+    Found::Nothing
+}
+
+// One more entry.
+pub fn add_id(ids: &mut [u32], nexts: &mut [u32], heads: &mut [u32], n: usize, id: NodeId)
+    requires { ⌜ Index (now ids) (now nexts) (now heads) n ⌝ }
+    requires { ⌜ (n < length (now ids)) × (n < length (now nexts)) × (n < 4294967295) ⌝ }
+    ensures { λ _. ⌜ now (ids .exit) ≡ set (now (ids .entry)) n (id .0) ⌝ }
+    ensures { λ _. ⌜ Index (now (ids .exit)) (now (nexts .exit)) (now (heads .exit)) (Prim.Native.Nat.suc n) ⌝ }
+{
+    let new = id.0;
+    let k = bucket_of(new);
+    ids[n] = new;
+    nexts[n] = heads[k];
+    heads[k] = (n + 1) as u32;
+}
+
+// The newest of the first `n` chip records that has the id.
+fn chip_below(chips: &[[u32; 16]], n: usize, id: u32) -> Found
+    requires { ⌜ n ≤ length (now chips) ⌝ }
+    ensures { λ r. ⌜ ((b : Board) → b .chips ≡ now (chips .entry) → r ≡ foundOf (chipAt b id n)) ⌝ }
+{
+    let mut c = n;
+    while 0 < c {
+        if chips[c - 1][1] == id {
+            return Found::At(c - 1);
+        }
+        c -= 1;
+    }
+    Found::Nothing
+}
+
+// "The top chip of a nested chip is its parent's top chip." A parent stands before its chips, so each search goes on below the record found.
+pub fn top_chip(chips: &[[u32; 16]], n: usize, id: NodeId) -> NodeId
+    requires { ⌜ n ≤ length (now chips) ⌝ }
+    ensures { λ r. ⌜ ((b : Board) → b .chips ≡ now (chips .entry) → r .0 ≡ topChip b n (id .0)) ⌝ }
+{
+    match chip_below(chips, n, id.0) {
+        Found::Nothing => id,
+        Found::At(c) => {
+            let parent = chips[c][2];
+            if parent == MISSING {
+                id
+            } else {
+                top_chip(chips, c, NodeId(parent))
+            }
+        }
+    }
+}

@@ -1,0 +1,493 @@
+// Refusals 4 to 6, found line by line from the text, with every id entered into an index on the way.
+use crate::ids::Found;
+use crate::ids::NodeId;
+use crate::ids::add_id;
+use crate::ids::find_id;
+use sheet::Checked;
+use sheet::Counts;
+use sheet::check_sheet;
+use sheet::row_at;
+use sheet::table::MISSING;
+ghost use mathlib.Core.Path.{_≡_};
+ghost use mathlib.Core.Bool.{true, false, not, _&&_};
+ghost use Prim.Native.Nat.{ℕ, _≤_, _<_, _+_};
+ghost use lib.Dec.{eqb, leb};
+ghost use lib.ListN.{length, getD};
+ghost use Rattle.sheet.specs.Table.{libraryMost};
+ghost use Rattle.sheet.specs.Reading.{rowsFrom};
+ghost use Rattle.board.specs.Lists.{found};
+ghost use Rattle.board.specs.Board.{given, idOf};
+ghost use Rattle.board.specs.Refusals.{judgedBoard, judged};
+ghost use Rattle.board.specs.Index.{Index, entryOf};
+ghost use Rattle.board.specs.Walk.{lineIf, earlier, isChip, sheetBoard, Fresh, Ids, Entered, Ready, ChipsReady, InnerReady, WalkedNodes, WalkedChips, WalkedInner, NodesSeen, Indexed, NODES_MOST, CHIPS_MOST, INNER_MOST, WithinLibrary, IndexedIf, verdictOf, faultOf, boardChecked};
+ghost use Rattle.sheet.specs.Answer.{countsOf};
+
+// Where a walk along the records stands in the text; the line of a 4, and the first lines of a 5 and a 6 so far, 0 for none.
+pub struct Walk {
+    pub place: usize,
+    pub twice: usize,
+    pub missing: usize,
+    pub unplaced: usize,
+}
+
+// A refusal's number and line, or none of 4 to 6.
+pub enum Fault {
+    Refused { number: usize, line: usize },
+    Fine,
+}
+
+const KIND_CHIP: u32 = 2;
+
+fn has_id(ids: &[u32], nexts: &[u32], heads: &[u32], n: usize, id: NodeId) -> bool
+    requires { ⌜ Index (now ids) (now nexts) (now heads) n ⌝ }
+    ensures { λ r. ⌜ r ≡ found (entryOf (now (ids .entry)) n (id .0)) ⌝ }
+{
+    match find_id(ids, nexts, heads, n, id) {
+        Found::At(_) => true,
+        Found::Nothing => false,
+    }
+}
+
+// Enters an id, unless it is there already.
+fn enter_id(ids: &mut [u32], nexts: &mut [u32], heads: &mut [u32], n: usize, id: NodeId) -> bool
+    requires { ⌜ Index (now ids) (now nexts) (now heads) n ⌝ }
+    requires { ⌜ (n < length (now ids)) × (n < length (now nexts)) × (n < 4096) ⌝ }
+    ensures { λ r. ⌜ Entered (now (ids .entry)) (now (nexts .entry)) (now (heads .entry)) n (id .0) r (now (ids .exit)) (now (nexts .exit)) (now (heads .exit)) ⌝ }
+{
+    if has_id(ids, nexts, heads, n, id) {
+        return true;
+    }
+    add_id(ids, nexts, heads, n, id);
+    false
+}
+
+// The first of a line found so far and the line at hand, if it has the fault.
+fn first_line(so_far: usize, here: bool, line: usize) -> usize
+    ensures { λ r. ⌜ r ≡ earlier «so_far» (lineIf here line) ⌝ }
+{
+    if so_far != 0 {
+        return so_far;
+    }
+    if here { line } else { 0 }
+}
+
+// "page .. not there"
+fn page_missing(row: [u32; 16], pages: usize) -> bool
+    ensures { λ r. ⌜ r ≡ (given (getD row 10 0) && leb pages (getD row 10 0)) ⌝ }
+{
+    let page = row[10];
+    if page == MISSING {
+        return false;
+    }
+    pages <= page as usize
+}
+
+// "a row without a placement"
+fn row_unplaced(row: [u32; 16]) -> bool
+    ensures { λ r. ⌜ r ≡ (given (getD row 10 0) && not (given (getD row 8 0))) ⌝ }
+{
+    if row[10] == MISSING {
+        return false;
+    }
+    row[8] == MISSING
+}
+
+// Whether the id names a body node that is a Chip.
+fn is_body_chip(
+    ids: &[u32],
+    nexts: &[u32],
+    heads: &[u32],
+    kinds: &[u32],
+    n: usize,
+    id: NodeId,
+) -> bool
+    requires { ⌜ Index (now ids) (now nexts) (now heads) n ⌝ }
+    requires { ⌜ n ≤ length (now kinds) ⌝ }
+    ensures { λ r. ⌜ r ≡ isChip (now (kinds .entry)) (entryOf (now (ids .entry)) n (id .0)) ⌝ }
+{
+    match find_id(ids, nexts, heads, n, id) {
+        Found::At(i) => kinds[i] == KIND_CHIP,
+        Found::Nothing => false,
+    }
+}
+
+// "earlier parent not there; a top C that is no body Chip", after `c` other chips.
+fn parent_missing(
+    body_ids: &[u32],
+    body_nexts: &[u32],
+    body_heads: &[u32],
+    kinds: &[u32],
+    nodes: usize,
+    ids: &[u32],
+    nexts: &[u32],
+    heads: &[u32],
+    c: usize,
+    row: [u32; 16],
+) -> bool
+    requires { ⌜ Index (now «body_ids») (now «body_nexts») (now «body_heads») nodes ⌝ }
+    requires { ⌜ nodes ≤ length (now kinds) ⌝ }
+    requires { ⌜ Index (now ids) (now nexts) (now heads) c ⌝ }
+    ensures { λ r. ⌜ r ≡ elim (given (getD row 2 0)) [
+      | true ↦ not (found (entryOf (now (ids .entry)) c (getD row 2 0)))
+      | false ↦ not (isChip (now (kinds .entry)) (entryOf (now («body_ids» .entry)) nodes (getD row 1 0)))
+    ] ⌝ }
+{
+    let parent = row[2];
+    if parent == MISSING {
+        return !is_body_chip(
+            body_ids,
+            body_nexts,
+            body_heads,
+            kinds,
+            nodes,
+            NodeId(row[1]),
+        );
+    }
+    !has_id(ids, nexts, heads, c, NodeId(parent))
+}
+
+// Where the lines after the first `n` start.
+fn skip_lines(text: &[u8], n: usize) -> usize
+    requires { ⌜ Ready (now text) 0 0 ⌝ }
+    requires { ⌜ n ≤ length (rowsFrom (now text)) ⌝ }
+    ensures { λ r. ⌜ Ready (now (text .entry)) n r ⌝ }
+{
+    let mut place = 0;
+    let mut k = 0;
+    while k < n {
+        let r = row_at(text, place);
+        place = r.next;
+        k += 1;
+    }
+    place
+}
+
+// The N lines, `first` lines behind.
+fn walk_nodes(
+    text: &[u8],
+    first: usize,
+    n: usize,
+    w: Walk,
+    ids: &mut [u32],
+    nexts: &mut [u32],
+    heads: &mut [u32],
+    kinds: &mut [u32],
+) -> Walk
+    requires { ⌜ Ready (now text) first (w .place) ⌝ }
+    requires { ⌜ (first ≡ length (sheetBoard (now text) .pages)) × (n ≡ length (sheetBoard (now text) .nodes)) ⌝ }
+    requires { ⌜ n ≤ length (now kinds) ⌝ }
+    requires { ⌜ Fresh (now ids) (now nexts) (now heads) n ⌝ }
+    ensures { λ r. ⌜ WalkedNodes (now (text .entry)) first n w r (now (ids .exit)) (now (nexts .exit)) (now (heads .exit)) ⌝ }
+    ensures { λ r. ⌜ NodesSeen (now (text .entry)) first n w r (now (kinds .exit)) ⌝ }
+{
+    let mut place = w.place;
+    let mut missing = w.missing;
+    let mut unplaced = w.unplaced;
+    let mut i = 0;
+    while i < n {
+        let r = row_at(text, place);
+        let row = r.row;
+        let line = first + i + 1;
+        if enter_id(ids, nexts, heads, i, NodeId(row[1])) {
+            return Walk {
+                place,
+                twice: line,
+                missing,
+                unplaced,
+            };
+        }
+        kinds[i] = row[2];
+        missing = first_line(missing, page_missing(row, first), line);
+        unplaced = first_line(unplaced, row_unplaced(row), line);
+        place = r.next;
+        i += 1;
+    }
+    Walk {
+        place,
+        twice: 0,
+        missing,
+        unplaced,
+    }
+}
+
+// The C lines, `first` lines behind, once the body nodes are known.
+fn walk_chips(
+    text: &[u8],
+    first: usize,
+    n: usize,
+    w: Walk,
+    body_ids: &[u32],
+    body_nexts: &[u32],
+    body_heads: &[u32],
+    kinds: &[u32],
+    nodes: usize,
+    ids: &mut [u32],
+    nexts: &mut [u32],
+    heads: &mut [u32],
+) -> Walk
+    requires { ⌜ Ready (now text) first (w .place) ⌝ }
+    requires { ⌜ ChipsReady (sheetBoard (now text)) first n nodes (now «body_ids») (now «body_nexts») (now «body_heads») (now kinds) ⌝ }
+    requires { ⌜ Fresh (now ids) (now nexts) (now heads) n ⌝ }
+    ensures { λ r. ⌜ WalkedChips (now (text .entry)) first n w r (now (ids .exit)) (now (nexts .exit)) (now (heads .exit)) ⌝ }
+    ensures { λ r. ⌜ r .unplaced ≡ w .unplaced ⌝ }
+{
+    let mut place = w.place;
+    let mut missing = w.missing;
+    let mut c = 0;
+    while c < n {
+        let r = row_at(text, place);
+        let row = r.row;
+        let line = first + c + 1;
+        let gone = parent_missing(
+            body_ids,
+            body_nexts,
+            body_heads,
+            kinds,
+            nodes,
+            ids,
+            nexts,
+            heads,
+            c,
+            row,
+        );
+        if enter_id(ids, nexts, heads, c, NodeId(row[1])) {
+            return Walk {
+                place,
+                twice: line,
+                missing,
+                unplaced: w.unplaced,
+            };
+        }
+        missing = first_line(missing, gone, line);
+        place = r.next;
+        c += 1;
+    }
+    Walk {
+        place,
+        twice: 0,
+        missing,
+        unplaced: w.unplaced,
+    }
+}
+
+// The F lines, `first` lines behind, once the body nodes and the chips are known.
+fn walk_inner(
+    text: &[u8],
+    first: usize,
+    n: usize,
+    w: Walk,
+    body_ids: &[u32],
+    body_nexts: &[u32],
+    body_heads: &[u32],
+    nodes: usize,
+    chip_ids: &[u32],
+    chip_nexts: &[u32],
+    chip_heads: &[u32],
+    chips: usize,
+    ids: &mut [u32],
+    nexts: &mut [u32],
+    heads: &mut [u32],
+) -> Walk
+    requires { ⌜ Ready (now text) first (w .place) ⌝ }
+    requires { ⌜ InnerReady (sheetBoard (now text)) first n nodes chips (now «body_ids») (now «body_nexts») (now «body_heads») (now «chip_ids») (now «chip_nexts») (now «chip_heads») ⌝ }
+    requires { ⌜ Fresh (now ids) (now nexts) (now heads) n ⌝ }
+    ensures { λ r. ⌜ WalkedInner (now (text .entry)) first n w r (now (ids .exit)) (now (nexts .exit)) (now (heads .exit)) ⌝ }
+    ensures { λ r. ⌜ r .unplaced ≡ w .unplaced ⌝ }
+{
+    let mut place = w.place;
+    let mut missing = w.missing;
+    let mut f = 0;
+    while f < n {
+        let r = row_at(text, place);
+        let row = r.row;
+        let line = first + f + 1;
+        if has_id(body_ids, body_nexts, body_heads, nodes, NodeId(row[1])) {
+            return Walk {
+                place,
+                twice: line,
+                missing,
+                unplaced: w.unplaced,
+            };
+        }
+        if enter_id(ids, nexts, heads, f, NodeId(row[1])) {
+            return Walk {
+                place,
+                twice: line,
+                missing,
+                unplaced: w.unplaced,
+            };
+        }
+        missing = first_line(
+            missing,
+            !has_id(chip_ids, chip_nexts, chip_heads, chips, NodeId(row[2])),
+            line,
+        );
+        place = r.next;
+        f += 1;
+    }
+    Walk {
+        place,
+        twice: 0,
+        missing,
+        unplaced: w.unplaced,
+    }
+}
+
+// 5 before 6, once no id stands twice.
+fn verdict(missing: usize, unplaced: usize) -> Fault
+    ensures { λ r. ⌜ r ≡ verdictOf missing unplaced ⌝ }
+{
+    if missing != 0 {
+        return Fault::Refused {
+            number: 5,
+            line: missing,
+        };
+    }
+    if unplaced != 0 {
+        return Fault::Refused {
+            number: 6,
+            line: unplaced,
+        };
+    }
+    Fault::Fine
+}
+
+// Refusals 4 to 6 of a sheet that reading accepts. Without one, the three indexes hold the ids of the body nodes, the chips and the nodes inside chips.
+pub fn find_fault(
+    text: &[u8],
+    counts: Counts,
+    body_ids: &mut [u32],
+    body_nexts: &mut [u32],
+    body_heads: &mut [u32],
+    chip_ids: &mut [u32],
+    chip_nexts: &mut [u32],
+    chip_heads: &mut [u32],
+    inner_ids: &mut [u32],
+    inner_nexts: &mut [u32],
+    inner_heads: &mut [u32],
+) -> Fault
+    requires { ⌜ Ready (now text) 0 0 ⌝ }
+    requires { ⌜ counts ≡ countsOf (rowsFrom (now text)) ⌝ }
+    requires { ⌜ Fresh (now «body_ids») (now «body_nexts») (now «body_heads») NODES_MOST ⌝ }
+    requires { ⌜ Fresh (now «chip_ids») (now «chip_nexts») (now «chip_heads») CHIPS_MOST ⌝ }
+    requires { ⌜ Fresh (now «inner_ids») (now «inner_nexts») (now «inner_heads») INNER_MOST ⌝ }
+    ensures { λ r. ⌜ r ≡ faultOf (judgedBoard (sheetBoard (now (text .entry)))) ⌝ }
+    ensures { λ r. ⌜ (r ≡ Fault.Fine → Indexed (sheetBoard (now (text .entry))) (now («body_ids» .exit)) (now («body_nexts» .exit)) (now («body_heads» .exit))
+        (now («chip_ids» .exit)) (now («chip_nexts» .exit)) (now («chip_heads» .exit)) (now («inner_ids» .exit)) (now («inner_nexts» .exit)) (now («inner_heads» .exit))) ⌝ }
+{
+    let pages = counts.pages;
+    let nodes = counts.nodes;
+    let chips = counts.chips;
+    let mut kinds = [0u32; 4096];
+    let start = Walk {
+        place: skip_lines(text, pages),
+        twice: 0,
+        missing: 0,
+        unplaced: 0,
+    };
+    let after_nodes = walk_nodes(
+        text,
+        pages,
+        nodes,
+        start,
+        body_ids,
+        body_nexts,
+        body_heads,
+        &mut kinds,
+    );
+    if after_nodes.twice != 0 {
+        return Fault::Refused {
+            number: 4,
+            line: after_nodes.twice,
+        };
+    }
+    let after_chips = walk_chips(
+        text,
+        pages + nodes,
+        chips,
+        after_nodes,
+        body_ids,
+        body_nexts,
+        body_heads,
+        &kinds,
+        nodes,
+        chip_ids,
+        chip_nexts,
+        chip_heads,
+    );
+    if after_chips.twice != 0 {
+        return Fault::Refused {
+            number: 4,
+            line: after_chips.twice,
+        };
+    }
+    let after_inner = walk_inner(
+        text,
+        pages + nodes + chips,
+        counts.inner,
+        after_chips,
+        body_ids,
+        body_nexts,
+        body_heads,
+        nodes,
+        chip_ids,
+        chip_nexts,
+        chip_heads,
+        chips,
+        inner_ids,
+        inner_nexts,
+        inner_heads,
+    );
+    if after_inner.twice != 0 {
+        return Fault::Refused {
+            number: 4,
+            line: after_inner.twice,
+        };
+    }
+    verdict(after_inner.missing, after_inner.unplaced)
+}
+
+// Refusals 1 to 6 of a sheet, or how many records of each section its board has. With a board, the three indexes hold its ids.
+pub fn check_board(
+    text: &[u8],
+    most: Counts,
+    body_ids: &mut [u32],
+    body_nexts: &mut [u32],
+    body_heads: &mut [u32],
+    chip_ids: &mut [u32],
+    chip_nexts: &mut [u32],
+    chip_heads: &mut [u32],
+    inner_ids: &mut [u32],
+    inner_nexts: &mut [u32],
+    inner_heads: &mut [u32],
+) -> Checked
+    requires { ⌜ WithinLibrary most ⌝ }
+    requires { ⌜ Fresh (now «body_ids») (now «body_nexts») (now «body_heads») NODES_MOST ⌝ }
+    requires { ⌜ Fresh (now «chip_ids») (now «chip_nexts») (now «chip_heads») CHIPS_MOST ⌝ }
+    requires { ⌜ Fresh (now «inner_ids») (now «inner_nexts») (now «inner_heads») INNER_MOST ⌝ }
+    ensures { λ r. ⌜ r ≡ boardChecked (judged most (now (text .entry))) ⌝ }
+    ensures { λ r. ⌜ IndexedIf (judged most (now (text .entry))) (now («body_ids» .exit)) (now («body_nexts» .exit)) (now («body_heads» .exit))
+        (now («chip_ids» .exit)) (now («chip_nexts» .exit)) (now («chip_heads» .exit)) (now («inner_ids» .exit)) (now («inner_nexts» .exit)) (now («inner_heads» .exit)) ⌝ }
+{
+    match check_sheet(text, most) {
+        Checked::Refused { number, line } => Checked::Refused { number, line },
+        Checked::Fine(counts) => {
+            match find_fault(
+                text,
+                counts,
+                body_ids,
+                body_nexts,
+                body_heads,
+                chip_ids,
+                chip_nexts,
+                chip_heads,
+                inner_ids,
+                inner_nexts,
+                inner_heads,
+            ) {
+                Fault::Refused { number, line } => Checked::Refused { number, line },
+                Fault::Fine => Checked::Fine(counts),
+            }
+        }
+    }
+}

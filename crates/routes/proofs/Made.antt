@@ -1,0 +1,249 @@
+-- How a bus comes about: rerouter by rerouter and delivery by delivery, each at a feed that stands already. Most of demand 3 follows from this alone.
+use Prim.Native.Nat.{ℕ, suc, _+_, _*_, _≤_, _<_}
+use native.Mathlib.Omega.{arith}
+use native.Mathlib.Decide.{ℕ-discrete}
+use mathlib.Core.Path.{_≡_, refl, sym, ap, _∙_}
+use mathlib.Core.Logic.{_⊎_, inl, inr}
+use mathlib.Core.Bool.{true, false}
+use mathlib.Core.List.{List, [], _∷_, List·Memᴰ, List·Memᴰ·head, List·Memᴰ·tail, List·Memᴰ·cases-cons, List·Memᴰ·not-nil}
+use lib.Dec.{ltb}
+use lib.ListN.{length, getD}
+use borrow.Author.Tests.{eq-eqb, ne-eqb, lt-ltb}
+use Rattle.lanes.specs.Lanes.{laneMost}
+use Rattle.board.specs.Board.{Board, minYOf, sourceNode, sourcePort, targetNode, targetPort}
+use Rattle.board.specs.Demands.{PageLanes, noLanes, laneY, BUS_BAND_GUTTER, LANE_PITCH}
+use Rattle.board.proofs.LanesFit.{heights-apart}
+use Rattle.board.proofs.Lists.{clash, both, keep-yes, keep-no}
+use Rattle.routes.specs.Stops.{near}
+use Rattle.routes.specs.Bus.{Bus, Brick, BusWire, Feed, End, port, rerouter, onward, delivery, emptyBus, place, deliver, partCorner}
+use Rattle.routes.specs.Plan.{deliveries}
+use Rattle.routes.specs.Demand3.{Numbered, here, there, arrivesAt, arriving, PortOrLower, WayBack, atPort, through, names, timesDelivered, inGutter, Overlap, Delivered, Bounded}
+
+-- Ways back and numbers stay when the bus grows.
+pub back-grows : {ws vs : List BusWire} → ((w : BusWire) → List·Memᴰ w ws → List·Memᴰ w vs) → {e : End} {d n p : ℕ} → WayBack ws e d n p → WayBack vs e d n p
+back-grows g atPort = atPort
+back-grows g (through w m e r) = through w (g w m) e (back-grows g r)
+
+pub lower-grows : (e : End) (m n : ℕ) → m ≤ n → PortOrLower e m → PortOrLower e n
+lower-grows (port a p) m n h k = tt
+lower-grows (rerouter a) m n h k = omega arith
+
+pub numbered-cases : {n : ℕ} {k j : Brick} {l : List Brick} → Numbered n k (j ∷ l) → ((n ≡ length l) × (k ≡ j)) ⊎ Numbered n k l
+numbered-cases (here e) = inl (e, refl)
+numbered-cases (there m) = inr m
+
+pub numbered-below : {n : ℕ} {k : Brick} {l : List Brick} → Numbered n k l → n < length l
+numbered-below (here e) = omega arith
+numbered-below (there m) = let h = numbered-below m in omega arith
+
+numbered-in : {n : ℕ} {k : Brick} {l : List Brick} → Numbered n k l → List·Memᴰ k l
+numbered-in (here e) = List·Memᴰ·head refl
+numbered-in (there m) = List·Memᴰ·tail (numbered-in m)
+
+pub numbered-one : {n : ℕ} {j k : Brick} (l : List Brick) → Numbered n j l → Numbered n k l → j ≡ k
+numbered-one [] q r = absurd (let h = numbered-below q in omega arith)
+numbered-one {n} {j} {k} (x ∷ l) q r = go (numbered-cases q) (numbered-cases r) (numbered-one l)
+  where
+    go : ((n ≡ length l) × (j ≡ x)) ⊎ Numbered n j l → ((n ≡ length l) × (k ≡ x)) ⊎ Numbered n k l → (Numbered n j l → Numbered n k l → j ≡ k) → j ≡ k
+    go (inl a) (inl c) ih = a .1 ∙ sym (c .1)
+    go (inl a) (inr c) ih = absurd (omega (arith, a .0, numbered-below c))
+    go (inr a) (inl c) ih = absurd (omega (arith, c .0, numbered-below a))
+    go (inr a) (inr c) ih = ih a c
+
+-- The wires that the two operations write.
+abbrev pub onwardWire : Bus → Feed → BusWire
+onwardWire bus f = record { source = f .end; target = rerouter (length (bus .bricks)); carries = onward }
+
+abbrev pub deliveryWire : Board → Feed → ℕ → BusWire
+deliveryWire b f w = record { source = f .end; target = port (targetNode b w) (targetPort b w); carries = delivery w (f .depth) }
+
+pub record Grown (bus more : Bus) : Type 0 where
+  pub wiresIn : (w : BusWire) → List·Memᴰ w (bus .wires) → List·Memᴰ w (more .wires)
+  pub bricksIn : (n : ℕ) (k : Brick) → Numbered n k (bus .bricks) → Numbered n k (more .bricks)
+  pub longer : length (bus .bricks) ≤ length (more .bricks)
+
+pub place-grows : (bus : Bus) (f : Feed) (k : Brick) → Grown bus (place bus f k)
+place-grows bus f k = record { wiresIn = λ w m. List·Memᴰ·tail m; bricksIn = λ n j m. there m; longer = omega arith }
+
+pub deliver-grows : (b : Board) (bus : Bus) (f : Feed) (w : ℕ) → Grown bus (deliver b bus f w)
+deliver-grows b bus f w = record { wiresIn = λ w m. List·Memᴰ·tail m; bricksIn = λ n j m. m; longer = omega arith }
+
+-- A rerouter in a lane's column near x.
+pub record Touches (p lane x : ℕ) (j : Brick) : Type 0 where
+  pub page : j .page ≡ p
+  pub column : j .lane ≡ lane
+  pub close : near x (j .x) ≡ true
+
+module _ (b : Board) (ps : List PageLanes) where
+  -- A head, link or tap stands in an open lane of a gutter that is high enough.
+  pub record InLane (k : Brick) : Type 0 where
+    pub high : BUS_BAND_GUTTER + LANE_PITCH * laneMost ≤ minYOf b (k .page)
+    pub most : getD ps (k .page) noLanes .count ≤ laneMost
+    pub opened : k .lane < getD ps (k .page) noLanes .count
+    pub height : k .y ≡ laneY (minYOf b (k .page)) (getD ps (k .page) noLanes .count) (k .lane)
+
+  pub data Stood (bus : Bus) (k : Brick) : Type 0 where
+    aside : inGutter k ≡ false → Stood bus k
+    inColumn : InLane k → ((j : Brick) → List·Memᴰ j (bus .bricks) → inGutter j ≡ true → Touches (k .page) (k .lane) (k .x) j → ⊥) → Stood bus k
+
+  -- What a delivery leaves: a corner at distance 1, or another rerouter within the bound.
+  pub data Far (j : Brick) (w d : ℕ) : Type 0 where
+    cornered : j .part ≡ partCorner → d ≡ 1 → Far j w d
+    within : (j .part ≡ partCorner → ⊥) → Bounded b w d → Far j w d
+
+  pub record Served (bus : Bus) (f : Feed) (w : ℕ) : Type 0 where
+    pub onBoard : w < length (b .wires)
+    pub fresh : timesDelivered (bus .wires) w ≡ 0
+    pub back : WayBack (bus .wires) (f .end) (f .depth) (sourceNode b w) (sourcePort b w)
+    pub number : ℕ
+    pub brick : Brick
+    pub ends : f .end ≡ rerouter number
+    pub numbered : Numbered number brick (bus .bricks)
+    pub far : Far brick w (f .depth)
+
+  pub data Made : Bus → Type 0 where
+    nothing : Made emptyBus
+    placing : {bus : Bus} → Made bus → (f : Feed) (k : Brick) → PortOrLower (f .end) (length (bus .bricks)) → Stood bus k → Made (place bus f k)
+    serving : {bus : Bus} → Made bus → (f : Feed) (w : ℕ) → Served bus f w → Made (deliver b bus f w)
+
+  -- "each rerouter has exactly one bus wire arriving"
+  pub arrives : {bus : Bus} → Made bus → (n : ℕ)
+      → (n < length (bus .bricks) → arriving (bus .wires) n ≡ 1) × (length (bus .bricks) ≤ n → arriving (bus .wires) n ≡ 0)
+  unfolding arriving
+  arrives nothing n = (λ h. absurd (omega arith), λ h. refl)
+  arrives (placing {bus} m f k l s) n = go (ℕ-discrete (length (bus .bricks)) n) (arrives m n)
+    where
+      new : BusWire
+      new = onwardWire bus f
+
+      go : Dec (length (bus .bricks) ≡ n) → (n < length (bus .bricks) → arriving (bus .wires) n ≡ 1) × (length (bus .bricks) ≤ n → arriving (bus .wires) n ≡ 0)
+          → (n < suc (length (bus .bricks)) → arriving (new ∷ bus .wires) n ≡ 1) × (suc (length (bus .bricks)) ≤ n → arriving (new ∷ bus .wires) n ≡ 0)
+      go (yes e) ih = (λ h. ap length (keep-yes (arrivesAt n) new (bus .wires) (eq-eqb _ _ e)) ∙ ap suc (ih .1 (omega arith)), λ h. absurd (omega arith))
+      go (no e) ih =
+          let same = ap length (keep-no (arrivesAt n) new (bus .wires) (ne-eqb _ _ e)) in
+          (λ h. same ∙ ih .0 (omega arith), λ h. same ∙ ih .1 (omega arith))
+  arrives (serving m f w s) n = arrives m n
+
+  -- Every bus wire feeds a rerouter of the plan from below, or delivers a wire of the board.
+  pub record Sent (bus : Bus) (w : BusWire) (k d : ℕ) : Type 0 where
+    pub delivered : Delivered b (bus .wires) w k d
+    pub number : ℕ
+    pub brick : Brick
+    pub ends : w .source ≡ rerouter number
+    pub numbered : Numbered number brick (bus .bricks)
+    pub far : Far brick k d
+
+  pub data WireOf (bus : Bus) (w : BusWire) : Type 0 where
+    feeds : (n : ℕ) → w .target ≡ rerouter n → w .carries ≡ onward → PortOrLower (w .source) n → n < length (bus .bricks) → WireOf bus w
+    sends : (k d : ℕ) → w .carries ≡ delivery k d → Sent bus w k d → WireOf bus w
+
+  wire-grows : {bus more : Bus} → Grown bus more → (w : BusWire) → WireOf bus w → WireOf more w
+  wire-grows g w (feeds n t c l h) = feeds n t c l (omega (arith, g .longer))
+  wire-grows g w (sends k d c s) =
+      let old = s .delivered in
+      sends k d c
+      (record {
+        delivered = record { onBoard = old .onBoard; toTarget = old .toTarget; back = back-grows (g .wiresIn) (old .back) };
+        number = s .number;
+        brick = s .brick;
+        ends = s .ends;
+        numbered = g .bricksIn (s .number) (s .brick) (s .numbered);
+        far = s .far;
+      })
+
+  pub wire-of : {bus : Bus} → Made bus → (w : BusWire) → List·Memᴰ w (bus .wires) → WireOf bus w
+  wire-of nothing w h = absurd (List·Memᴰ·not-nil h)
+  wire-of (placing {bus} m f k l s) w h = go (List·Memᴰ·cases-cons h) (λ i. wire-of m w i)
+    where
+      go : (w ≡ onwardWire bus f) ⊎ List·Memᴰ w (bus .wires) → (List·Memᴰ w (bus .wires) → WireOf bus w) → WireOf (place bus f k) w
+      go (inl d) ih = feeds (length (bus .bricks)) (ap (λ v. v .target) d) (ap (λ v. v .carries) d) (rw d l) (omega arith)
+      go (inr i) ih = wire-grows (place-grows bus f k) w (ih i)
+  wire-of (serving {bus} m f v s) w h = go (List·Memᴰ·cases-cons h) (λ i. wire-of m w i)
+    where
+      grown : Grown bus (deliver b bus f v)
+      grown = deliver-grows b bus f v
+
+      go : (w ≡ deliveryWire b f v) ⊎ List·Memᴰ w (bus .wires) → (List·Memᴰ w (bus .wires) → WireOf bus w) → WireOf (deliver b bus f v) w
+      go (inl d) ih =
+          sends v (f .depth) (ap (λ u. u .carries) d)
+          (record {
+            delivered = record { onBoard = s .onBoard; toTarget = ap (λ u. u .target) d; back = rw d (back-grows (grown .wiresIn) (s .back)) };
+            number = s .number;
+            brick = s .brick;
+            ends = rw d (s .ends);
+            numbered = s .numbered;
+            far = s .far;
+          })
+      go (inr i) ih = wire-grows grown w (ih i)
+
+  -- "bus wires = rerouters + deliveries"
+  pub totals : {bus : Bus} → Made bus → length (bus .wires) ≡ length (bus .bricks) + deliveries bus
+  unfolding deliveries
+  totals nothing = refl
+  totals (placing m f k l s) = let h = totals m in omega arith
+  totals (serving m f w s) = let h = totals m in omega arith
+
+  -- "no wire is delivered twice"
+  pub once : {bus : Bus} → Made bus → (k : ℕ) → timesDelivered (bus .wires) k ≤ 1
+  unfolding timesDelivered
+  once nothing k = omega arith
+  once (placing m f j l s) k = once m k
+  once (serving {bus} m f w s) k = go (ℕ-discrete w k) (once m k)
+    where
+      new : BusWire
+      new = deliveryWire b f w
+
+      go : Dec (w ≡ k) → timesDelivered (bus .wires) k ≤ 1 → timesDelivered (new ∷ bus .wires) k ≤ 1
+      go (yes e) ih = rw (keep-yes (names k) new (bus .wires) (eq-eqb w k e)) (let z : timesDelivered (bus .wires) k ≡ 0 = rw e at (s .fresh) in omega arith)
+      go (no e) ih = rw (keep-no (names k) new (bus .wires) (ne-eqb w k e)) ih
+
+  -- "no two of a page's heads, links and taps overlap": in one lane none is placed near another, and lanes lie 2 apart.
+  clear-apart : (j k : Brick) → InLane j → InLane k → (Touches (j .page) (j .lane) (j .x) k → ⊥) → Overlap j k → ⊥
+  clear-apart j k p q h o =
+      h (record {
+        page = sym (o .page);
+        column = sym lane;
+        close = both (ltb (j .x) (k .x + 2)) (ltb (k .x) (j .x + 2)) (lt-ltb _ _ (o .left)) (lt-ltb _ _ (o .right));
+      })
+    where
+      there : k .lane < getD ps (k .page) noLanes .count → k .y ≡ laneY (minYOf b (k .page)) (getD ps (k .page) noLanes .count) (k .lane)
+          → (k .lane < getD ps (j .page) noLanes .count) × (k .y ≡ laneY (minYOf b (j .page)) (getD ps (j .page) noLanes .count) (k .lane))
+      there a c = rw (o .page) (a, c)
+
+      lane : j .lane ≡ k .lane
+      lane =
+          let t = there (q .opened) (q .height) in
+          let below = rw (p .height, t .1) at (o .below) in
+          let above = rw (p .height, t .1) at (o .above) in
+          heights-apart (minYOf b (j .page)) (getD ps (j .page) noLanes .count) (j .lane) (k .lane) (p .high) (p .most) (p .opened) (t .0) below above
+
+  lane-of : {bus : Bus} → Made bus → (k : Brick) → List·Memᴰ k (bus .bricks) → inGutter k ≡ true → InLane k
+  lane-of nothing k h g = absurd (List·Memᴰ·not-nil h)
+  lane-of (placing {bus} m f j l s) k h g = go s (List·Memᴰ·cases-cons h) (λ i. lane-of m k i g)
+    where
+      go : Stood bus j → (k ≡ j) ⊎ List·Memᴰ k (bus .bricks) → (List·Memᴰ k (bus .bricks) → InLane k) → InLane k
+      go (aside a) (inl e) ih = clash g (rw e a)
+      go (inColumn a c) (inl e) ih = rw e a
+      go (aside a) (inr i) ih = ih i
+      go (inColumn a c) (inr i) ih = ih i
+  lane-of (serving m f w s) k h g = lane-of m k h g
+
+  turned : (j k : Brick) → Overlap j k → Overlap k j
+  turned j k o = record { page = sym (o .page); left = o .right; right = o .left; below = o .above; above = o .below }
+
+  pub apart : {bus : Bus} → Made bus → (m n : ℕ) (j k : Brick) → Numbered m j (bus .bricks) → Numbered n k (bus .bricks) → (m ≡ n → ⊥) → inGutter j ≡ true
+      → inGutter k ≡ true → Overlap j k → ⊥
+  apart nothing m n j k p q d g h o = let z = numbered-below p in omega arith
+  apart (placing {bus} made f i l s) m n j k p q d g h o = go (numbered-cases p) (numbered-cases q) (λ u v. apart made m n j k u v d g h o)
+    where
+      first : (u v : Brick) → u ≡ i → List·Memᴰ v (bus .bricks) → inGutter u ≡ true → inGutter v ≡ true → Stood bus i → Overlap u v → ⊥
+      first u v e r a c (aside x) w = clash a (rw e x)
+      first u v e r a c (inColumn x y) w = clear-apart i v x (lane-of made v r c) (y v r c) (rw e at w)
+
+      go : ((m ≡ length (bus .bricks)) × (j ≡ i)) ⊎ Numbered m j (bus .bricks) → ((n ≡ length (bus .bricks)) × (k ≡ i)) ⊎ Numbered n k (bus .bricks)
+          → (Numbered m j (bus .bricks) → Numbered n k (bus .bricks) → ⊥) → ⊥
+      go (inl u) (inl v) ih = d (u .0 ∙ sym (v .0))
+      go (inl u) (inr v) ih = first j k (u .1) (numbered-in v) g h s o
+      go (inr u) (inl v) ih = first k j (v .1) (numbered-in u) h g s (turned j k o)
+      go (inr u) (inr v) ih = ih u v
+  apart (serving made f w s) m n j k p q d g h o = apart made m n j k p q d g h o

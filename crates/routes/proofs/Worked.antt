@@ -1,0 +1,53 @@
+-- Demand 3 of the board of example (a): the conditions of `demand3` are met there.
+use Prim.Native.Nat.{ℕ, zero, suc, _+_, _*_, _≤_, _<_}
+use native.Mathlib.Omega.{arith}
+use mathlib.Core.Path.{_≡_, refl}
+use mathlib.Core.Bool.{true}
+use mathlib.Core.List.{List, [], _∷_}
+use Rattle.sheet.specs.Table.{ORIGIN, MISSING, PAGES, NODES, WIRES}
+use Rattle.board.specs.Groups
+use Rattle.board.specs.Demands
+use Rattle.board.specs.Rows
+use Rattle.board.specs.Refusals
+use Rattle.lanes.specs.Lanes
+use Rattle.lanes.specs.Sort
+use Rattle.lanes.specs.Lanes.{laneMost}
+use Rattle.board.specs.Board.{Board, hasGutter, minYOf}
+use Rattle.board.specs.Demands.{BUS_BAND_GUTTER, LANE_PITCH, PageLanes, planned, planLanes}
+use Rattle.routes.specs.Plan.{finished}
+use Rattle.routes.specs.Demand3.{Demand3, HighGutters}
+use Rattle.routes.proofs.Demand3.{demand3}
+
+-- P, N and W as they are held: coordinates from ORIGIN, no line.
+abbrev node : ℕ → ℕ → ℕ → ℕ → ℕ → List ℕ
+node id class x y down =
+    NODES ∷ id ∷ 0 ∷ class ∷ 0 ∷ 2 ∷ 2 ∷ 0 ∷ (ORIGIN + x) ∷ (ORIGIN + y) ∷ 0 ∷ (ORIGIN + down) ∷ MISSING ∷ []
+
+abbrev pub board : Board
+board =
+    record {
+      pages = (PAGES ∷ ORIGIN ∷ (ORIGIN + 10) ∷ []) ∷ [];
+      nodes = node 1 1 20 0 0 ∷ node 2 0 10 8 10 ∷ node 3 0 0 8 20 ∷ [];
+      chips = [];
+      inner = [];
+      execs = [];
+      wires = (WIRES ∷ 1 ∷ 5 ∷ 2 ∷ 1 ∷ []) ∷ (WIRES ∷ 1 ∷ 5 ∷ 3 ∷ 1 ∷ []) ∷ [];
+    }
+
+-- One group, in lane 0.
+abbrev pub plannedLanes : List PageLanes
+plannedLanes = record { groups = 0 ∷ []; laneList = 0 ∷ []; count = 1 } ∷ []
+
+high : HighGutters board
+high = record { high = λ p. on p }
+  where
+    on : (p : ℕ) → p < 1 → hasGutter board p ≡ true → BUS_BAND_GUTTER + LANE_PITCH * laneMost ≤ minYOf board p
+    on zero h g = omega arith
+    on (suc p) h g = absurd (omega arith)
+
+lanes : planLanes board ≡ planned plannedLanes
+unfolding planLanes Demands.planUpto Demands.packedOn Demands.groupsOn Demands.demandOf Demands.needsLane Demands.firstRow Demands.lastRow Groups.tapsOf Groups.addWire Groups.tapFor Groups.groupFor Groups.wireOpen Groups.anchorsOpen Groups.anchorOf Groups.isBussable Groups.isBusWorthy Groups.crossesAt Groups.targetsExec Groups.tapsIn Groups.sourceAnchor Groups.targetAnchor Groups.crosses Groups.topChip Rows.rowOf Rows.nodesOn Rows.downsOn Refusals.bodyOf Refusals.innerOf Lanes.packed Lanes.packIn Lanes.ranked Lanes.entries Lanes.laneFor Lanes.firstThat Lanes.withTenant Lanes.ahead Sort.sorted Sort.inserted Sort.lexLess
+lanes = refl
+
+pub worked-demand3 : Demand3 board (finished board plannedLanes)
+worked-demand3 = demand3 board plannedLanes lanes high

@@ -1,0 +1,71 @@
+-- `place` meets its contract: the brick's row is written, then chained. Assumes nothing.
+use Rattle.routes.proofs.Emitting.{walkable-set, rows-more}
+use Rattle.routes.specs.Holding.{brickOf}
+use Rattle.routes.specs.Chains.{Walkable, brickBucket, BrickRows}
+use lib.ListN.{length}
+use native.Mathlib.Omega.{arith}
+use mathlib.Core.List.{List, _∷_}
+use mathlib.Core.Path.{sym, subst}
+use Prim.Native.Nat.{ℕ, _<_}
+use borrow.Author.Needs.{needs}
+use Rattle.routes.proofs.emit.place.Statement.{statement}
+use Rattle.routes.proofs.emit.place.Tie as tie
+
+push-bus-node-requires : tie.Need-push-bus-node-requires
+push-bus-node-requires c κs = search needs
+
+book-brick-requires : tie.Need-book-brick-requires
+book-brick-requires c κs =
+    let p = c .before .before .before .before .before in
+    let s = p .before .before .before .before .before in
+    let a = s .args in
+    let h = p .push-bus-node .ensures in
+    let l = p .push-bus-node .kept .0 in (
+      subst (λ (tb : List (List ℕ)). Walkable (brickBucket tb) (length tb) (a .nexts .now) (a .heads .now) (a .count .rerouters)) (sym (h .row)) (walkable-set (a .rerouters .now) _ (a .nexts .now) (a .heads .now) (a .count .rerouters) (s .pre .walkable)),
+      (let q = s .pre .brickRoom in omega arith, s .pre .nextRoom, s .pre .number),
+    )
+
+same-length : tie.Need-same-length
+same-length c = search needs
+
+same-length-2 : tie.Need-same-length-2
+same-length-2 c = search needs
+
+same-length-3 : tie.Need-same-length-3
+same-length-3 c = search needs
+
+same-length-4 : tie.Need-same-length-4
+same-length-4 c = search needs
+
+brick-fits : (c : tie.Start) → (c .args .brick .x < 4294967296) × (c .args .brick .y < 4294967296)
+brick-fits c = let g = c .good .1 .1 .1 .1 .1 .1 .0 in (omega (arith, g), omega (arith, g))
+
+returns : tie.Need-returns
+returns c =
+    let k = c .before .before .before .before in
+    let p = k .before .before .before .before .before .before in
+    let s = p .before .before .before .before .before in
+    let a = s .args in
+    let h = p .push-bus-node .ensures in
+    record {
+      walkable = subst (λ (n : ℕ). Walkable (brickBucket (p .push-bus-node .last .0)) (length (p .push-bus-node .last .0)) (k .book-brick .last .1 .0) (k .book-brick .last .1 .1 .0) n) (sym (h .brickCount)) (k .book-brick .ensures);
+      brickCount = h .brickCount;
+      wireCount = h .wireCount;
+      gives = h .gives;
+      holds = h .held;
+      rows = λ bus e rows.
+          subst (λ (tb : List (List ℕ)). BrickRows (brickOf (a .brick) ∷ bus .bricks) tb) (sym (h .row))
+          (rows-more (bus .bricks) (a .rerouters .now) (brickOf (a .brick)) (a .count .rerouters) e (s .pre .brickRoom) (record { xFits = brick-fits s .0; yFits = brick-fits s .1; oneOf = s .pre .oneOf }) rows);
+    }
+
+pub place-spec : {M : Type 1} → statement M
+place-spec =
+    tie.close
+    (tie.spec
+    push-bus-node-requires
+    book-brick-requires
+    same-length
+    same-length-2
+    same-length-3
+    same-length-4
+    returns)

@@ -1,0 +1,137 @@
+-- The rerouters and bus wires, and the two operations that every rerouter and bus wire of a plan comes from.
+use Prim.Native.Nat.{ℕ, zero, suc, _+_}
+use mathlib.Core.Bool.{Bool, true, false, not, _&&_, _||_}
+use mathlib.Core.List.{List, [], _∷_}
+use lib.Dec.{eqb, ltb}
+use lib.ListN.{length}
+use Rattle.board.specs.Lists.{any}
+use Rattle.board.specs.Board.{Board, sourceNode, sourcePort, targetNode, targetPort}
+use Rattle.board.specs.Rows.{Cell, cellsOverlap, rerouterCell, brickCell, bricksIn}
+
+-- A rerouter. Heads, links and taps have a lane and no row; the others stand beside a row and have no lane.
+pub record Brick : Type 0 where
+  pub x : ℕ
+  pub y : ℕ
+  pub z : ℕ
+  pub rotation : ℕ
+  pub role : ℕ
+  pub part : ℕ
+  pub colour : ℕ
+  pub page : ℕ
+  pub lane : ℕ
+  pub row : ℕ
+
+-- "role (0 Gutter, 1 Line, 2 Source)"
+abbrev pub roleGutter : ℕ
+roleGutter = 0
+
+abbrev pub roleLine : ℕ
+roleLine = 1
+
+abbrev pub roleSource : ℕ
+roleSource = 2
+
+-- "part (1 source, 2 head, 3 link, 4 tap, 5 gate-side, 6 corner)"
+abbrev pub partSource : ℕ
+partSource = 1
+
+abbrev pub partHead : ℕ
+partHead = 2
+
+abbrev pub partLink : ℕ
+partLink = 3
+
+abbrev pub partTap : ℕ
+partTap = 4
+
+abbrev pub partGateSide : ℕ
+partGateSide = 5
+
+abbrev pub partCorner : ℕ
+partCorner = 6
+
+-- "from and to, each `p` node port or `b` rerouter"
+pub data End : Type 0 where
+  port : ℕ → ℕ → End
+  rerouter : ℕ → End
+
+-- "a delivery's wire and distance", else nothing.
+pub data Carries : Type 0 where
+  onward : Carries
+  delivery : ℕ → ℕ → Carries
+
+pub record BusWire : Type 0 where
+  pub source : End
+  pub target : End
+  pub carries : Carries
+
+-- A suppressed port.
+pub record Port : Type 0 where
+  pub node : ℕ
+  pub port : ℕ
+
+-- "suppressed ports ascending", by node and then by port, each once.
+abbrev pub insertPort : Port → List Port → List Port
+insertPort p [] = p ∷ []
+insertPort p (q ∷ l) =
+    elim (ltb (p .node) (q .node) || (eqb (p .node) (q .node) && ltb (p .port) (q .port)))
+    [ true ↦ p ∷ q ∷ l | false ↦ elim (eqb (p .node) (q .node) && eqb (p .port) (q .port)) [ true ↦ q ∷ l | false ↦ q ∷ insertPort p l ] ]
+
+-- The plan so far (`BusLayout`): rerouters and bus wires, newest first, so that a rerouter's number is how many stand behind it; and suppressed ports.
+pub record Bus : Type 0 where
+  pub bricks : List Brick
+  pub wires : List BusWire
+  pub ports : List Port
+
+abbrev pub emptyBus : Bus
+emptyBus = record { bricks = []; wires = []; ports = [] }
+
+-- What a bus wire can leave, with the count of rerouters back to the port, itself included.
+pub record Feed : Type 0 where
+  pub end : End
+  pub depth : ℕ
+
+-- "A brick placed .., and its one bus wire is written with it."
+abbrev pub place : Bus → Feed → Brick → Bus
+place bus feed brick =
+    record {
+      bricks = brick ∷ bus .bricks;
+      wires = record { source = feed .end; target = rerouter (length (bus .bricks)); carries = onward } ∷ bus .wires;
+      ports = bus .ports;
+    }
+
+-- The feed of the brick so placed.
+abbrev pub placedFeed : Bus → Feed → Feed
+placedFeed bus feed = record { end = rerouter (length (bus .bricks)); depth = suc (feed .depth) }
+
+-- The feed of a wire's source port.
+abbrev pub portFeed : Board → ℕ → Feed
+portFeed b w = record { end = port (sourceNode b w) (sourcePort b w); depth = zero }
+
+-- The target port of a wire.
+abbrev pub portOf : Board → ℕ → Port
+portOf b w = record { node = targetNode b w; port = targetPort b w }
+
+-- A delivery of a wire to its target, with the distance counted so far, "suppressing its target port".
+abbrev pub deliver : Board → Bus → Feed → ℕ → Bus
+deliver b bus feed w =
+    record {
+      bricks = bus .bricks;
+      wires = record { source = feed .end; target = port (targetNode b w) (targetPort b w); carries = delivery w (feed .depth) } ∷ bus .wires;
+      ports = insertPort (portOf b w) (bus .ports);
+    }
+
+-- Whether a wire's target is suppressed.
+abbrev pub samePort : Port → Port → Bool
+samePort p q = eqb (p .node) (q .node) && eqb (p .port) (q .port)
+
+unfoldable pub muted : Board → Bus → ℕ → Bool
+muted b bus w = any (samePort (portOf b w)) (bus .ports)
+
+-- "clear of that row's cells": those of the row's bricks and of the rerouters placed beside it.
+abbrev pub besideRow : ℕ → ℕ → Cell → Brick → Bool
+besideRow p r cell k = eqb (k .page) p && eqb (k .row) r && cellsOverlap (rerouterCell (k .x) (k .y)) cell
+
+unfoldable pub clearOfRow : Board → Bus → ℕ → ℕ → Cell → Bool
+clearOfRow b bus p r cell =
+    not (any (λ i. cellsOverlap (brickCell b i) cell) (bricksIn b p r)) && not (any (besideRow p r cell) (bus .bricks))

@@ -1,0 +1,120 @@
+-- Document 01's worked examples (a) to (h) and the empty sheet, one theorem over a list.
+use Prim.Native.Nat.{ℕ, zero, suc}
+use Prim.Native.String
+use Prim.Native.String.{String}
+use Prim.Native.Char.{code}
+use mathlib.Core.Path.{_≡_, refl}
+use mathlib.Core.Bool.{Bool, true, false}
+use mathlib.Core.List.{List, [], _∷_, map}
+use lib.Dec.{leb}
+use Rattle.sheet.specs.Number
+use Rattle.sheet.specs.Reading
+use Rattle.sheet.specs.Record
+use Rattle.sheet.specs.Text
+use Rattle.sheet.specs.Written
+use Rattle.lanes.specs.Lanes
+use Rattle.lanes.specs.Sort
+use Rattle.board.specs.Board
+use Rattle.board.specs.Demands
+use Rattle.board.specs.Groups
+use Rattle.board.specs.Planning
+use Rattle.board.specs.Refusals
+use Rattle.board.specs.Rows
+use Rattle.routes.specs.Bus
+use Rattle.routes.specs.Corners
+use Rattle.routes.specs.Levels
+use Rattle.routes.specs.Plan
+use Rattle.routes.specs.PlanSheet
+use Rattle.routes.specs.Rerouters
+use Rattle.routes.specs.Route
+use Rattle.routes.specs.Stops
+use Rattle.sheet.specs.Table.{programMost}
+use Rattle.lanes.specs.Lanes.{Demand, Packed, full, laned, packed}
+use Rattle.board.specs.Lists.{Found, none, at}
+use Rattle.routes.specs.Stops.{stopX, spread, MIN_LANE_TRAVEL}
+use Rattle.routes.specs.Route.{answerTo}
+
+-- The bytes of a text.
+unfoldable pub bytes : String → List ℕ
+bytes String.[] = []
+bytes (String._∷_ c s) = code c ∷ bytes s
+
+abbrev pub demands : ℕ → List (ℕ × ℕ) → List Demand
+demands k [] = []
+demands k (s ∷ l) = record { first = s .0; last = s .1; consumers = 1; order = k } ∷ demands (suc k) l
+
+-- The lanes of demands from one row to another, "one consumer each, orders 0 and 1".
+unfoldable pub lanesOf : List (ℕ × ℕ) → List ℕ
+lanesOf spans = elim (packed (demands 0 spans)) [ full i ↦ i ∷ [] | laned ls n ↦ ls ]
+
+-- The stops of a group whose rows' first taps have these x.
+unfoldable pub stopsFrom : Found → List ℕ → List ℕ
+stopsFrom previous [] = []
+stopsFrom previous (x ∷ l) = let s = stopX previous x in s ∷ stopsFrom (at s) l
+
+-- Whether a group whose source and taps have these x is laid.
+unfoldable pub isLong : List ℕ → Bool
+isLong xs = leb MIN_LANE_TRAVEL (spread xs)
+
+-- A worked example: a question by its rule, and the answer.
+pub data Example : Type 0 where
+  sheet : String → String → Example
+  lanes : List (ℕ × ℕ) → List ℕ → Example
+  stops : List ℕ → List ℕ → Example
+  laid : List ℕ → Bool → Example
+
+abbrev pub Right : Example → Type 0
+Right (sheet board plan) = answerTo programMost (bytes board) ≡ bytes plan
+Right (lanes spans ls) = lanesOf spans ≡ ls
+Right (stops xs ss) = stopsFrom none xs ≡ ss
+Right (laid xs answer) = isLong xs ≡ answer
+
+abbrev pub AllRight : List Example → Type 0
+AllRight [] = Unit {0}
+AllRight (e ∷ es) = Right e × AllRight es
+
+abbrev pub examples : List Example
+examples =
+    -- (a)
+    sheet
+    "P\t0\t10\nN\t1\t0\t1\t0\t2\t2\t0\t20\t0\t0\t0\t-\nN\t2\t0\t0\t0\t2\t2\t0\t10\t8\t0\t10\t-\nN\t3\t0\t0\t0\t2\t2\t0\t0\t8\t0\t20\t-\nW\t1\t5\t2\t1\nW\t1\t5\t3\t1\n"
+    "L\t0\t1\t8\nR\t0\t20\t-5\t10\t2\t2\t1\t1\t0\t-\nR\t1\t20\t-8\t10\t1\t0\t2\t1\t0\t0\nR\t2\t12\t-8\t10\t1\t0\t3\t1\t0\t0\nR\t3\t10\t-8\t10\t0\t0\t4\t1\t0\t0\nR\t4\t10\t3\t10\t0\t0\t5\t1\t0\t-\nR\t5\t2\t-8\t10\t1\t0\t3\t1\t0\t0\nR\t6\t0\t-8\t10\t0\t0\t4\t1\t0\t0\nR\t7\t0\t3\t10\t0\t0\t5\t1\t0\t-\nB\tp\t1\t5\tb\t0\t-\t-\t-\nB\tb\t0\t-\tb\t1\t-\t-\t-\nB\tb\t1\t-\tb\t2\t-\t-\t-\nB\tb\t2\t-\tb\t3\t-\t-\t-\nB\tb\t3\t-\tb\t4\t-\t-\t-\nB\tb\t4\t-\tp\t2\t1\t0\t5\nB\tb\t2\t-\tb\t5\t-\t-\t-\nB\tb\t5\t-\tb\t6\t-\t-\t-\nB\tb\t6\t-\tb\t7\t-\t-\t-\nB\tb\t7\t-\tp\t3\t1\t1\t6\nU\t2\t1\nU\t3\t1\nT\t8\t10\t2\t0\t1\n"
+    -- (b) none for no demands; (c) rows 0–2 and 2–4 get 0, 1; (d) 0–2 and 3–5 get 0, 0
+    ∷ lanes [] []
+    ∷ lanes ((0, 2) ∷ (2, 4) ∷ []) (0 ∷ 1 ∷ [])
+    ∷ lanes ((0, 2) ∷ (3, 5) ∷ []) (0 ∷ 0 ∷ [])
+    -- (e) 10, 9 share 10; (f) 10, 8 don't; (g) 10, 9, 8 give 10, 10, 8
+    ∷ stops (10 ∷ 9 ∷ []) (10 ∷ 10 ∷ [])
+    ∷ stops (10 ∷ 8 ∷ []) (10 ∷ 8 ∷ [])
+    ∷ stops (10 ∷ 9 ∷ 8 ∷ []) (10 ∷ 10 ∷ 8 ∷ [])
+    -- (h) x range 5 is not laid, 6 is
+    ∷ laid (10 ∷ 15 ∷ []) false
+    ∷ laid (10 ∷ 16 ∷ []) true
+    -- the empty sheet
+    ∷ sheet "" "T\t0\t0\t0\t0\t0\n"
+    ∷ []
+
+pub worked : AllRight examples
+unfolding bytes lanesOf stopsFrom isLong
+    Number.allDigits Number.valueFrom Number.noLeadingZero Number.plain Number.unsigned Number.signed Number.number Reading.linesRead
+    Reading.sheetLines Reading.rowOf Reading.rowsFrom Reading.counted Reading.after Reading.unreadable Reading.overMost Reading.outOfRange
+    Reading.first Reading.refusals Reading.readLines Reading.reading Record.allowed Record.within Record.present Record.cellOf
+    Record.fieldsRead Record.placeOf Record.sectionOf Record.recordRead Record.lineRead Text.onFirst Text.parts Text.firstPart Text.lineOf
+    Text.fieldOf Written.digitsOf Written.decimal Written.coordinateText Written.numberText Written.written Lanes.entries Lanes.ahead
+    Lanes.ranked Lanes.firstThat Lanes.laneFor Lanes.withTenant Lanes.packIn Lanes.packed Sort.inserted Sort.sorted Sort.joined Sort.merged
+    Sort.lexLess Sort.rightNext Sort.sortedRows Board.section Board.boardOf Demands.band Demands.firstRow Demands.lastRow Demands.needsLane
+    Demands.demandOf Demands.groupsOn Demands.packedOn Demands.planUpto Demands.planLanes Demands.laneY Groups.topChip Groups.anchorOf
+    Groups.isBussable Groups.isBusWorthy Groups.crossesAt Groups.targetsExec Groups.wireOpen Groups.anchorsOpen Groups.groupFor
+    Groups.tapFor Groups.addWire Groups.tapsOf Groups.tapsIn Groups.sourceAnchor Groups.targetAnchor Groups.crosses Groups.sourceRow
+    Planning.records Planning.planning Planning.fitsPages Planning.pagesAfter Refusals.bodyOf Refusals.chipAt Refusals.innerOf
+    Refusals.nodeTwice Refusals.chipTwice Refusals.innerTwice Refusals.pageMissing Refusals.parentMissing Refusals.chipMissing
+    Refusals.rowUnplaced Refusals.idTwice Refusals.notThere Refusals.unplaced Refusals.judgedBoard Refusals.judged Rows.cellsOverlap
+    Rows.nodesOn Rows.downsOn Rows.rowOf Rows.brickCell Rows.bricksIn Rows.rowTop Bus.muted Bus.clearOfRow Corners.turnsDown
+    Corners.cornerBrick Corners.sinkLoad Corners.cornerClear Corners.cornerLevel Corners.withCorner Corners.turnWire Corners.corners
+    Corners.turns Corners.turnable Levels.loadAt Levels.unclaimed Levels.freeLevel Levels.findLevel Levels.levelOf Levels.stopFor
+    Levels.stopsOf Plan.busOf Plan.laidGroups Plan.finished Plan.deliveries PlanSheet.fields PlanSheet.numbered PlanSheet.laneLine
+    PlanSheet.brickLine PlanSheet.wireLine PlanSheet.portLine PlanSheet.totalLine PlanSheet.planSheet PlanSheet.refusalSheet
+    Rerouters.columnFree Rerouters.chainRotation Rerouters.laneBrick Rerouters.rowBrick Rerouters.withSource Rerouters.startGroup
+    Rerouters.withLink Rerouters.startRow Rerouters.withGateSide Rerouters.serve Rerouters.emitTap Rerouters.emit Route.fitsPlan Route.laid
+    Route.routed Route.sheetOf Route.answerTo Stops.spread Stops.longEnough Stops.isLaid Stops.laidTaps
+worked = (refl, (refl, (refl, (refl, (refl, (refl, (refl, (refl, (refl, (refl, tt))))))))))

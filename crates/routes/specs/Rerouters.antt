@@ -1,0 +1,158 @@
+-- Document 01, "Rerouters" (`emit_lane`): heads, source rerouters, links, taps, gate-sides and deliveries, tap by tap in the order of laying.
+use Prim.Native.Nat.{ℕ, zero, suc, _+_, _-_}
+use mathlib.Core.Bool.{Bool, true, false, not, _&&_, _||_}
+use mathlib.Core.List.{List, [], _∷_}
+use lib.Dec.{eqb, ltb}
+use lib.ListN.{length, getD}
+use Rattle.board.specs.Lists.{Found, none, at, any}
+use Rattle.sheet.specs.Table.{MISSING}
+use Rattle.board.specs.Board.{Board, placed, idOf, xOf, yOf, zOf, minYOf}
+use Rattle.board.specs.Rows.{REROUTER_SIZE, rerouterCell}
+use Rattle.board.specs.Groups.{Tap, tapsIn, sourceAnchor, sourceRow}
+use Rattle.board.specs.Demands.{PageLanes, noLanes, laneY}
+use Rattle.routes.specs.Stops.{near, newGroup, newRow, newColumn}
+use Rattle.routes.specs.Levels.{Level, dropped, shared, own, Stop, unclaimed, laneFor}
+use Rattle.routes.specs.Bus.{Brick, Bus, Feed, clearOfRow, deliver, emptyBus, partGateSide, partHead, partLink, partSource, partTap, place, placedFeed, port, portFeed, roleGutter, roleSource}
+
+abbrev pub TAP_RESERVE : ℕ
+TAP_RESERVE = 5
+
+-- What the walk over the taps holds: the bus, the feed that links and taps hang on, the tap brick of the group's last own level, and the end of
+-- the row's chain so far.
+pub record Emission : Type 0 where
+  pub bus : Bus
+  pub upstream : Feed
+  pub stopTap : Feed
+  pub rowEnd : Feed
+
+-- The span of 2 at x is claimed in a lane's column by a level, or by a head or link placed there.
+abbrev pub brickNear : ℕ → ℕ → ℕ → Brick → Bool
+brickNear p lane x k =
+    eqb (k .page) p && eqb (k .lane) lane && (eqb (k .part) partHead || eqb (k .part) partLink) && near x (k .x)
+
+unfoldable pub columnFree : List Stop → Bus → ℕ → ℕ → ℕ → Bool
+columnFree stops bus p lane x = unclaimed stops p lane x && not (any (brickNear p lane x) (bus .bricks))
+
+-- Stops stand in the order of the taps, one for each new row: the newest so far is that of the tap's row, and the others are those before that row.
+abbrev pub levelHere : List Stop → Level
+levelHere [] = dropped
+levelHere (s ∷ l) = s .level
+
+abbrev pub stopsBefore : Bool → List Stop → List Stop
+stopsBefore false l = l
+stopsBefore true [] = []
+stopsBefore true (s ∷ l) = l
+
+module _ (b : Board) (ts : List Tap) (ps : List PageLanes) where
+  abbrev pub source : Tap → ℕ
+  source t = sourceAnchor b (t .group)
+
+  -- "Heads and links have rotation 3 when the source is placed and every tap's x is over its x, else 1."
+  unfoldable pub chainRotation : Tap → ℕ
+  chainRotation t =
+      elim (placed b (source t) && not (any (λ u. not (ltb (xOf b (source t)) (u .x))) (tapsIn b ts (t .group)))) [ true ↦ 3 | false ↦ 1 ]
+
+  -- A head, link or tap at x in the column of the tap's lane.
+  unfoldable pub laneBrick : Tap → ℕ → ℕ → ℕ → Brick
+  laneBrick t x rotation part =
+      record {
+        x = x;
+        y = laneY (minYOf b (t .page)) (getD ps (t .page) noLanes .count) (laneFor ps t);
+        z = zOf b (t .page);
+        rotation = rotation;
+        role = roleGutter;
+        part = part;
+        colour = idOf b (source t);
+        page = t .page;
+        lane = laneFor ps t;
+        row = MISSING;
+      }
+
+  abbrev pub headBrick : Tap → Brick
+  headBrick t = laneBrick t (xOf b (source t)) (chainRotation t) partHead
+
+  -- "a link at level + 2", "a tap at level, rotation 0"
+  abbrev pub linkBrick : Tap → ℕ → Brick
+  linkBrick t level = laneBrick t (level + REROUTER_SIZE) (chainRotation t) partLink
+
+  abbrev pub tapBrick : Tap → ℕ → Brick
+  tapBrick t level = laneBrick t level 0 partTap
+
+  -- A rerouter beside a row of the tap's page.
+  unfoldable pub rowBrick : Tap → ℕ → ℕ → ℕ → ℕ → ℕ → ℕ → Brick
+  rowBrick t r x y rotation role part =
+      record
+      { x = x; y = y; z = zOf b (t .page); rotation = rotation; role = role; part = part; colour = idOf b (source t); page = t .page; lane = MISSING; row = r }
+
+  -- "a source rerouter stands at x, y − 5, rotation 2"
+  abbrev pub sourceBrick : Tap → ℕ → Brick
+  sourceBrick t r = rowBrick t r (xOf b (source t)) (yOf b (source t) - TAP_RESERVE) 2 roleSource partSource
+
+  -- "a gate-side rerouter at level, y − 5, rotation 0"
+  abbrev pub gateSideBrick : Tap → ℕ → Brick
+  gateSideBrick t level = rowBrick t (t .row) level (t .y - TAP_RESERVE) 0 roleGutter partGateSide
+
+  abbrev pub clearFor : Bus → Brick → Bool
+  clearFor bus k = clearOfRow b bus (k .page) (k .row) (rerouterCell (k .x) (k .y))
+
+  -- The emission with a brick placed at a feed, on which links and taps hang from then on; or which is the stop's tap; or which the row's chain ends in.
+  abbrev pub hangOn : Emission → Feed → Brick → Emission
+  hangOn e feed k = record { bus = place (e .bus) feed k; upstream = placedFeed (e .bus) feed; stopTap = e .stopTap; rowEnd = e .rowEnd }
+
+  abbrev pub tapOff : Emission → Brick → Emission
+  tapOff e k =
+      record { bus = place (e .bus) (e .upstream) k; upstream = e .upstream; stopTap = placedFeed (e .bus) (e .upstream); rowEnd = placedFeed (e .bus) (e .upstream) }
+
+  abbrev pub chainOn : Emission → Brick → Emission
+  chainOn e k = record { bus = place (e .bus) (e .rowEnd) k; upstream = e .upstream; stopTap = e .stopTap; rowEnd = placedFeed (e .bus) (e .rowEnd) }
+
+  -- "Just before that head, where the source row is known, a source rerouter .. if clear of that row's cells." It feeds the head.
+  unfoldable pub withSource : Emission → Tap → Emission
+  withSource e t =
+      elim (sourceRow b (t .group) (t .page)) [
+        | none ↦ e
+        | at r ↦ elim (clearFor (e .bus) (sourceBrick t r)) [ true ↦ hangOn e (e .upstream) (sourceBrick t r) | false ↦ e ]
+      ]
+
+  -- A group begins at its port. "A source placed at x, y gets a head at x if x to x + 2 is unclaimed in the column."
+  unfoldable pub startGroup : List Stop → Emission → Tap → Emission
+  startGroup stops e t =
+      let e′ : Emission = record { bus = e .bus; upstream = portFeed b (t .group); stopTap = e .stopTap; rowEnd = e .rowEnd } in
+      elim (placed b (source t) && columnFree stops (e .bus) (t .page) (laneFor ps t) (xOf b (source t)))
+      [ true ↦ let s = withSource e′ t in hangOn s (s .upstream) (headBrick t) | false ↦ e′ ]
+
+  -- "each other kept stop gets a link at level + 2, if level + 2 to level + 4 is unclaimed"
+  unfoldable pub withLink : List Stop → Emission → Tap → ℕ → Emission
+  withLink stops e t level =
+      elim (columnFree stops (e .bus) (t .page) (laneFor ps t) (level + REROUTER_SIZE))
+      [ true ↦ hangOn e (e .upstream) (linkBrick t level) | false ↦ e ]
+
+  -- "A kept stop shares the last kept one's brick exactly when it took over its level; each other kept stop gets a link .., then a tap."
+  unfoldable pub startRow : List Stop → Emission → Tap → Level → Emission
+  startRow stops e t dropped = e
+  startRow stops e t (shared level) = record { bus = e .bus; upstream = e .upstream; stopTap = e .stopTap; rowEnd = e .stopTap }
+  startRow stops e t (own level) = tapOff (withLink stops e t level) (tapBrick t level)
+
+  -- "for each y a gate-side rerouter at level, y − 5, rotation 0, if clear of the row's cells"
+  unfoldable pub withGateSide : Emission → Tap → ℕ → Emission
+  withGateSide e t level = elim (clearFor (e .bus) (gateSideBrick t level)) [ true ↦ chainOn e (gateSideBrick t level) | false ↦ e ]
+
+  -- "then that y's deliveries": "deliveries leave its end so far".
+  unfoldable pub serve : Emission → Tap → Bool → ℕ → Emission
+  serve e t fresh level =
+      let e′ : Emission = elim fresh [ true ↦ withGateSide e t level | false ↦ e ] in
+      record { bus = deliver b (e′ .bus) (e′ .rowEnd) (t .wire); upstream = e′ .upstream; stopTap = e′ .stopTap; rowEnd = e′ .rowEnd }
+
+  unfoldable pub emitTap : List Stop → Emission → List Tap → Tap → Level → Emission
+  emitTap stops e l t level =
+      let begun : Emission = elim (newGroup l t) [ true ↦ startGroup stops e t | false ↦ e ] in
+      let rowed : Emission = elim (newRow l t) [ true ↦ startRow stops begun t level | false ↦ begun ] in
+      elim level [ dropped ↦ rowed | shared x ↦ serve rowed t (newColumn l t) x | own x ↦ serve rowed t (newColumn l t) x ]
+
+  abbrev pub noFeed : Feed
+  noFeed = record { end = port 0 0; depth = 0 }
+
+  -- The taps in order, with all stops, whose levels are claimed, and the stops up to the newest tap's.
+  unfoldable pub emit : List Stop → List Tap → List Stop → Emission
+  emit stops [] sofar = record { bus = emptyBus; upstream = noFeed; stopTap = noFeed; rowEnd = noFeed }
+  emit stops (t ∷ l) sofar = emitTap stops (emit stops l (stopsBefore (newRow l t) sofar)) l t (levelHere sofar)

@@ -1,0 +1,149 @@
+// The bus: rerouters and bus wires, and the two operations that each of them comes from (`push_bus_node`).
+ghost use mathlib.Core.Path.{_≡_};
+ghost use Prim.Native.Nat.{_+_, _<_};
+ghost use lib.ListN.{length};
+ghost use Rattle.routes.specs.Buffers.{outward as outwardOf};
+ghost use Rattle.routes.specs.Holding.{endNode, endPort, RoomForBrick, RoomForWire, Placing, Delivering};
+
+// The id of a node.
+pub struct NodeId(pub u32);
+
+// The number of a rerouter.
+pub struct RerouterId(pub u32);
+
+// What a bus wire leaves.
+pub enum End {
+    Port { node: NodeId, port: u32 },
+    Rerouter(RerouterId),
+}
+
+// An end, with the count of rerouters back to its port, itself included.
+pub struct Feed {
+    pub end: End,
+    pub depth: u32,
+}
+
+// A rerouter, its coordinates as held.
+pub struct Brick {
+    pub x: u32,
+    pub y: u32,
+    pub z: u32,
+    pub rotation: u32,
+    pub role: u32,
+    pub part: u32,
+    pub colour: NodeId,
+    pub page: u32,
+    pub lane: u32,
+    pub row: u32,
+}
+
+// How many rows of the two buffers are written.
+pub struct BusCount {
+    pub rerouters: usize,
+    pub wires: usize,
+}
+
+// The bus after a brick, and the feed of that brick.
+pub struct Placed {
+    pub count: BusCount,
+    pub feed: Feed,
+}
+
+const ORIGIN: u32 = 2_000_000;
+
+pub const MISSING: u32 = 4_294_967_295;
+
+// A held coordinate as a number of 32 bits.
+fn outward(c: u32) -> u32
+    ensures { λ r. ⌜ r ≡ outwardOf c ⌝ }
+{
+    std::num::wrapping_sub_u32(c, ORIGIN)
+}
+
+// The two numbers that an end is written as.
+fn end_node(end: End) -> u32
+    ensures { λ r. ⌜ r ≡ endNode end ⌝ }
+{
+    match end {
+        End::Port { node, port: _ } => node.0,
+        End::Rerouter(rerouter) => rerouter.0,
+    }
+}
+
+fn end_port(end: End) -> u32
+    ensures { λ r. ⌜ r ≡ endPort end ⌝ }
+{
+    match end {
+        End::Port { node: _, port } => port,
+        End::Rerouter(_) => MISSING,
+    }
+}
+
+// "A brick placed .., and its one bus wire is written with it." Its depth is one more than its feeder's.
+pub fn push_bus_node(
+    rerouters: &mut [[u32; 10]],
+    bus_wires: &mut [[u32; 6]],
+    count: BusCount,
+    feed: Feed,
+    brick: Brick,
+) -> Placed
+    requires { ⌜ RoomForBrick (now rerouters) (now «bus_wires») count feed ⌝ }
+    ensures { λ r. ⌜ Placing (now (rerouters .entry)) (now («bus_wires» .entry)) count feed brick r (now (rerouters .exit)) (now («bus_wires» .exit)) ⌝ }
+{
+    let n = count.rerouters;
+    let w = count.wires;
+    let number = n as u32;
+    let end = feed.end;
+    let colour = brick.colour;
+    rerouters[n] = [
+        outward(brick.x),
+        outward(brick.y),
+        outward(brick.z),
+        brick.rotation,
+        brick.role,
+        brick.part,
+        colour.0,
+        brick.page,
+        brick.lane,
+        brick.row,
+    ];
+    bus_wires[w] = [
+        end_node(end),
+        end_port(end),
+        number,
+        MISSING,
+        MISSING,
+        MISSING,
+    ];
+    Placed {
+        count: BusCount {
+            rerouters: n + 1,
+            wires: w + 1,
+        },
+        feed: Feed {
+            end: End::Rerouter(RerouterId(number)),
+            depth: feed.depth + 1,
+        },
+    }
+}
+
+// A delivery of wire `wire` to its target, with the distance counted so far.
+pub fn push_delivery(
+    bus_wires: &mut [[u32; 6]],
+    count: BusCount,
+    feed: Feed,
+    node: NodeId,
+    port: u32,
+    wire: u32,
+) -> BusCount
+    requires { ⌜ RoomForWire (now «bus_wires») count ⌝ }
+    ensures { λ r. ⌜ Delivering (now («bus_wires» .entry)) count feed (node .0) port wire r (now («bus_wires» .exit)) ⌝ }
+{
+    let w = count.wires;
+    let end = feed.end;
+    bus_wires[w] = [end_node(end), end_port(end), node.0, port, wire, feed.depth];
+    BusCount {
+        rerouters: count.rerouters,
+        wires: w + 1,
+    }
+}

@@ -1,0 +1,8 @@
+// What is laid on a board: stops, levels, rerouters, bus wires, corners, and the plan as text.
+pub mod bus;
+pub mod cells;
+pub mod emit;
+pub mod levels;
+pub mod marks;
+pub mod plan_sheet;
+pub mod stops;
