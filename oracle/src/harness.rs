@@ -165,19 +165,33 @@ pub fn run_prepared(body: &LaidBody) -> usize {
     route(body, |_| true).bus.nodes.len()
 }
 
+/// The lanes and the band of each page, or refusal 8.
+fn pages_of(bands: &[i32]) -> Result<Vec<PageAnswer>, Refusal> {
+    let answer = |band: &i32| PageAnswer {
+        lanes: lanes_of(*band),
+        band: *band,
+    };
+    let pages: Vec<PageAnswer> = bands.iter().map(answer).collect();
+    match pages.iter().position(|p| p.lanes > LANE_MOST) {
+        Some(page) => Err(Refusal::new(8, page + 1)),
+        None => Ok(pages),
+    }
+}
+
+/// `plan_bus` alone: its page answers, or refusal 8.
+pub fn plan_pages(body: &LaidBody) -> Result<Vec<PageAnswer>, Refusal> {
+    pages_of(&route(body, |_| false).band_widths)
+}
+
 /// The plan of a board, or refusal 8.
 ///
 /// Each page's number is handed to the Rust as that page's z, which it only
 /// copies: so a rerouter tells its page. The plan then carries the page's z.
 pub fn run_plan(board: &Board) -> Result<Plan, Refusal> {
     let body = body_of(board, |page| page as i32);
-    let fits = |bands: &[i32]| bands.iter().all(|b| lanes_of(*b) <= LANE_MOST);
-    let routed = route(&body, fits);
-    let over = |b: &i32| lanes_of(*b) > LANE_MOST;
-    match routed.band_widths.iter().position(over) {
-        Some(page) => Err(Refusal::new(8, page + 1)),
-        None => Ok(plan_of(board, &body, routed)),
-    }
+    let routed = route(&body, |bands| pages_of(bands).is_ok());
+    let pages = pages_of(&routed.band_widths)?;
+    Ok(plan_of(board, &body, pages, routed))
 }
 
 /// The same with the board's own z: x, y, z, rotation, role and colour of
@@ -239,14 +253,13 @@ fn part_of(bus: &BusLayout, body: &LaidBody, id: usize, feeder: Option<BusEnd>) 
     }
 }
 
-fn plan_of(board: &Board, body: &LaidBody, routed: Routed) -> Plan {
+fn plan_of(board: &Board, body: &LaidBody, pages: Vec<PageAnswer>, routed: Routed) -> Plan {
     let bus = &routed.bus;
     let feeders = feeders(bus);
-    let mut plan = Plan::default();
-    for band in &routed.band_widths {
-        let lanes = lanes_of(*band);
-        plan.pages.push(PageAnswer { lanes, band: *band });
-    }
+    let mut plan = Plan {
+        pages,
+        ..Plan::default()
+    };
     for (id, n) in bus.nodes.iter().enumerate() {
         let part = part_of(bus, body, id, feeders[id]);
         let page = n.z as usize;

@@ -40,3 +40,8 @@ pub record Index (ids nexts heads : List ℕ) (n : ℕ) : Type 0 where
 -- The newest of the first n entries that has the id.
 unfoldable pub entryOf : List ℕ → ℕ → ℕ → Found
 entryOf ids n id = newest (λ i. eqb (getD ids i 0) id) n
+
+-- An index whose first n entries are the ids of a section's records.
+pub record Ids (ids nexts heads : List ℕ) (n : ℕ) (idAt : ℕ → ℕ) : Type 0 where
+  pub index : Index ids nexts heads n
+  pub same : (j : ℕ) → j < n → getD ids j 0 ≡ idAt j

@@ -8,3 +8,5 @@ pub mod Planning
 pub mod Tables
 pub mod Index
 pub mod Walk
+pub mod Accepted
+pub mod PagePlan

@@ -19,6 +19,7 @@ use Rattle.board.specs.Lists.{Found, none, at, found}
 use Rattle.board.specs.Board.{Board, boardOf, kindChip, idOf, kindOf, chipId, innerId}
 use Rattle.board.specs.Refusals.{firstLine, nodeTwice, chipTwice, innerTwice, pageMissing, parentMissing, chipMissing, rowUnplaced, Judged, turnedAway, board, judgedBoard, judged}
 use Rattle.board.specs.Index.{Index, entryOf}
+pub use Rattle.board.specs.Index.{Ids}
 
 -- The board of a sheet that reading accepts.
 abbrev pub sheetBoard : List ℕ → Board
@@ -60,11 +61,6 @@ pub record Fresh (ids nexts heads : List ℕ) (most : ℕ) : Type 0 where
   pub index : Index ids nexts heads 0
   pub room : most ≤ length ids
   pub links : most ≤ length nexts
-
--- An index whose first n entries are the ids of a section's records.
-pub record Ids (ids nexts heads : List ℕ) (n : ℕ) (idAt : ℕ → ℕ) : Type 0 where
-  pub index : Index ids nexts heads n
-  pub same : (j : ℕ) → j < n → getD ids j 0 ≡ idAt j
 
 -- An id entered as the n-th entry, unless it was there.
 pub record Entered (ids nexts heads : List ℕ) (n id : ℕ) (was : Bool) (ids′ nexts′ heads′ : List ℕ) : Type 0 where

@@ -1,3 +1,6 @@
 // What a board is: its ids, chips, rows, groups and demands, and what turns it away.
+pub mod demands;
+pub mod groups;
 pub mod ids;
 pub mod refusals;
+pub mod rows;

@@ -23,7 +23,7 @@ use Rattle.routes.specs.Buffers.{brickRow, outward}
 use Rattle.routes.specs.Tables.{stopIn}
 use Rattle.routes.specs.declared.cells.Wanted.{Wanted}
 use Rattle.routes.specs.declared.cells.Wanted.the-variants.{Column, Beside}
-use Rattle.routes.specs.Chains.{bucketOf, halfOf, inward, rowBucket, brickBucket, stopBucket, nodeBucket, meets, brickMeets, stopClaims, nodeMeets, boardWith, inBucket, nearBuckets, Sound, BrickRows}
+use Rattle.routes.specs.Chains.{bucketOf, halfOf, inward, rowBucket, brickBucket, stopBucket, nodeBucket, meets, brickMeets, stopClaims, nodeMeets, boardWith, inBucket, nearBuckets, Sound, Fits, RowsOf, CellRows, BrickRows}
 use Rattle.routes.proofs.Walks.{and-first, and-second, and-true}
 use Rattle.routes.proofs.RowTests.{claims-there}
 
@@ -62,12 +62,12 @@ found-step : (t : Bool) (n : ℕ) (f : Found) → found (elim t [ true ↦ at n 
 found-step true n f = refl
 found-step false n f = refl
 
-pub any-rows : (f : Brick → Bool) (g : List ℕ → Bool) → ((k : Brick) → Sound k → g (brickRow k) ≡ f k) → (l : List Brick) (table : List (List ℕ)) → BrickRows l table
+pub any-rows : (P : Brick → Type 0) (f : Brick → Bool) (g : List ℕ → Bool) → ((k : Brick) → P k → g (brickRow k) ≡ f k) → (l : List Brick) (table : List (List ℕ)) → RowsOf P l table
     → any f l ≡ found (newest (λ i. g (getD table i [])) (length l))
-any-rows f g same [] table h = refl
-any-rows f g same (k ∷ l) table h =
+any-rows P f g same [] table h = refl
+any-rows P f g same (k ∷ l) table h =
     sym (found-step (g (getD table (length l) [])) (length l) (newest (λ i. g (getD table i [])) (length l))
-    ∙ ap₂ (λ x y. x || y) (ap g (h .0) ∙ same k (h .1)) (sym (any-rows f g same l table (h .2))))
+    ∙ ap₂ (λ x y. x || y) (ap g (h .0) ∙ same k (h .1)) (sym (any-rows P f g same l table (h .2))))
 
 pub any-view : (f : Stop → Bool) (table : List (List ℕ)) (n : ℕ) → any f (view stopIn table n) ≡ found (newest (λ i. f (stopIn (getD table i []))) n)
 any-view f table zero = refl
@@ -115,15 +115,15 @@ covered : (k p key x c : ℕ) → k ≡ bucketOf p key (halfOf c) → near x c �
 covered k p key x c e h = ap (λ v. eqb v (bucketOf p key ((x + 1) / 2)) || eqb v (bucketOf p key ((x + 3) / 2))) e ∙ near-buckets p key x c h
 
 -- Heads and links near x in a lane's column.
-column-covered : (p lane x : ℕ) (r : List ℕ) → (lane ≡ MISSING → ⊥) → meets (Column p lane x) r ≡ true
+column-covered : (p lane x : ℕ) (r : List ℕ) → getD r 9 0 ≡ MISSING → meets (Column p lane x) r ≡ true
     → eqb (rowBucket r) (bucketOf p lane ((x + 1) / 2)) || eqb (rowBucket r) (bucketOf p lane ((x + 3) / 2)) ≡ true
-column-covered p lane x r has e =
+column-covered p lane x r none′ e =
     let abc = and-first _ (near x (inward (getD r 0 0))) e in
     let ab = and-first (eqb (getD r 7 0) p && eqb (getD r 8 0) lane) _ abc in
     let page : getD r 7 0 ≡ p = eqb-true (getD r 7 0) p (and-first (eqb (getD r 7 0) p) (eqb (getD r 8 0) lane) ab) in
     let here : getD r 8 0 ≡ lane = eqb-true (getD r 8 0) lane (and-second (eqb (getD r 7 0) p) (eqb (getD r 8 0) lane) ab) in
     covered (rowBucket r) p lane x (inward (getD r 0 0))
-    (pick-false (eqb (getD r 8 0) MISSING) _ _ (ne-eqb _ _ (λ z. has (sym here ∙ z))) ∙ (λ i. bucketOf (page i) (here i) (halfOf (inward (getD r 0 0)))))
+    (pick-true (eqb (getD r 9 0) MISSING) _ _ (eq-eqb _ _ none′) ∙ (λ i. bucketOf (page i) (here i) (halfOf (inward (getD r 0 0)))))
     (and-second (eqb (getD r 7 0) p && eqb (getD r 8 0) lane && _) (near x (inward (getD r 0 0))) e)
 
 -- Cells beside a row that overlap a rerouter's.
@@ -133,15 +133,15 @@ overlap-near c d x y e =
     let abc = and-first (ltb x (c + 2) && ltb c (x + 2) && ltb y (d + 2)) (ltb d (y + 2)) e in
     and-true (ltb y (d + 2)) (ltb d (y + 2)) (and-second (ltb x (c + 2) && ltb c (x + 2)) (ltb y (d + 2)) abc) (and-second (ltb x (c + 2) && ltb c (x + 2) && ltb y (d + 2)) (ltb d (y + 2)) e)
 
-beside-covered : (p row x y : ℕ) (r : List ℕ) → getD r 8 0 ≡ MISSING → meets (Beside p row x y) r ≡ true
+beside-covered : (p row x y : ℕ) (r : List ℕ) → (row ≡ MISSING → ⊥) → meets (Beside p row x y) r ≡ true
     → eqb (rowBucket r) (bucketOf p row ((y + 1) / 2)) || eqb (rowBucket r) (bucketOf p row ((y + 3) / 2)) ≡ true
-beside-covered p row x y r none′ e =
+beside-covered p row x y r has e =
     let o : Bool = cellsOverlap (rerouterCell (inward (getD r 0 0)) (inward (getD r 1 0))) (rerouterCell x y) in
     let ab = and-first (eqb (getD r 7 0) p && eqb (getD r 9 0) row) o e in
     let page : getD r 7 0 ≡ p = eqb-true (getD r 7 0) p (and-first (eqb (getD r 7 0) p) (eqb (getD r 9 0) row) ab) in
     let here : getD r 9 0 ≡ row = eqb-true (getD r 9 0) row (and-second (eqb (getD r 7 0) p) (eqb (getD r 9 0) row) ab) in
     covered (rowBucket r) p row y (inward (getD r 1 0))
-    (pick-true (eqb (getD r 8 0) MISSING) _ _ (eq-eqb _ _ none′) ∙ (λ i. bucketOf (page i) (here i) (halfOf (inward (getD r 1 0)))))
+    (pick-false (eqb (getD r 9 0) MISSING) _ _ (ne-eqb _ _ (λ z. has (sym here ∙ z))) ∙ (λ i. bucketOf (page i) (here i) (halfOf (inward (getD r 1 0)))))
     (overlap-near (inward (getD r 0 0)) (inward (getD r 1 0)) x y (and-second (eqb (getD r 7 0) p && eqb (getD r 9 0) row) o e))
 
 -- Own levels near x in a lane's column.
@@ -166,10 +166,30 @@ module _ (stops : List (List ℕ)) (s : ℕ) (bus : Bus) (table : List (List ℕ
 
   bricks-asked : any (brickNear p lane x) (bus .bricks) ≡ nearBuckets (brickBucket table) (brickMeets table (Column p lane x)) n p lane x
   bricks-asked =
-      any-rows (brickNear p lane x) (meets (Column p lane x))
-      (λ k h. ap (λ c. eqb (k .page) p && eqb (k .lane) lane && (eqb (k .part) 2 || eqb (k .part) 3) && near x c) (inward-outward (k .x) (h .xFits))) (bus .bricks) table rows
+      any-rows Sound (brickNear p lane x) (meets (Column p lane x))
+      (λ k h. ap (λ c. eqb (k .page) p && eqb (k .lane) lane && (eqb (k .part) 2 || eqb (k .part) 3) && near x c) (inward-outward (k .x) (h .fits .xFits))) (bus .bricks) table rows
       ∙ ap (λ m. found (newest (brickMeets table (Column p lane x)) m)) (sym count)
-      ∙ two-buckets (brickMeets table (Column p lane x)) (brickBucket table) (bucketOf p lane ((x + 1) / 2)) (bucketOf p lane ((x + 3) / 2)) n (λ i h e. column-covered p lane x (getD table i []) has e)
+      ∙ two-buckets (brickMeets table (Column p lane x)) (brickBucket table) (bucketOf p lane ((x + 1) / 2)) (bucketOf p lane ((x + 3) / 2)) n
+      (λ i h e. column-covered p lane x (getD table i []) (rowless i (let c = count in omega arith) e) e)
+    where
+      rowless : (i : ℕ) → i < length (bus .bricks) → meets (Column p lane x) (getD table i []) ≡ true → getD (getD table i []) 9 0 ≡ MISSING
+      rowless i h e = go (eqb (getD (getD table i []) 9 0) MISSING) refl
+        where
+          r : List ℕ
+          r = getD table i []
+
+          is : RowIs table i
+          is = row-is (bus .bricks) table rows i h
+
+          there : getD r 8 0 ≡ lane
+          there =
+              let abc = and-first _ (near x (inward (getD r 0 0))) e in
+              eqb-true (getD r 8 0) lane (and-second (eqb (getD r 7 0) p) (eqb (getD r 8 0) lane) (and-first (eqb (getD r 7 0) p && eqb (getD r 8 0) lane) _ abc))
+
+          go : (t : Bool) → eqb (getD r 9 0) MISSING ≡ t → getD r 9 0 ≡ MISSING
+          go true f = eqb-true (getD r 9 0) MISSING f
+          go false f =
+              absurd (has (sym there ∙ (ap (λ v. getD v 8 0) (is .same) ∙ is .sound .oneOf (λ z. eqb-false (getD r 9 0) MISSING f (ap (λ v. getD v 9 0) (is .same) ∙ z)))))
 
   pub column-claimed : (t : Bool) → t ≡ nearBuckets (stopBucket stops) (stopClaims stops p lane x) s p lane x → t ≡ true → false ≡ columnFree (view stopIn stops s) bus p lane x
   unfolding columnFree unclaimed
@@ -202,7 +222,7 @@ and-no true u = refl
 and-no false u = refl
 
 module _ (b : Board) (bus : Bus) (nodes facts table : List (List ℕ)) (n p row x y : ℕ) (same : b .nodes ≡ nodes) (given : NodeFacts b facts)
-    (rows : BrickRows (bus .bricks) table) (count : n ≡ length (bus .bricks)) (hasPage : p ≡ MISSING → ⊥) (has : row ≡ MISSING → ⊥) where
+    (rows : CellRows (bus .bricks) table) (count : n ≡ length (bus .bricks)) (hasPage : p ≡ MISSING → ⊥) (has : row ≡ MISSING → ⊥) where
   nodes-asked : any (λ i. cellsOverlap (brickCell b i) (rerouterCell x y)) (bricksIn b p row) ≡ inBucket (nodeBucket nodes facts) (nodeMeets nodes facts p row x y) (length nodes) (bucketOf p row 0)
   unfolding bricksIn nodesOn brickCell
   nodes-asked =
@@ -230,18 +250,11 @@ module _ (b : Board) (bus : Bus) (nodes facts table : List (List ℕ)) (n p row 
 
   beside-asked : any (besideRow p row (rerouterCell x y)) (bus .bricks) ≡ nearBuckets (brickBucket table) (brickMeets table (Beside p row x y)) n p row y
   beside-asked =
-      any-rows (besideRow p row (rerouterCell x y)) (meets (Beside p row x y))
+      any-rows Fits (besideRow p row (rerouterCell x y)) (meets (Beside p row x y))
       (λ k h. ap₂ (λ c d. eqb (k .page) p && eqb (k .row) row && cellsOverlap (rerouterCell c d) (rerouterCell x y)) (inward-outward (k .x) (h .xFits)) (inward-outward (k .y) (h .yFits))) (bus .bricks) table rows
       ∙ ap (λ m. found (newest (brickMeets table (Beside p row x y)) m)) (sym count)
       ∙ two-buckets (brickMeets table (Beside p row x y)) (brickBucket table) (bucketOf p row ((y + 1) / 2)) (bucketOf p row ((y + 3) / 2)) n
-      (λ i h e. beside-covered p row x y (getD table i []) (laneless i (let c = count in omega arith) e) e)
-    where
-      laneless : (i : ℕ) → i < length (bus .bricks) → meets (Beside p row x y) (getD table i []) ≡ true → getD (getD table i []) 8 0 ≡ MISSING
-      laneless i h e =
-          let r = row-is (bus .bricks) table rows i h in
-          let ab = and-first (eqb (getD (getD table i []) 7 0) p && eqb (getD (getD table i []) 9 0) row) _ e in
-          let here : getD (getD table i []) 9 0 ≡ row = eqb-true _ row (and-second (eqb (getD (getD table i []) 7 0) p) (eqb (getD (getD table i []) 9 0) row) ab) in
-          ap (λ v. getD v 8 0) (r .same) ∙ r .sound .oneOf (λ z. has (sym here ∙ ap (λ v. getD v 9 0) (r .same) ∙ z))
+      (λ i h e. beside-covered p row x y (getD table i []) has e)
 
   pub row-taken : (t : Bool) → t ≡ inBucket (nodeBucket nodes facts) (nodeMeets nodes facts p row x y) (length nodes) (bucketOf p row 0) → t ≡ true
       → false ≡ clearOfRow b bus p row (rerouterCell x y)

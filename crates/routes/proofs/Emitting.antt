@@ -13,7 +13,7 @@ use Rattle.routes.specs.Bus
 use Rattle.routes.specs.Bus.{Bus, place, placedFeed}
 use Rattle.routes.specs.Rerouters
 use Rattle.routes.specs.Buffers.{brickRow}
-use Rattle.routes.specs.Chains.{BUCKETS, Walkable, rowBucket, brickBucket, BrickRows, Sound}
+use Rattle.routes.specs.Chains.{BUCKETS, Walkable, rowBucket, brickBucket, RowsOf, CellRows, BrickRows}
 use Rattle.routes.specs.Holding.{feedOf, brickOf, BusHeld}
 use Rattle.routes.specs.Emitting.{EmissionHeld, Ready, Spends, Becomes, PlacedOn, OnePlace, OneOf, hungOn, tappedOff, chainedOn}
 use Rattle.routes.specs.declared.bus.Feed.{Feed}
@@ -31,14 +31,19 @@ walkable-set table row nexts heads n w =
       chained = chained-same BUCKETS (brickBucket table) nexts heads n (w .chained) (brickBucket (set table n row)) (λ j h. ap rowBucket (sym (getD-set-other table n j row [] (λ z. omega arith))));
     }
 
-rows-kept : (l : List Bus.Brick) (table : List (List ℕ)) (n : ℕ) (row : List ℕ) → length l ≤ n → BrickRows l table → BrickRows l (set table n row)
-rows-kept [] table n row h rows = tt
-rows-kept (k ∷ l) table n row h rows =
-    (getD-set-other table n (length l) row [] (λ z. omega arith) ∙ rows .0, rows .1, rows-kept l table n row (omega arith) (rows .2))
+rows-kept : (P : Bus.Brick → Type 0) (l : List Bus.Brick) (table : List (List ℕ)) (n : ℕ) (row : List ℕ) → length l ≤ n → RowsOf P l table → RowsOf P l (set table n row)
+rows-kept P [] table n row h rows = tt
+rows-kept P (k ∷ l) table n row h rows =
+    (getD-set-other table n (length l) row [] (λ z. omega arith) ∙ rows .0, rows .1, rows-kept P l table n row (omega arith) (rows .2))
 
-pub rows-more : (l : List Bus.Brick) (table : List (List ℕ)) (k : Bus.Brick) (n : ℕ) → n ≡ length l → n < length table → Sound k → BrickRows l table → BrickRows (k ∷ l) (set table n (brickRow k))
-rows-more l table k n e room sound rows =
-    (ap (λ i. getD (set table n (brickRow k)) i []) (sym e) ∙ getD-set-same table n (brickRow k) [] room, sound, rows-kept l table n (brickRow k) (omega arith) rows)
+pub rows-more : (P : Bus.Brick → Type 0) (l : List Bus.Brick) (table : List (List ℕ)) (k : Bus.Brick) (n : ℕ) → n ≡ length l → n < length table → P k → RowsOf P l table → RowsOf P (k ∷ l) (set table n (brickRow k))
+rows-more P l table k n e room kind rows =
+    (ap (λ i. getD (set table n (brickRow k)) i []) (sym e) ∙ getD-set-same table n (brickRow k) [] room, kind, rows-kept P l table n (brickRow k) (omega arith) rows)
+
+-- The rows of our own plan are those of any.
+pub cell-rows : (l : List Bus.Brick) (table : List (List ℕ)) → BrickRows l table → CellRows l table
+cell-rows [] table rows = tt
+cell-rows (k ∷ l) table rows = (rows .0, rows .1 .fits, cell-rows l table (rows .2))
 
 -- What a brick leaves of the room: of an emission whose counts are one more, and each of whose feeds is an old one or the brick's.
 pub one-spent : (rerouters wires rerouters′ wires′ : List (List ℕ)) (nexts heads nexts′ heads′ : List ℕ) (e e′ : Emission)

@@ -22,7 +22,7 @@ use Rattle.routes.specs.Stops.{newGroup, newRow, newColumn}
 use Rattle.routes.specs.Levels.{Level, dropped, shared, own, laneFor}
 use Rattle.routes.specs.Rerouters.{source, chainRotation, levelHere}
 use Rattle.routes.specs.Tables.{levelIn, stopIn, GroupFacts, PageFacts}
-use Rattle.routes.specs.Emitting.{LaneOf, LaneRanges, RowHeld, LaneInRange, laneRead, rotationOver, rowOnPage, tapOf, tapRead, NewsOf, stopLevelOf, LevelRange, Tables, ReachedNext}
+use Rattle.routes.specs.Emitting.{LaneOf, LaneRanges, RowHeld, LaneInRange, laneRead, rotationOver, rowOnPage, tapOf, tapRead, NewsOf, stopLevelOf, LowLevel, Tables, ReachedNext}
 use Rattle.routes.specs.declared.emit.StopLevel.{StopLevel}
 use Rattle.routes.specs.declared.emit.StopLevel.the-variants.{Dropped, Shared, Own}
 use Rattle.routes.specs.declared.emit.News.{News}
@@ -228,9 +228,9 @@ lane-read pages nodes wires facts ends groups pageFacts page group y rotation ro
 
 -- A new row reaches the next stop.
 pub reach-next : (stops : List (List ℕ)) (r : Reached) (fresh : Bool) (level : StopLevel) → fresh ≡ true → stopLevelOf level ≡ stopIn (getD stops (r .stops) []) .level
-    → (field stops (r .stops) 5 < 4294967290 → LevelRange level) → ReachedNext stops r fresh (record { stops = r .stops + 1; level = level })
-reach-next stops r fresh level y e small =
+    → ReachedNext stops r fresh (record { stops = r .stops + 1; level = level })
+reach-next stops r fresh level y e =
     record {
       count = add-one (r .stops) ∙ sym (pick-true fresh (suc (r .stops)) (r .stops) y);
-      newest = λ h low. record { level = e ∙ ap (λ j. levelHere (view stopIn stops j)) (sym (add-one (r .stops))); range = small (low y) };
+      newest = λ h low. record { level = e ∙ ap (λ j. levelHere (view stopIn stops j)) (sym (add-one (r .stops))); range = subst LowLevel (sym e) (low y) };
     }

@@ -124,7 +124,7 @@ module _ (b : Board) where
     pub muting : (w : ℕ) → muted b bus w ≡ true → muted b r w ≡ true
 
   -- What turns later turned at the start.
-  turned-before : (bus r : Bus) (w : ℕ) → (muted b bus w ≡ true → muted b r w ≡ true) → turns b r w ≡ true → turns b bus w ≡ true
+  pub turned-before : (bus r : Bus) (w : ℕ) → (muted b bus w ≡ true → muted b r w ≡ true) → turns b r w ≡ true → turns b bus w ≡ true
   unfolding turns
   turned-before bus r w h e = go (muted b bus w) refl
     where

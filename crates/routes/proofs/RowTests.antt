@@ -21,19 +21,19 @@ use Rattle.routes.specs.declared.cells.Wanted.{Wanted}
 use Rattle.routes.specs.declared.cells.Wanted.the-variants.{Column, Beside}
 use Rattle.routes.specs.Chains.{BUCKETS, cellOf, bucketOf, halfOf, inward, rowBucket, meets, boardWith, nodeMeets, inBucket, nearBuckets}
 
--- The bucket of a rerouter without a lane, and of one with a lane.
-pub bucket-beside : (r : List ℕ) (y b : ℕ) → getD r 8 0 ≡ MISSING → y ≡ inward (getD r 1 0) → b ≡ bucketOf (getD r 7 0) (getD r 9 0) (halfOf y) → b ≡ rowBucket r
-bucket-beside r y b none′ e h =
-    h ∙ ap (λ v. bucketOf (getD r 7 0) (getD r 9 0) (halfOf v)) e ∙ sym (pick-true (eqb (getD r 8 0) MISSING) _ _ (eq-eqb _ _ none′))
+-- The bucket of a rerouter beside a row, and of one beside none.
+pub bucket-beside : (r : List ℕ) (y b : ℕ) → (getD r 9 0 ≡ MISSING → ⊥) → y ≡ inward (getD r 1 0) → b ≡ bucketOf (getD r 7 0) (getD r 9 0) (halfOf y) → b ≡ rowBucket r
+bucket-beside r y b has e h =
+    h ∙ ap (λ v. bucketOf (getD r 7 0) (getD r 9 0) (halfOf v)) e ∙ sym (pick-false (eqb (getD r 9 0) MISSING) _ _ (ne-eqb _ _ has))
 
-pub bucket-in-lane : (r : List ℕ) (x b : ℕ) → (getD r 8 0 ≡ MISSING → ⊥) → x ≡ inward (getD r 0 0) → b ≡ bucketOf (getD r 7 0) (getD r 8 0) (halfOf x) → b ≡ rowBucket r
-bucket-in-lane r x b lane e h =
-    h ∙ ap (λ v. bucketOf (getD r 7 0) (getD r 8 0) (halfOf v)) e ∙ sym (pick-false (eqb (getD r 8 0) MISSING) _ _ (ne-eqb _ _ lane))
+pub bucket-in-lane : (r : List ℕ) (x b : ℕ) → getD r 9 0 ≡ MISSING → x ≡ inward (getD r 0 0) → b ≡ bucketOf (getD r 7 0) (getD r 8 0) (halfOf x) → b ≡ rowBucket r
+bucket-in-lane r x b none′ e h =
+    h ∙ ap (λ v. bucketOf (getD r 7 0) (getD r 8 0) (halfOf v)) e ∙ sym (pick-true (eqb (getD r 9 0) MISSING) _ _ (eq-eqb _ _ none′))
 
 pub bucket-small : (r : List ℕ) → rowBucket r < BUCKETS
-bucket-small r = go (eqb (getD r 8 0) MISSING)
+bucket-small r = go (eqb (getD r 9 0) MISSING)
   where
-    go : (t : Bool) → elim t as (λ _. ℕ) [ true ↦ bucketOf (getD r 7 0) (getD r 9 0) (halfOf (inward (getD r 1 0))) | false ↦ bucketOf (getD r 7 0) (getD r 8 0) (halfOf (inward (getD r 0 0))) ] < BUCKETS
+    go : (t : Bool) → elim t as (λ _. ℕ) [ true ↦ bucketOf (getD r 7 0) (getD r 8 0) (halfOf (inward (getD r 0 0))) | false ↦ bucketOf (getD r 7 0) (getD r 9 0) (halfOf (inward (getD r 1 0))) ] < BUCKETS
     go true = omega arith
     go false = omega arith
 

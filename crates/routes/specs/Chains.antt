@@ -39,11 +39,11 @@ halfOf c = (c + 2) / 2
 abbrev pub inward : ℕ → ℕ
 inward c = (c + ORIGIN) % 4294967296
 
--- A rerouter's row is chained by its lane and x, or by its row and y where it has no lane.
+-- A rerouter is chained by the row it stands beside and its y, or by its lane and x where it stands beside no row.
 abbrev pub rowBucket : List ℕ → ℕ
 rowBucket r =
-    elim (eqb (getD r 8 0) MISSING)
-    [ true ↦ bucketOf (getD r 7 0) (getD r 9 0) (halfOf (inward (getD r 1 0))) | false ↦ bucketOf (getD r 7 0) (getD r 8 0) (halfOf (inward (getD r 0 0))) ]
+    elim (eqb (getD r 9 0) MISSING)
+    [ true ↦ bucketOf (getD r 7 0) (getD r 8 0) (halfOf (inward (getD r 0 0))) | false ↦ bucketOf (getD r 7 0) (getD r 9 0) (halfOf (inward (getD r 1 0))) ]
 
 abbrev pub brickBucket : List (List ℕ) → ℕ → ℕ
 brickBucket table i = rowBucket (getD table i [])
@@ -93,13 +93,24 @@ nearBuckets bucket test n page key c = inBucket bucket test n (bucketOf page key
 abbrev pub Empty : List ℕ → Type 0
 Empty heads = (BUCKETS ≤ length heads) × ((k : ℕ) → k < BUCKETS → getD heads k 0 ≡ 0)
 
--- What the rerouters' rows are chained by is what they hold: coordinates of 32 bits, and a lane or a row.
-pub record Sound (k : Brick) : Type 0 where
+-- A brick's coordinates are of 32 bits: so its row holds them,
+pub record Fits (k : Brick) : Type 0 where
   pub xFits : k .x < 4294967296
   pub yFits : k .y < 4294967296
+
+-- and where it has a row it has no lane: so a lane's column is found by its chains.
+pub record Sound (k : Brick) : Type 0 where
+  pub fits : Fits k
   pub oneOf : (k .row ≡ MISSING → ⊥) → k .lane ≡ MISSING
 
--- The table's rows are those of the bricks.
+-- The table's rows are those of bricks of a kind.
+abbrev pub RowsOf : (Brick → Type 0) → List Brick → List (List ℕ) → Type 0
+RowsOf P [] table = Unit {0}
+RowsOf P (k ∷ l) table = (getD table (length l) [] ≡ brickRow k) × P k × RowsOf P l table
+
+-- Those of any plan, whose cells can be asked for, and of our own, whose columns can be asked for too.
+abbrev pub CellRows : List Brick → List (List ℕ) → Type 0
+CellRows l table = RowsOf Fits l table
+
 abbrev pub BrickRows : List Brick → List (List ℕ) → Type 0
-BrickRows [] table = Unit {0}
-BrickRows (k ∷ l) table = (getD table (length l) [] ≡ brickRow k) × Sound k × BrickRows l table
+BrickRows l table = RowsOf Sound l table

@@ -21,7 +21,7 @@ use Rattle.routes.specs.Rerouters
 use Rattle.routes.specs.Rerouters.{source, chainRotation, startGroup, startRow, serve, levelHere}
 use Rattle.routes.specs.Stops.{newGroup, newRow, newColumn}
 use Rattle.routes.specs.Tables.{stopIn, GroupFacts, PageFacts}
-use Rattle.routes.specs.Chains.{BUCKETS, Walkable, brickBucket, BrickRows}
+use Rattle.routes.specs.Chains.{BUCKETS, Walkable, brickBucket, CellRows, BrickRows}
 use Rattle.routes.specs.Holding.{feedOf, brickOf, BusHeld}
 use Rattle.routes.specs.declared.bus.End.the-variants.{Port}
 use Rattle.routes.specs.declared.bus.Feed.{Feed}
@@ -134,6 +134,7 @@ pub record PlacedOn (rerouters wires : List (List ℕ)) (nexts heads : List ℕ)
   pub gives : feedOf (r .feed) ≡ record { end = Bus.rerouter (count .rerouters); depth = suc (feed .depth) }
   pub holds : (bus : Bus.Bus) (old oldWires : List (List ℕ)) → BusHeld bus old oldWires rerouters wires count → BusHeld (place bus (feedOf feed) (brickOf brick)) old oldWires rerouters′ wires′ (r .count)
   pub rows : (bus : Bus.Bus) → count .rerouters ≡ length (bus .bricks) → BrickRows (bus .bricks) rerouters → BrickRows (brickOf brick ∷ bus .bricks) rerouters′
+  pub cells : (bus : Bus.Bus) → count .rerouters ≡ length (bus .bricks) → CellRows (bus .bricks) rerouters → CellRows (brickOf brick ∷ bus .bricks) rerouters′
 
 -- The board that the tables are of, and the lane of the tap at hand.
 pub record Knows (b : Board) (ts : List Groups.Tap) (ps : List PageLanes) (t : Groups.Tap) (l : Lane) (nodes facts : List (List ℕ)) : Type 0 where
@@ -147,15 +148,19 @@ pub record LaneRanges (l : Lane) : Type 0 where
   pub lane : l .lane ≡ MISSING → ⊥
   pub sourceY : 5 ≤ l .«source_y»
 
--- A rerouter's place left of a tap is no negative number, and a tap has a row; a level is low enough for a link above it.
+-- A rerouter's place left of a tap is no negative number, and a tap has a row.
 pub record TapRanges (t : Tap) : Type 0 where
   pub y : 5 ≤ t .y
   pub row : t .row ≡ MISSING → ⊥
 
+-- A level of its own is low enough for a link above it.
+abbrev pub LowLevel : Levels.Level → Type 0
+LowLevel dropped = Unit {0}
+LowLevel (shared x) = Unit {0}
+LowLevel (own x) = x < 4294967290
+
 abbrev pub LevelRange : StopLevel → Type 0
-LevelRange Dropped = Unit {0}
-LevelRange (Shared x) = Unit {0}
-LevelRange (Own x) = x < 4294967290
+LevelRange l = LowLevel (stopLevelOf l)
 
 -- The emission where a group begins, and where a row shares the last tap.
 abbrev pub atPort : Emission → Lane → Emission
@@ -246,7 +251,7 @@ pub record AtStop (stops : List (List ℕ)) (r : Reached) : Type 0 where
 
 pub record ReachedNext (stops : List (List ℕ)) (r : Reached) (fresh : Bool) (r′ : Reached) : Type 0 where
   pub count : r′ .stops ≡ elim fresh [ true ↦ suc (r .stops) | false ↦ r .stops ]
-  pub newest : AtStop stops r → (fresh ≡ true → field stops (r .stops) 5 < 4294967290) → AtStop stops r′
+  pub newest : AtStop stops r → (fresh ≡ true → LowLevel (stopIn (getD stops (r .stops) []) .level)) → AtStop stops r′
 
 -- The board, its taps and its lanes are those that the tables hold.
 pub record Tables (b : Board) (ts : List Groups.Tap) (ps : List PageLanes) (pagesIn nodesIn wiresIn factsIn endsIn groupsIn pageFactsIn : List (List ℕ)) : Type 0 where
@@ -264,7 +269,7 @@ pub record NextInRange (laid : List (List ℕ)) (k : ℕ) (stops : List (List �
   pub tapRoom : 5 ≤ field laid k 3
   pub tapRow : field laid k 2 < MISSING
   pub atStop : AtStop stops r
-  pub nextStop : newRow (view tapIn laid k) (tapIn (getD laid k [])) ≡ true → (r .stops < length stops) × (field stops (r .stops) 5 < 4294967290)
+  pub nextStop : newRow (view tapIn laid k) (tapIn (getD laid k [])) ≡ true → (r .stops < length stops) × LowLevel (stopIn (getD stops (r .stops) []) .level)
 
 pub record WentOn (laid : List (List ℕ)) (k : ℕ) (stops : List (List ℕ)) (r r′ : Reached) : Type 0 where
   pub count : r′ .stops ≡ elim (newRow (view tapIn laid k) (tapIn (getD laid k []))) [ true ↦ suc (r .stops) | false ↦ r .stops ]
@@ -297,7 +302,7 @@ pub record LaidInRange (pages nodes wires facts ends groups pageFacts laid : Lis
   pub tapRoom : (k : ℕ) → k < n → 5 ≤ field laid k 3
   pub tapRow : (k : ℕ) → k < n → field laid k 2 < MISSING
   pub onStops : claims ≤ length stops
-  pub levels : (i : ℕ) → i < claims → field stops i 5 < 4294967290
+  pub levels : (i : ℕ) → i < claims → LowLevel (stopIn (getD stops i []) .level)
   pub aStopEach : rowsBegun (view tapIn laid n) ≡ claims
 
 -- "5W rerouters, 6W bus wires": room for five and six rows a tap.

@@ -15,7 +15,7 @@ ghost use Rattle.board.specs.Tables.{view, NodeFacts};
 ghost use Rattle.routes.specs.Bus.{Bus, clearOfRow};
 ghost use Rattle.routes.specs.Rerouters.{columnFree};
 ghost use Rattle.routes.specs.Tables.{stopIn};
-ghost use Rattle.routes.specs.Chains.{cellOf, inward as inwardOf, bucketOf, brickBucket, stopBucket, nodeBucket, nodeMeets, stopClaims, brickMeets, boardWith, Walkable, inBucket, nearBuckets, Empty, BrickRows};
+ghost use Rattle.routes.specs.Chains.{cellOf, inward as inwardOf, bucketOf, brickBucket, stopBucket, nodeBucket, nodeMeets, stopClaims, brickMeets, boardWith, Walkable, inBucket, nearBuckets, Empty, CellRows, BrickRows};
 
 // A cell, half-open; of 64 bits, so that no end wraps.
 pub struct Cell {
@@ -89,7 +89,7 @@ fn bucket_at(page: u32, key: u32, c: u32) -> usize
 }
 
 // One more entry, in front of its bucket's chain.
-fn chain(nexts: &mut [u32], heads: &mut [u32], k: usize, n: usize)
+pub fn chain(nexts: &mut [u32], heads: &mut [u32], k: usize, n: usize)
     requires { ⌜ (k < length (now heads)) × (n < length (now nexts)) × (n < 4294967295) ⌝ }
     ensures { λ _. ⌜ (now (nexts .exit) ≡ set (now (nexts .entry)) n (getD (now (heads .entry)) k 0)) × (now (heads .exit) ≡ set (now (heads .entry)) k (suc n)) ⌝ }
 {
@@ -102,12 +102,12 @@ fn brick_bucket(rerouters: &[[u32; 10]], i: usize) -> usize
     ensures { λ r. ⌜ r ≡ brickBucket (now (rerouters .entry)) i ⌝ }
 {
     let page = rerouters[i][7];
-    let lane = rerouters[i][8];
-    if lane == MISSING {
-        let row = rerouters[i][9];
-        return bucket_at(page, row, inward(rerouters[i][1]));
+    let row = rerouters[i][9];
+    if row == MISSING {
+        let lane = rerouters[i][8];
+        return bucket_at(page, lane, inward(rerouters[i][0]));
     }
-    bucket_at(page, lane, inward(rerouters[i][0]))
+    bucket_at(page, row, inward(rerouters[i][1]))
 }
 
 // Whether a rerouter is what is asked for.
@@ -281,7 +281,7 @@ fn cell_of_size(x: u32, y: u32, half_x: u32, half_y: u32) -> Cell
 }
 
 // "A brick's cell is x to x + 2 half x, y to y + 2 half y, halves swapped at rotations 1 and 3."
-fn brick_cell(nodes: &[[u32; 16]], i: usize) -> Cell
+pub fn brick_cell(nodes: &[[u32; 16]], i: usize) -> Cell
     requires { ⌜ i < length (now nodes) ⌝ }
     ensures { λ r. ⌜ cellOf r ≡ brickCell (boardWith (now (nodes .entry))) i ⌝ }
 {
@@ -447,7 +447,7 @@ pub fn row_clear(
     requires { ⌜ Walkable (nodeBucket (now nodes) (now facts)) (length (now facts)) (now «node_nexts») (now «node_heads») (length (now nodes)) ⌝ }
     requires { ⌜ Walkable (brickBucket (now rerouters)) (length (now rerouters)) (now nexts) (now heads) n ⌝ }
     requires { ⌜ (page ≡ 4294967295 → ⊥) × (row ≡ 4294967295 → ⊥) ⌝ }
-    ensures { λ r. ⌜ ((b : Board) (bus : Bus) → b .nodes ≡ now (nodes .entry) → NodeFacts b (now (facts .entry)) → BrickRows (bus .bricks) (now (rerouters .entry)) → n ≡ length (bus .bricks) → r ≡ clearOfRow b bus page row (rerouterCell x y)) ⌝ }
+    ensures { λ r. ⌜ ((b : Board) (bus : Bus) → b .nodes ≡ now (nodes .entry) → NodeFacts b (now (facts .entry)) → CellRows (bus .bricks) (now (rerouters .entry)) → n ≡ length (bus .bricks) → r ≡ clearOfRow b bus page row (rerouterCell x y)) ⌝ }
 {
     if node_there(
         nodes,

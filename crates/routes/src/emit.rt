@@ -128,7 +128,7 @@ fn row_brick(l: Lane, row: u32, x: u32, y: u32, rotation: u32, role: u32, part: 
 }
 
 // A brick placed: its row, its one bus wire, and its place among the rerouters' chains.
-fn place(
+pub fn place(
     rerouters: &mut [[u32; 10]],
     bus_wires: &mut [[u32; 6]],
     nexts: &mut [u32],
@@ -881,7 +881,6 @@ fn news_at(laid: &[[u32; 8]], k: usize) -> News
 fn level_at(stops: &[[u32; 8]], j: usize) -> StopLevel
     requires { ⌜ j < length (now stops) ⌝ }
     ensures { λ r. ⌜ stopLevelOf r ≡ stopIn (getD (now (stops .entry)) j []) .level ⌝ }
-    ensures { λ r. ⌜ (getD (getD (now (stops .entry)) j []) 5 0 < 4294967290 → LevelRange r) ⌝ }
 {
     let level = stops[j][5];
     let kind = stops[j][6];

@@ -140,7 +140,7 @@ fn is_free(
 }
 
 // Whether a rerouter at `level` ends within the row.
-fn is_within(level: u32, top: u32) -> bool
+pub fn is_within(level: u32, top: u32) -> bool
     ensures { λ r. ⌜ r ≡ leb (level + STAGGER_STEP) top ⌝ }
 {
     if top < level {
@@ -177,7 +177,7 @@ fn lowest_free(
     found
 }
 
-fn levels_in(base: u32, top: u32) -> u32
+pub fn levels_in(base: u32, top: u32) -> u32
     ensures { λ r. ⌜ r ≡ levelsIn base top ⌝ }
 {
     if top < base {

@@ -1,4 +1,4 @@
-// What is laid on a board: stops, levels, rerouters, bus wires, corners, and the plan as text.
+// What is laid on a board: stops, levels, rerouters, bus wires, and the plan as text.
 pub mod bus;
 pub mod cells;
 pub mod emit;

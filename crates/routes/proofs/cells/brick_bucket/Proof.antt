@@ -15,15 +15,6 @@ index-1-page c = search needs
 index-2-page : tie.Need-index-2-page
 index-2-page c = search needs
 
-mul-lane : tie.Need-mul-lane
-mul-lane c = search needs
-
-index-1-lane : tie.Need-index-1-lane
-index-1-lane c = search needs
-
-index-2-lane : tie.Need-index-2-lane
-index-2-lane c = search needs
-
 mul-row : tie.Need-mul-row
 mul-row c = search needs
 
@@ -32,6 +23,15 @@ index-1-row c = search needs
 
 index-2-row : tie.Need-index-2-row
 index-2-row c = search needs
+
+mul-lane : tie.Need-mul-lane
+mul-lane c = search needs
+
+index-1-lane : tie.Need-index-1-lane
+index-1-lane c = search needs
+
+index-2-lane : tie.Need-index-2-lane
+index-2-lane c = search needs
 
 mul-inward : tie.Need-mul-inward
 mul-inward c = search needs
@@ -49,7 +49,7 @@ bucket-at-requires : tie.Need-bucket-at-requires
 bucket-at-requires c κs = search needs
 
 returns : tie.Need-returns
-returns c = let a = c .before .before .before .before .before .before .before .args in bucket-beside (getD (a .rerouters .now) (a .i) []) _ _ (c .before .before .before .before .if1 .taken) (c .before .inward .ensures) (c .bucket-at .ensures)
+returns c = let a = c .before .before .before .before .before .before .before .args in bucket-in-lane (getD (a .rerouters .now) (a .i) []) _ _ (c .before .before .before .before .if1 .taken) (c .before .inward .ensures) (c .bucket-at .ensures)
 
 mul-inward-2 : tie.Need-mul-inward-2
 mul-inward-2 c = search needs
@@ -67,7 +67,7 @@ bucket-at-requires-2 : tie.Need-bucket-at-requires-2
 bucket-at-requires-2 c κs = search needs
 
 returns-2 : tie.Need-returns-2
-returns-2 c = let a = c .before .before .before .before .before .before .args in bucket-in-lane (getD (a .rerouters .now) (a .i) []) _ _ (c .before .before .before .if1 .left) (c .before .inward2 .ensures) (c .bucket-at2 .ensures)
+returns-2 c = let a = c .before .before .before .before .before .before .args in bucket-beside (getD (a .rerouters .now) (a .i) []) _ _ (c .before .before .before .if1 .left) (c .before .inward2 .ensures) (c .bucket-at2 .ensures)
 
 pub brick-bucket-spec : {M : Type 1} → statement M
 brick-bucket-spec =
@@ -76,12 +76,12 @@ brick-bucket-spec =
     mul-page
     index-1-page
     index-2-page
-    mul-lane
-    index-1-lane
-    index-2-lane
     mul-row
     index-1-row
     index-2-row
+    mul-lane
+    index-1-lane
+    index-2-lane
     mul-inward
     index-1-inward
     index-2-inward

@@ -25,13 +25,13 @@ index-2-kind : tie.Need-index-2-kind
 index-2-kind c = search needs
 
 returns : tie.Need-returns
-returns c = let a = c .before .before .before .args in (level-dropped (getD (a .stops .now) (a .j) []) (c .if1 .taken), λ h. tt)
+returns c = let a = c .before .before .before .args in level-dropped (getD (a .stops .now) (a .j) []) (c .if1 .taken)
 
 returns-2 : tie.Need-returns-2
-returns-2 c = let a = c .before .before .before .before .args in (level-shared (getD (a .stops .now) (a .j) []) (c .before .if1 .left) (c .if2 .taken), λ h. tt)
+returns-2 c = let a = c .before .before .before .before .args in level-shared (getD (a .stops .now) (a .j) []) (c .before .if1 .left) (c .if2 .taken)
 
 returns-3 : tie.Need-returns-3
-returns-3 c = let a = c .before .before .before .before .args in (level-own (getD (a .stops .now) (a .j) []) (c .before .if1 .left) (c .if2 .left), λ h. h)
+returns-3 c = let a = c .before .before .before .before .args in level-own (getD (a .stops .now) (a .j) []) (c .before .if1 .left) (c .if2 .left)
 
 pub level-at-spec : {M : Type 1} → statement M
 level-at-spec =

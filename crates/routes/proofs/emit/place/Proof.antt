@@ -1,12 +1,13 @@
 -- `place` meets its contract: the brick's row is written, then chained. Assumes nothing.
 use Rattle.routes.proofs.Emitting.{walkable-set, rows-more}
 use Rattle.routes.specs.Holding.{brickOf}
-use Rattle.routes.specs.Chains.{Walkable, brickBucket, BrickRows}
+use Rattle.routes.specs.Chains.{Walkable, brickBucket, RowsOf, Fits, Sound}
 use lib.ListN.{length}
 use native.Mathlib.Omega.{arith}
 use mathlib.Core.List.{List, _∷_}
-use mathlib.Core.Path.{sym, subst}
-use Prim.Native.Nat.{ℕ, _<_}
+use Rattle.routes.specs.Bus
+use mathlib.Core.Path.{_≡_, sym, subst}
+use Prim.Native.Nat.{ℕ}
 use borrow.Author.Needs.{needs}
 use Rattle.routes.proofs.emit.place.Statement.{statement}
 use Rattle.routes.proofs.emit.place.Tie as tie
@@ -37,8 +38,8 @@ same-length-3 c = search needs
 same-length-4 : tie.Need-same-length-4
 same-length-4 c = search needs
 
-brick-fits : (c : tie.Start) → (c .args .brick .x < 4294967296) × (c .args .brick .y < 4294967296)
-brick-fits c = let g = c .good .1 .1 .1 .1 .1 .1 .0 in (omega (arith, g), omega (arith, g))
+brick-fits : (c : tie.Start) → Fits (brickOf (c .args .brick))
+brick-fits c = let g = c .good .1 .1 .1 .1 .1 .1 .0 in record { xFits = omega (arith, g); yFits = omega (arith, g) }
 
 returns : tie.Need-returns
 returns c =
@@ -47,15 +48,18 @@ returns c =
     let s = p .before .before .before .before .before in
     let a = s .args in
     let h = p .push-bus-node .ensures in
+    let more : (P : Bus.Brick → Type 0) → P (brickOf (a .brick)) → (bus : Bus.Bus) → a .count .rerouters ≡ length (bus .bricks) → RowsOf P (bus .bricks) (a .rerouters .now)
+    → RowsOf P (brickOf (a .brick) ∷ bus .bricks) (p .push-bus-node .last .0) =
+    λ P kind bus e rows.
+    subst (λ (tb : List (List ℕ)). RowsOf P (brickOf (a .brick) ∷ bus .bricks) tb) (sym (h .row)) (rows-more P (bus .bricks) (a .rerouters .now) (brickOf (a .brick)) (a .count .rerouters) e (s .pre .brickRoom) kind rows) in
     record {
       walkable = subst (λ (n : ℕ). Walkable (brickBucket (p .push-bus-node .last .0)) (length (p .push-bus-node .last .0)) (k .book-brick .last .1 .0) (k .book-brick .last .1 .1 .0) n) (sym (h .brickCount)) (k .book-brick .ensures);
       brickCount = h .brickCount;
       wireCount = h .wireCount;
       gives = h .gives;
       holds = h .held;
-      rows = λ bus e rows.
-          subst (λ (tb : List (List ℕ)). BrickRows (brickOf (a .brick) ∷ bus .bricks) tb) (sym (h .row))
-          (rows-more (bus .bricks) (a .rerouters .now) (brickOf (a .brick)) (a .count .rerouters) e (s .pre .brickRoom) (record { xFits = brick-fits s .0; yFits = brick-fits s .1; oneOf = s .pre .oneOf }) rows);
+      rows = more Sound (record { fits = brick-fits s; oneOf = s .pre .oneOf });
+      cells = more Fits (brick-fits s);
     }
 
 pub place-spec : {M : Type 1} → statement M

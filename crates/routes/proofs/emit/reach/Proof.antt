@@ -12,7 +12,7 @@ add-t7 : tie.Need-add-t7
 add-t7 c = let h = c .before .before .pre (c .before .if1 .taken) in omega arith
 
 returns : tie.Need-returns
-returns c = let a = c .before .before .args in reach-next (a .stops .now) (a .reached) (a .fresh) (c .level-at .result) (c .before .if1 .taken) (c .level-at .ensures .0) (c .level-at .ensures .1)
+returns c = let a = c .before .before .args in reach-next (a .stops .now) (a .reached) (a .fresh) (c .level-at .result) (c .before .if1 .taken) (c .level-at .ensures)
 
 returns-2 : tie.Need-returns-2
 returns-2 c = search needs

@@ -1,4 +1,5 @@
 -- `with_gate_side` meets its contract. Assumes nothing.
+use Rattle.routes.proofs.Emitting.{cell-rows}
 use Rattle.routes.proofs.Steps.{spends-none, becomes-as, becomes-none, one-of-row, gate-stands, gate-left-out}
 use Rattle.routes.specs.Rerouters.{withGateSide}
 use Rattle.routes.specs.Emitting.{tapOf}
@@ -37,7 +38,7 @@ returns c =
       h .chain-on .ensures .0,
       λ b ts ps kn.
           becomes-as _ (λ s. withGateSide b ts ps s (tapOf (a .t)) (a .level)) _ _ _ _ _ _ (h .chain-on .ensures .1)
-          (λ s rows count. gate-stands b ts ps (tapOf (a .t)) (a .l) (kn .lane) (a .level) s _ (h .before .before .before .before .before .before .before .row-clear .ensures b (s .bus) (kn .same) (kn .rowFacts) rows count)
+          (λ s rows count. gate-stands b ts ps (tapOf (a .t)) (a .l) (kn .lane) (a .level) s _ (h .before .before .before .before .before .before .before .row-clear .ensures b (s .bus) (kn .same) (kn .rowFacts) (cell-rows (s .bus .bricks) (a .rerouters .now) rows) count)
           (h .before .row-brick .result) (h .before .row-brick .ensures) (h .before .before .before .before .before .before .if1 .taken)),
     )
 
@@ -56,7 +57,7 @@ returns-2 c =
       spends-none 1 1 (a .rerouters .now) (a .bus-wires .now) (a .nexts .now) (a .heads .now) (a .e),
       λ b ts ps kn.
           becomes-as (λ s. s) (λ s. withGateSide b ts ps s (tapOf (a .t)) (a .level)) (a .rerouters .now) (a .bus-wires .now) (a .rerouters .now) (a .bus-wires .now) (a .e) (a .e) (becomes-none (a .rerouters .now) (a .bus-wires .now) (a .e))
-          (λ s rows count. gate-left-out b ts ps (tapOf (a .t)) (a .l) (kn .lane) (a .level) s _ (c .before .row-clear .ensures b (s .bus) (kn .same) (kn .rowFacts) rows count) (c .if1 .left)),
+          (λ s rows count. gate-left-out b ts ps (tapOf (a .t)) (a .l) (kn .lane) (a .level) s _ (c .before .row-clear .ensures b (s .bus) (kn .same) (kn .rowFacts) (cell-rows (s .bus .bricks) (a .rerouters .now) rows) count) (c .if1 .left)),
     )
 
 pub with-gate-side-spec : {M : Type 1} → statement M

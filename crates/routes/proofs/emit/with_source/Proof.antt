@@ -1,4 +1,5 @@
 -- `with_source` meets its contract. Assumes nothing.
+use Rattle.routes.proofs.Emitting.{cell-rows}
 use Rattle.routes.proofs.Steps.{spends-none, becomes-as, becomes-none, one-of-row, source-unknown, source-stands, source-left-out}
 use Rattle.routes.specs.Rerouters.{withSource}
 use borrow.Author.Needs.{needs}
@@ -46,7 +47,7 @@ returns-2 c =
       h .hang-on .ensures .0,
       λ b ts ps t kn.
           becomes-as _ (λ s. withSource b ts ps s t) _ _ _ _ _ _ (h .hang-on .ensures .1)
-          (λ s rows count. source-stands b ts ps t (a .l) (kn .lane) s (h .before .before .before .before .before .before .before .before .before .before .before .before .before .if1 .left) _ (h .before .before .before .before .before .before .before .row-clear .ensures b (s .bus) (kn .same) (kn .rowFacts) rows count)
+          (λ s rows count. source-stands b ts ps t (a .l) (kn .lane) s (h .before .before .before .before .before .before .before .before .before .before .before .before .before .if1 .left) _ (h .before .before .before .before .before .before .before .row-clear .ensures b (s .bus) (kn .same) (kn .rowFacts) (cell-rows (s .bus .bricks) (a .rerouters .now) rows) count)
           (h .before .row-brick .result) (h .before .row-brick .ensures) (h .before .before .before .before .before .before .if2 .taken)),
     )
 
@@ -65,7 +66,7 @@ returns-3 c =
       spends-none 1 1 (a .rerouters .now) (a .bus-wires .now) (a .nexts .now) (a .heads .now) (a .e),
       λ b ts ps t kn.
           becomes-as (λ s. s) (λ s. withSource b ts ps s t) (a .rerouters .now) (a .bus-wires .now) (a .rerouters .now) (a .bus-wires .now) (a .e) (a .e) (becomes-none (a .rerouters .now) (a .bus-wires .now) (a .e))
-          (λ s rows count. source-left-out b ts ps t (a .l) (kn .lane) s (c .before .before .before .before .before .before .before .if1 .left) _ (c .before .row-clear .ensures b (s .bus) (kn .same) (kn .rowFacts) rows count) (c .if2 .left)),
+          (λ s rows count. source-left-out b ts ps t (a .l) (kn .lane) s (c .before .before .before .before .before .before .before .if1 .left) _ (c .before .row-clear .ensures b (s .bus) (kn .same) (kn .rowFacts) (cell-rows (s .bus .bricks) (a .rerouters .now) rows) count) (c .if2 .left)),
     )
 
 pub with-source-spec : {M : Type 1} → statement M

@@ -1,0 +1,4 @@
+pub mod CornerTables
+pub mod Handed
+pub mod Ports
+pub mod Turning

@@ -1,0 +1,678 @@
+// Corners (`lay_mini_bus`): a wire that goes down its own line's block turns once, beside its sink.
+use routes::bus::Brick;
+use routes::bus::BusCount;
+use routes::bus::End;
+use routes::bus::Feed;
+use routes::bus::MISSING;
+use routes::bus::NodeId;
+use routes::bus::push_delivery;
+use routes::cells::brick_cell;
+use routes::cells::row_clear;
+use routes::emit::place;
+use routes::levels::Level;
+use routes::levels::STAGGER_STEP;
+use routes::levels::is_within;
+use routes::levels::levels_in;
+use routes::marks::Mark;
+use routes::marks::add_mark;
+use routes::marks::count_of;
+use routes::marks::is_marked;
+ghost use mathlib.Core.Path.{_≡_};
+ghost use mathlib.Core.Bool.{true, false};
+ghost use mathlib.Core.List.{List, []};
+ghost use Prim.Native.Nat.{ℕ, suc, _<_, _≤_};
+ghost use lib.ListN.{length, getD};
+ghost use Rattle.board.specs.Lists.{none, at, keep, upto};
+ghost use Rattle.board.specs.Board.{Board, field};
+ghost use Rattle.board.specs.Groups.{anchorOf};
+ghost use Rattle.board.specs.Refusals.{bodyOf};
+ghost use Rattle.board.specs.Tables.{held};
+ghost use Rattle.routes.specs.Corners.{Cornering, turnsDown, cornerBrick, cornerLevel, cornerClear, sinkLoad, withCorner, turnWire, turns as turnsAt};
+ghost use Rattle.routes.specs.Levels.{levelsIn, lowest, lightest};
+ghost use Rattle.routes.specs.Chains.{Walkable, brickBucket, nodeBucket};
+ghost use Rattle.routes.specs.Holding.{brickOf};
+ghost use lib.Dec.{eqb};
+ghost use mathlib.Core.Bool.{not};
+ghost use Rattle.routes.specs.Bus.{Bus, muted as isMuted};
+ghost use Rattle.routes.specs.Laying.{levelAnswer};
+ghost use Rattle.corners.specs.CornerTables.{CornerStep, WireOf, TurnFacts, CornersLaid, begun, Tested, firsts, TestsFit, Turners, WireThere, EndsThere, TurnOf, turnRead, InReach, Askable, Asked, openCorner, RoomForCorner, CornerPlaced, laid, CornerReady, CornersHeld, CornerFits, CornerFacts, cornered};
+
+// What a corner goes by: where it may stand and what it looks like.
+pub struct Turn {
+    pub page: u32,
+    pub row: u32,
+    pub x: u32,
+    pub top: u32,
+    pub y: u32,
+    pub z: u32,
+    pub colour: NodeId,
+    pub sink: u32,
+}
+
+// How much of the buffers is written, and how many corners there are.
+pub struct CornerCount {
+    pub bus: BusCount,
+    pub corners: usize,
+}
+
+// A mark's third side: a level that a corner of the sink took.
+const AT_SINK: u32 = 2;
+
+const ROLE_LINE: u32 = 1;
+
+const PART_CORNER: u32 = 6;
+
+// "a target not at rotation 1; an end without a line, or two lines; an end without a row, or two pages; a source whose down is not less than the
+// sink's, or whose y is not greater" is passed over.
+fn turns_down(source: [u32; 16], sink: [u32; 16]) -> bool
+    ensures { λ r. ⌜ ((b : Board) (s t : ℕ) → getD (b .nodes) s [] ≡ source → getD (b .nodes) t [] ≡ sink → r ≡ turnsDown b s t) ⌝ }
+{
+    (sink[7] == 1)
+        & (source[12] != MISSING)
+        & (sink[12] != MISSING)
+        & (source[12] == sink[12])
+        & (source[10] != MISSING)
+        & (sink[10] != MISSING)
+        & (source[10] == sink[10])
+        & (source[11] < sink[11])
+        & (sink[9] < source[9])
+}
+
+// Whether the anchor of an end is that end's own body node.
+fn is_body(nodes: &[[u32; 16]], anchor: u32, id: u32) -> bool
+    ensures { λ r. ⌜ (r ≡ true → anchor < length (now (nodes .entry))) ⌝ }
+    ensures { λ r. ⌜ ((b : Board) → b .nodes ≡ now (nodes .entry) → anchor ≡ held (anchorOf b id) → bodyOf b id ≡ elim r [ true ↦ at anchor | false ↦ none ]) ⌝ }
+{
+    let i = anchor as usize;
+    if nodes.len() <= i {
+        return false;
+    }
+    nodes[i][1] == id
+}
+
+// Whether no corner of the sink took the level, and a corner's cell there is clear of the sink row's cells.
+fn is_open_corner(
+    nodes: &[[u32; 16]],
+    facts: &[[u32; 8]],
+    node_nexts: &[u32],
+    node_heads: &[u32],
+    rerouters: &[[u32; 10]],
+    nexts: &[u32],
+    heads: &[u32],
+    n: usize,
+    marks: &[[u32; 8]],
+    mark_heads: &[u32],
+    m: usize,
+    turn: Turn,
+    level: u32,
+) -> bool
+    requires { ⌜ Askable (now nodes) (now facts) (now rerouters) (now marks) (now «node_nexts») (now «node_heads») (now nexts) (now heads) (now «mark_heads») n m turn ⌝ }
+    ensures { λ r. ⌜ ((b : Board) (c : Cornering) (s t : ℕ) → Asked b c s t (now (nodes .entry)) (now (facts .entry)) (now (rerouters .entry)) (now (marks .entry)) n m turn
+        → r ≡ openCorner b c s t level) ⌝ }
+{
+    if is_marked(
+        marks,
+        mark_heads,
+        m,
+        Mark {
+            side: AT_SINK,
+            page: 0,
+            place: turn.sink,
+            level: level,
+        },
+    ) {
+        return false;
+    }
+    row_clear(
+        nodes,
+        facts,
+        node_nexts,
+        node_heads,
+        rerouters,
+        nexts,
+        heads,
+        n,
+        turn.page,
+        turn.row,
+        level,
+        turn.y,
+    )
+}
+
+// "the lowest not yet used by this sink's corners whose cell .. is clear of the sink row's cells", or none.
+fn lowest_corner(
+    nodes: &[[u32; 16]],
+    facts: &[[u32; 8]],
+    node_nexts: &[u32],
+    node_heads: &[u32],
+    rerouters: &[[u32; 10]],
+    nexts: &[u32],
+    heads: &[u32],
+    n: usize,
+    marks: &[[u32; 8]],
+    mark_heads: &[u32],
+    m: usize,
+    turn: Turn,
+) -> Level
+    requires { ⌜ Askable (now nodes) (now facts) (now rerouters) (now marks) (now «node_nexts») (now «node_heads») (now nexts) (now heads) (now «mark_heads») n m turn ⌝ }
+    ensures { λ r. ⌜ ((b : Board) (c : Cornering) (s t : ℕ) → Asked b c s t (now (nodes .entry)) (now (facts .entry)) (now (rerouters .entry)) (now (marks .entry)) n m turn
+        → r ≡ levelAnswer (lowest (openCorner b c s t) (turn .x) (levelsIn (turn .x) (turn .top)))) ⌝ }
+{
+    let top = turn.top;
+    let mut level = turn.x;
+    let found = loop {
+        if !is_within(level, top) {
+            break Level::None;
+        }
+        if is_open_corner(
+            nodes,
+            facts,
+            node_nexts,
+            node_heads,
+            rerouters,
+            nexts,
+            heads,
+            n,
+            marks,
+            mark_heads,
+            m,
+            turn,
+            level,
+        ) {
+            break Level::At(level);
+        }
+        level += STAGGER_STEP;
+    };
+    found
+}
+
+// "else the least loaded clear one, lower first", or none. It goes from the highest down, so that the last one taken is the lowest.
+fn least_loaded_corner(
+    nodes: &[[u32; 16]],
+    facts: &[[u32; 8]],
+    node_nexts: &[u32],
+    node_heads: &[u32],
+    rerouters: &[[u32; 10]],
+    nexts: &[u32],
+    heads: &[u32],
+    n: usize,
+    marks: &[[u32; 8]],
+    mark_heads: &[u32],
+    m: usize,
+    turn: Turn,
+) -> Level
+    requires { ⌜ Askable (now nodes) (now facts) (now rerouters) (now marks) (now «node_nexts») (now «node_heads») (now nexts) (now heads) (now «mark_heads») n m turn ⌝ }
+    ensures { λ r. ⌜ ((b : Board) (c : Cornering) (s t : ℕ) → Asked b c s t (now (nodes .entry)) (now (facts .entry)) (now (rerouters .entry)) (now (marks .entry)) n m turn
+        → r ≡ levelAnswer (lightest (cornerClear b (c .bus) s t) (sinkLoad b (c .taken) t) (turn .x) (levelsIn (turn .x) (turn .top)))) ⌝ }
+{
+    let base = turn.x;
+    let mut best = Level::None;
+    let mut least = MISSING;
+    let mut k = levels_in(base, turn.top);
+    while 0 < k {
+        k -= 1;
+        let level = base + STAGGER_STEP * k;
+        if row_clear(
+            nodes,
+            facts,
+            node_nexts,
+            node_heads,
+            rerouters,
+            nexts,
+            heads,
+            n,
+            turn.page,
+            turn.row,
+            level,
+            turn.y,
+        ) {
+            let load = count_of(
+                marks,
+                mark_heads,
+                m,
+                Mark {
+                    side: AT_SINK,
+                    page: 0,
+                    place: turn.sink,
+                    level: level,
+                },
+            );
+            if load <= least {
+                best = Level::At(level);
+                least = load;
+            }
+        }
+    }
+    best
+}
+
+// "the lowest ..; else the least loaded clear one, lower first; else no corner"
+fn corner_level(
+    nodes: &[[u32; 16]],
+    facts: &[[u32; 8]],
+    node_nexts: &[u32],
+    node_heads: &[u32],
+    rerouters: &[[u32; 10]],
+    nexts: &[u32],
+    heads: &[u32],
+    n: usize,
+    marks: &[[u32; 8]],
+    mark_heads: &[u32],
+    m: usize,
+    turn: Turn,
+) -> Level
+    requires { ⌜ Askable (now nodes) (now facts) (now rerouters) (now marks) (now «node_nexts») (now «node_heads») (now nexts) (now heads) (now «mark_heads») n m turn ⌝ }
+    ensures { λ r. ⌜ ((b : Board) (c : Cornering) (s t : ℕ) → Asked b c s t (now (nodes .entry)) (now (facts .entry)) (now (rerouters .entry)) (now (marks .entry)) n m turn
+        → r ≡ levelAnswer (cornerLevel b c s t)) ⌝ }
+{
+    if let Level::At(level) = lowest_corner(
+        nodes,
+        facts,
+        node_nexts,
+        node_heads,
+        rerouters,
+        nexts,
+        heads,
+        n,
+        marks,
+        mark_heads,
+        m,
+        turn,
+    ) {
+        return Level::At(level);
+    }
+    least_loaded_corner(
+        nodes,
+        facts,
+        node_nexts,
+        node_heads,
+        rerouters,
+        nexts,
+        heads,
+        n,
+        marks,
+        mark_heads,
+        m,
+        turn,
+    )
+}
+
+// A corner at a level: "at the level and the source's y", "with rotation 2, the page's z, the source node's colour".
+fn corner_brick(turn: Turn, level: u32) -> Brick
+    ensures { λ r. ⌜ (r .lane ≡ 4294967295) × ((b : Board) (s t : ℕ) → TurnOf b s t turn → brickOf r ≡ cornerBrick b s t level) ⌝ }
+{
+    let colour = turn.colour;
+    Brick {
+        x: level,
+        y: turn.y,
+        z: turn.z,
+        rotation: 2,
+        role: ROLE_LINE,
+        part: PART_CORNER,
+        colour: colour,
+        page: turn.page,
+        lane: MISSING,
+        row: turn.row,
+    }
+}
+
+// What a corner from node s into node t goes by.
+fn turn_of(pages: &[[u32; 16]], nodes: &[[u32; 16]], facts: &[[u32; 8]], s: u32, t: u32) -> Turn
+    requires { ⌜ InReach (now pages) (now nodes) (now facts) s t ⌝ }
+    ensures { λ r. ⌜ r ≡ turnRead (now (pages .entry)) (now (nodes .entry)) (now (facts .entry)) s t ⌝ }
+{
+    let i = t as usize;
+    let source = nodes[s as usize];
+    let sink = nodes[i];
+    let page = sink[10] as usize;
+    let cell = brick_cell(nodes, i);
+    Turn {
+        page: sink[10],
+        row: facts[i][0],
+        x: sink[8],
+        top: cell.x1 as u32,
+        y: source[9],
+        z: pages[page][2],
+        colour: NodeId(source[1]),
+        sink: t,
+    }
+}
+
+// "the source port feeds it, it feeds the target"
+fn place_corner(
+    rerouters: &mut [[u32; 10]],
+    bus_wires: &mut [[u32; 6]],
+    nexts: &mut [u32],
+    heads: &mut [u32],
+    count: BusCount,
+    wire: [u32; 16],
+    w: u32,
+    brick: Brick,
+) -> BusCount
+    requires { ⌜ RoomForCorner (now rerouters) (now «bus_wires») (now nexts) (now heads) count ⌝ }
+    requires { ⌜ brick .lane ≡ 4294967295 ⌝ }
+    ensures { λ r. ⌜ CornerPlaced (now (rerouters .entry)) (now («bus_wires» .entry)) count wire w brick (now (rerouters .exit)) (now («bus_wires» .exit)) (now (nexts .exit)) (now (heads .exit)) r ⌝ }
+{
+    let feed = Feed {
+        end: End::Port {
+            node: NodeId(wire[1]),
+            port: wire[2],
+        },
+        depth: 0,
+    };
+    let placed = place(rerouters, bus_wires, nexts, heads, count, feed, brick);
+    push_delivery(
+        bus_wires,
+        placed.count,
+        placed.feed,
+        NodeId(wire[3]),
+        wire[4],
+        w,
+    )
+}
+
+// `turns_down` of two nodes.
+fn goes_down(nodes: &[[u32; 16]], s: u32, t: u32) -> bool
+    requires { ⌜ (s < length (now nodes)) × (t < length (now nodes)) ⌝ }
+    ensures { λ r. ⌜ ((b : Board) → b .nodes ≡ now (nodes .entry) → r ≡ turnsDown b s t) ⌝ }
+{
+    turns_down(nodes[s as usize], nodes[t as usize])
+}
+
+// Whether a wire passes every test but that a level is found.
+fn turns(
+    nodes: &[[u32; 16]],
+    wires: &[[u32; 16]],
+    ends: &[[u32; 8]],
+    classes: &[u32],
+    muted: &[u32],
+    w: usize,
+) -> bool
+    requires { ⌜ WireThere (now wires) (now ends) (now classes) (now muted) w ⌝ }
+    ensures { λ r. ⌜ (r ≡ true → EndsThere (now (nodes .entry)) (now (ends .entry)) w) ⌝ }
+    ensures { λ r. ⌜ ((b : Board) (c : Cornering) (pages facts : List (List ℕ)) → CornerFacts b pages (now (nodes .entry)) (now (wires .entry)) facts (now (ends .entry)) (now (classes .entry))
+        → eqb (getD (now (muted .entry)) (getD (now (classes .entry)) w 0) 0) 0 ≡ not (isMuted b (c .bus) w)
+        → Tested b c w (field (now (ends .entry)) w 0) (field (now (ends .entry)) w 1) r) ⌝ }
+{
+    if ends[w][2] != 1 {
+        return false;
+    }
+    let class = classes[w] as usize;
+    if muted[class] != 0 {
+        return false;
+    }
+    let s = ends[w][0];
+    let t = ends[w][1];
+    if !is_body(nodes, s, wires[w][1]) {
+        return false;
+    }
+    if !is_body(nodes, t, wires[w][3]) {
+        return false;
+    }
+    goes_down(nodes, s, t)
+}
+
+// "A corner joins both lists ..; the source port feeds it, it feeds the target, whose port is suppressed."
+fn with_corner(
+    rerouters: &mut [[u32; 10]],
+    bus_wires: &mut [[u32; 6]],
+    nexts: &mut [u32],
+    heads: &mut [u32],
+    marks: &mut [[u32; 8]],
+    mark_heads: &mut [u32],
+    muted: &mut [u32],
+    count: CornerCount,
+    wire: [u32; 16],
+    w: u32,
+    class: usize,
+    turn: Turn,
+    level: u32,
+) -> CornerCount
+    requires { ⌜ CornerReady 1 (laid (now rerouters) (now «bus_wires») (now nexts) (now heads) (now marks) (now «mark_heads») (now muted) count) ⌝ }
+    requires { ⌜ class < length (now muted) ⌝ }
+    ensures { λ r. ⌜ ((s t : ℕ) (classes : List ℕ) → CornerStep (λ b c. withCorner b c w s t level) classes (λ b. WireOf b wire w class classes × TurnOf b s t turn) (laid (now (rerouters .entry)) (now («bus_wires» .entry)) (now (nexts .entry)) (now (heads .entry)) (now (marks .entry)) (now («mark_heads» .entry)) (now (muted .entry)) count) (laid (now (rerouters .exit)) (now («bus_wires» .exit)) (now (nexts .exit)) (now (heads .exit)) (now (marks .exit)) (now («mark_heads» .exit)) (now (muted .exit)) r)) ⌝ }
+{
+    let corners = count.corners;
+    let bus = place_corner(
+        rerouters,
+        bus_wires,
+        nexts,
+        heads,
+        count.bus,
+        wire,
+        w,
+        corner_brick(turn, level),
+    );
+    add_mark(
+        marks,
+        mark_heads,
+        corners,
+        Mark {
+            side: AT_SINK,
+            page: 0,
+            place: turn.sink,
+            level: level,
+        },
+    );
+    muted[class] = 1;
+    CornerCount {
+        bus: bus,
+        corners: corners + 1,
+    }
+}
+
+// The corner of a wire with source s and sink t, where a level is found.
+fn lay_corner(
+    pages: &[[u32; 16]],
+    nodes: &[[u32; 16]],
+    facts: &[[u32; 8]],
+    node_nexts: &[u32],
+    node_heads: &[u32],
+    rerouters: &mut [[u32; 10]],
+    bus_wires: &mut [[u32; 6]],
+    nexts: &mut [u32],
+    heads: &mut [u32],
+    marks: &mut [[u32; 8]],
+    mark_heads: &mut [u32],
+    muted: &mut [u32],
+    count: CornerCount,
+    wire: [u32; 16],
+    w: u32,
+    class: usize,
+    s: u32,
+    t: u32,
+) -> CornerCount
+    requires { ⌜ InReach (now pages) (now nodes) (now facts) s t ⌝ }
+    requires { ⌜ Walkable (nodeBucket (now nodes) (now facts)) (length (now facts)) (now «node_nexts») (now «node_heads») (length (now nodes)) ⌝ }
+    requires { ⌜ CornerReady 1 (laid (now rerouters) (now «bus_wires») (now nexts) (now heads) (now marks) (now «mark_heads») (now muted) count) ⌝ }
+    requires { ⌜ class < length (now muted) ⌝ }
+    ensures { λ r. ⌜ ((classes : List ℕ) → CornerStep (λ b c. cornered b c w s t) classes (λ b. WireOf b wire w class classes × TurnFacts b (now (pages .entry)) (now (nodes .entry)) (now (facts .entry)) t) (laid (now (rerouters .entry)) (now («bus_wires» .entry)) (now (nexts .entry)) (now (heads .entry)) (now (marks .entry)) (now («mark_heads» .entry)) (now (muted .entry)) count) (laid (now (rerouters .exit)) (now («bus_wires» .exit)) (now (nexts .exit)) (now (heads .exit)) (now (marks .exit)) (now («mark_heads» .exit)) (now (muted .exit)) r)) ⌝ }
+{
+    let turn = turn_of(pages, nodes, facts, s, t);
+    let bus = count.bus;
+    match corner_level(
+        nodes,
+        facts,
+        node_nexts,
+        node_heads,
+        rerouters,
+        nexts,
+        heads,
+        bus.rerouters,
+        marks,
+        mark_heads,
+        count.corners,
+        turn,
+    ) {
+        Level::At(level) => with_corner(
+            rerouters,
+            bus_wires,
+            nexts,
+            heads,
+            marks,
+            mark_heads,
+            muted,
+            count,
+            wire,
+            w,
+            class,
+            turn,
+            level,
+        ),
+        Level::None => count,
+    }
+}
+
+// "over wires in order": the corner of wire w, where it passes the tests and a level is found.
+fn turn_wire(
+    pages: &[[u32; 16]],
+    nodes: &[[u32; 16]],
+    wires: &[[u32; 16]],
+    facts: &[[u32; 8]],
+    ends: &[[u32; 8]],
+    classes: &[u32],
+    node_nexts: &[u32],
+    node_heads: &[u32],
+    rerouters: &mut [[u32; 10]],
+    bus_wires: &mut [[u32; 6]],
+    nexts: &mut [u32],
+    heads: &mut [u32],
+    marks: &mut [[u32; 8]],
+    mark_heads: &mut [u32],
+    muted: &mut [u32],
+    count: CornerCount,
+    w: usize,
+) -> CornerCount
+    requires { ⌜ CornerFits (now pages) (now nodes) (now wires) (now facts) (now ends) (now classes) (now «node_nexts») (now «node_heads») (now muted) ⌝ }
+    requires { ⌜ CornerReady 1 (laid (now rerouters) (now «bus_wires») (now nexts) (now heads) (now marks) (now «mark_heads») (now muted) count) ⌝ }
+    requires { ⌜ w < length (now wires) ⌝ }
+    ensures { λ r. ⌜ CornerStep (λ b c. turnWire b c w) (now (classes .entry)) (λ b. CornerFacts b (now (pages .entry)) (now (nodes .entry)) (now (wires .entry)) (now (facts .entry)) (now (ends .entry)) (now (classes .entry))) (laid (now (rerouters .entry)) (now («bus_wires» .entry)) (now (nexts .entry)) (now (heads .entry)) (now (marks .entry)) (now («mark_heads» .entry)) (now (muted .entry)) count) (laid (now (rerouters .exit)) (now («bus_wires» .exit)) (now (nexts .exit)) (now (heads .exit)) (now (marks .exit)) (now («mark_heads» .exit)) (now (muted .exit)) r) ⌝ }
+{
+    if !turns(nodes, wires, ends, classes, muted, w) {
+        return count;
+    }
+    let class = classes[w] as usize;
+    lay_corner(
+        pages,
+        nodes,
+        facts,
+        node_nexts,
+        node_heads,
+        rerouters,
+        bus_wires,
+        nexts,
+        heads,
+        marks,
+        mark_heads,
+        muted,
+        count,
+        wires[w],
+        w as u32,
+        class,
+        ends[w][0],
+        ends[w][1],
+    )
+}
+
+// Wire w, where it turns, behind the n found so far.
+fn note_turn(
+    nodes: &[[u32; 16]],
+    wires: &[[u32; 16]],
+    ends: &[[u32; 8]],
+    classes: &[u32],
+    muted: &[u32],
+    list: &mut [u32],
+    n: usize,
+    w: usize,
+) -> usize
+    requires { ⌜ TestsFit (now wires) (now ends) (now classes) (now muted) (now list) ⌝ }
+    requires { ⌜ Turners (now nodes) (now wires) (now ends) (now classes) (now muted) (now list) n w ⌝ }
+    requires { ⌜ w < length (now wires) ⌝ }
+    ensures { λ r. ⌜ Turners (now (nodes .entry)) (now (wires .entry)) (now (ends .entry)) (now (classes .entry)) (now (muted .entry)) (now (list .exit)) r (suc w) ⌝ }
+{
+    if !turns(nodes, wires, ends, classes, muted, w) {
+        return n;
+    }
+    list[n] = w as u32;
+    n + 1
+}
+
+// The wires that pass the tests at the start, in order. No other ever does, since a port suppressed stays so.
+pub fn find_turns(
+    nodes: &[[u32; 16]],
+    wires: &[[u32; 16]],
+    ends: &[[u32; 8]],
+    classes: &[u32],
+    muted: &[u32],
+    list: &mut [u32],
+) -> usize
+    requires { ⌜ TestsFit (now wires) (now ends) (now classes) (now muted) (now list) ⌝ }
+    ensures { λ r. ⌜ Turners (now (nodes .entry)) (now (wires .entry)) (now (ends .entry)) (now (classes .entry)) (now (muted .entry)) (now (list .exit)) r (length (now (wires .entry))) ⌝ }
+{
+    let mut n: usize = 0;
+    let mut w: usize = 0;
+    while w < wires.len() {
+        n = note_turn(nodes, wires, ends, classes, muted, list, n, w);
+        w += 1;
+    }
+    n
+}
+
+// `lay_mini_bus`: the corners of the n wires that turn, in order.
+pub fn lay_corners(
+    pages: &[[u32; 16]],
+    nodes: &[[u32; 16]],
+    wires: &[[u32; 16]],
+    facts: &[[u32; 8]],
+    ends: &[[u32; 8]],
+    classes: &[u32],
+    node_nexts: &[u32],
+    node_heads: &[u32],
+    list: &[u32],
+    n: usize,
+    rerouters: &mut [[u32; 10]],
+    bus_wires: &mut [[u32; 6]],
+    nexts: &mut [u32],
+    heads: &mut [u32],
+    marks: &mut [[u32; 8]],
+    mark_heads: &mut [u32],
+    muted: &mut [u32],
+    count: BusCount,
+) -> BusCount
+    requires { ⌜ CornerFits (now pages) (now nodes) (now wires) (now facts) (now ends) (now classes) (now «node_nexts») (now «node_heads») (now muted) ⌝ }
+    requires { ⌜ CornerReady n (laid (now rerouters) (now «bus_wires») (now nexts) (now heads) (now marks) (now «mark_heads») (now muted) (record { bus = count; corners = 0 })) ⌝ }
+    requires { ⌜ (n ≤ length (now list)) × ((k : ℕ) → k < n → getD (now list) k 0 < length (now wires)) ⌝ }
+    ensures { λ r. ⌜ Walkable (brickBucket (now (rerouters .exit))) (length (now (rerouters .exit))) (now (nexts .exit)) (now (heads .exit)) (r .rerouters) ⌝ }
+    ensures { λ r. ⌜ ((b : Board) (bus : Bus) (old oldWires : List (List ℕ)) → CornerFacts b (now (pages .entry)) (now (nodes .entry)) (now (wires .entry)) (now (facts .entry)) (now (ends .entry)) (now (classes .entry)) → CornersHeld b (begun bus) old oldWires (now (classes .entry)) (laid (now (rerouters .entry)) (now («bus_wires» .entry)) (now (nexts .entry)) (now (heads .entry)) (now (marks .entry)) (now («mark_heads» .entry)) (now (muted .entry)) (record { bus = count; corners = 0 }))
+        → firsts (now (list .entry)) n ≡ keep (turnsAt b bus) (upto (length (b .wires))) → CornersLaid b bus old oldWires (now (rerouters .exit)) (now («bus_wires» .exit)) r) ⌝ }
+{
+    let mut done = CornerCount {
+        bus: count,
+        corners: 0,
+    };
+    let mut k: usize = 0;
+    while k < n {
+        let w = list[k] as usize;
+        done = turn_wire(
+            pages,
+            nodes,
+            wires,
+            facts,
+            ends,
+            classes,
+            node_nexts,
+            node_heads,
+            rerouters,
+            bus_wires,
+            nexts,
+            heads,
+            marks,
+            mark_heads,
+            muted,
+            done,
+            w,
+        );
+        k += 1;
+    }
+    done.bus
+}

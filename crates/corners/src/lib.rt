@@ -1,0 +1,4 @@
+// `lay_mini_bus` on tables: the wires that turn, and a corner for each.
+pub mod lay;
+pub mod ports;
+pub mod turn;

@@ -1,0 +1,206 @@
+// `lay_mini_bus` in one call: the tables of a board, and a bus as it is handed in.
+use crate::lay::find_turns;
+use crate::lay::lay_corners;
+use crate::ports::class_ports;
+use crate::ports::flag_ports;
+use routes::bus::BusCount;
+use routes::cells::book_brick;
+use routes::cells::book_nodes;
+ghost use mathlib.Core.Path.{_≡_};
+ghost use mathlib.Core.List.{List};
+ghost use Prim.Native.Nat.{ℕ, _<_, _≤_};
+ghost use lib.ListN.{length, getD};
+ghost use Rattle.board.specs.Board.{Board};
+ghost use Rattle.routes.specs.Bus.{Bus};
+ghost use Rattle.board.specs.Lists.{keep, upto};
+ghost use Rattle.routes.specs.Chains.{Walkable, Empty, brickBucket, CellRows};
+ghost use Rattle.routes.specs.Corners.{turns, corners};
+ghost use Rattle.routes.specs.Holding.{BusHeld};
+ghost use Rattle.corners.specs.CornerTables.{CornerFacts, Flagged, firsts};
+ghost use Rattle.corners.specs.Handed.{Row, Rows, busIn, Mutes, Handed};
+ghost use Rattle.corners.specs.Turning.{hasRoom as hasRoomFor, BoardOf, BoardFits, Lent, Found, LayFits, TurnedAs, TurnedFrom};
+
+// No room for all that may turn, or the counts with the corners laid.
+pub enum Turned {
+    Short,
+    Laid(BusCount),
+}
+
+// A row passed by value is known to be so many numbers of 32 bits: what is read off a buffer is then what is written there.
+fn know_brick(row: [u32; 10])
+    ensures { λ _. ⌜ Row 10 row ⌝ }
+{}
+
+fn know_wire(row: [u32; 6])
+    ensures { λ _. ⌜ Row 6 row ⌝ }
+{}
+
+fn know_wires(bus_wires: &[[u32; 6]], k: usize)
+    requires { ⌜ k ≤ length (now «bus_wires») ⌝ }
+    ensures { λ _. ⌜ Rows 6 (now («bus_wires» .entry)) k ⌝ }
+{
+    let mut i: usize = 0;
+    while i < k {
+        know_wire(bus_wires[i]);
+        i += 1;
+    }
+}
+
+// The first n rerouters, chained.
+fn book_rerouters(rerouters: &[[u32; 10]], n: usize, nexts: &mut [u32], heads: &mut [u32])
+    requires { ⌜ Empty (now heads) ⌝ }
+    requires { ⌜ (n ≤ length (now rerouters)) × (n ≤ length (now nexts)) × (n < 4294967295) ⌝ }
+    ensures { λ _. ⌜ Walkable (brickBucket (now (rerouters .entry))) (length (now (rerouters .entry))) (now (nexts .exit)) (now (heads .exit)) n ⌝ }
+    ensures { λ _. ⌜ Rows 10 (now (rerouters .entry)) n ⌝ }
+{
+    let mut i: usize = 0;
+    while i < n {
+        know_brick(rerouters[i]);
+        book_brick(rerouters, nexts, heads, i);
+        i += 1;
+    }
+}
+
+// "5W rerouters, 6W bus wires, W suppressed ports": whether there is room for so many corners.
+fn has_room(wires: usize, n: usize, k: usize, u: usize, turning: usize) -> bool
+    requires { ⌜ (wires ≤ 8192) × (turning ≤ wires) × (n < 9223372036854775808) × (k < 9223372036854775808) × (u < 9223372036854775808) ⌝ }
+    ensures { λ r. ⌜ r ≡ hasRoomFor wires n k u turning ⌝ }
+{
+    (n + turning <= 5 * wires) & (k + 2 * turning <= 6 * wires) & (u + turning <= wires)
+}
+
+// The classes of the wires, the flags of the ports handed in, and the wires that turn.
+fn find_turners(
+    nodes: &[[u32; 16]],
+    wires: &[[u32; 16]],
+    ends: &[[u32; 8]],
+    ports: &[[u32; 2]],
+    u: usize,
+    classes: &mut [u32],
+    flags: &mut [u32],
+    list: &mut [u32],
+) -> usize
+    requires { ⌜ (length (now wires) ≤ 8192) × (length (now wires) ≤ length (now ends)) × (u ≤ length (now ports)) ⌝ }
+    requires { ⌜ (length (now wires) ≤ length (now classes)) × (length (now wires) ≤ length (now flags)) × (length (now wires) ≤ length (now list)) ⌝ }
+    requires { ⌜ ((k : ℕ) → k < length (now wires) → getD (now flags) k 0 ≡ 0) ⌝ }
+    ensures { λ r. ⌜ Found (now (nodes .entry)) (now (wires .entry)) (now (ends .entry)) (now (ports .entry)) u (now (classes .exit)) (now (flags .exit)) (now (list .exit)) r ⌝ }
+{
+    let mut nexts = [0u32; 8192];
+    let mut heads = [0u32; 8192];
+    class_ports(wires, classes, &mut nexts, &mut heads);
+    flag_ports(wires, classes, &nexts, &heads, ports, u, flags);
+    find_turns(nodes, wires, ends, classes, flags, list)
+}
+
+// The corners of the `turning` wires in the list.
+fn lay_turners(
+    pages: &[[u32; 16]],
+    nodes: &[[u32; 16]],
+    wires: &[[u32; 16]],
+    facts: &[[u32; 8]],
+    ends: &[[u32; 8]],
+    classes: &[u32],
+    list: &[u32],
+    turning: usize,
+    rerouters: &mut [[u32; 10]],
+    bus_wires: &mut [[u32; 6]],
+    marks: &mut [[u32; 8]],
+    flags: &mut [u32],
+    count: BusCount,
+) -> BusCount
+    requires { ⌜ BoardFits (now pages) (now nodes) (now wires) (now facts) (now ends) ⌝ }
+    requires { ⌜ LayFits (now wires) (now rerouters) (now «bus_wires») (now marks) (now classes) (now flags) (now list) turning count ⌝ }
+    ensures { λ r. ⌜ Rows 10 (now (rerouters .entry)) (count .rerouters) ⌝ }
+    ensures { λ r. ⌜ ((b : Board) (bus : Bus) (old oldWires : List (List ℕ)) → CornerFacts b (now (pages .entry)) (now (nodes .entry)) (now (wires .entry)) (now (facts .entry)) (now (ends .entry)) (now (classes .entry))
+        → BusHeld bus old oldWires (now (rerouters .entry)) (now («bus_wires» .entry)) count → CellRows (bus .bricks) (now (rerouters .entry)) → Flagged b bus (now (classes .entry)) (now (flags .entry))
+        → firsts (now (list .entry)) turning ≡ keep (turns b bus) (upto (length (b .wires))) → BusHeld (corners b bus) old oldWires (now (rerouters .exit)) (now («bus_wires» .exit)) r) ⌝ }
+{
+    let n = count.rerouters;
+    let mut node_nexts = [0u32; 4096];
+    let mut node_heads = [0u32; 8192];
+    book_nodes(nodes, facts, &mut node_nexts, &mut node_heads);
+    let mut nexts = [0u32; 40960];
+    let mut heads = [0u32; 8192];
+    book_rerouters(rerouters, n, &mut nexts, &mut heads);
+    let mut mark_heads = [0u32; 16384];
+    lay_corners(
+        pages,
+        nodes,
+        wires,
+        facts,
+        ends,
+        classes,
+        &node_nexts,
+        &node_heads,
+        list,
+        turning,
+        rerouters,
+        bus_wires,
+        &mut nexts,
+        &mut heads,
+        marks,
+        &mut mark_heads,
+        flags,
+        count,
+    )
+}
+
+// `lay_mini_bus` on n rerouters, k bus wires and u suppressed ports. The buffers stay as they are where there is no room for all that may turn.
+pub fn turn_corners(
+    pages: &[[u32; 16]],
+    nodes: &[[u32; 16]],
+    wires: &[[u32; 16]],
+    node_facts: &[[u32; 8]],
+    wire_facts: &[[u32; 8]],
+    rerouters: &mut [[u32; 10]],
+    n: usize,
+    bus_wires: &mut [[u32; 6]],
+    k: usize,
+    ports: &[[u32; 2]],
+    u: usize,
+    marks: &mut [[u32; 8]],
+) -> Turned
+    requires { ⌜ BoardFits (now pages) (now nodes) (now wires) (now «node_facts») (now «wire_facts») ⌝ }
+    requires { ⌜ Lent (length (now wires)) (now rerouters) (now «bus_wires») (now ports) (now marks) n k u ⌝ }
+    ensures { λ r. ⌜ ((b : Board) → BoardOf b (now (pages .entry)) (now (nodes .entry)) (now (wires .entry)) (now («node_facts» .entry)) (now («wire_facts» .entry))
+        → TurnedAs b (busIn (now (rerouters .entry)) n (now («bus_wires» .entry)) k (now (ports .entry)) u) (length (now (wires .entry))) (now (rerouters .entry)) (now («bus_wires» .entry)) n k u (now (rerouters .exit)) (now («bus_wires» .exit)) r) ⌝ }
+    ensures { λ r. ⌜ ((b : Board) (bus : Bus) (old oldWires : List (List ℕ)) → BoardOf b (now (pages .entry)) (now (nodes .entry)) (now (wires .entry)) (now («node_facts» .entry)) (now («wire_facts» .entry))
+        → Mutes b bus (now (ports .entry)) u → Handed bus old oldWires (now (rerouters .entry)) (now («bus_wires» .entry)) (record { rerouters = n; wires = k }) → TurnedFrom b bus old oldWires (length (now (wires .entry))) n k u (now (rerouters .exit)) (now («bus_wires» .exit)) r) ⌝ }
+{
+    let mut classes = [0u32; 8192];
+    let mut flags = [0u32; 8192];
+    let mut list = [0u32; 8192];
+    let turning = find_turners(
+        nodes,
+        wires,
+        wire_facts,
+        ports,
+        u,
+        &mut classes,
+        &mut flags,
+        &mut list,
+    );
+    if !has_room(wires.len(), n, k, u, turning) {
+        return Turned::Short;
+    }
+    know_wires(bus_wires, k);
+    let count = BusCount {
+        rerouters: n,
+        wires: k,
+    };
+    Turned::Laid(lay_turners(
+        pages,
+        nodes,
+        wires,
+        node_facts,
+        wire_facts,
+        &classes,
+        &list,
+        turning,
+        rerouters,
+        bus_wires,
+        marks,
+        &mut flags,
+        count,
+    ))
+}

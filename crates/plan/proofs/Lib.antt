@@ -1,0 +1,6 @@
+pub mod Fine
+pub mod Fitting
+pub mod Planned
+pub mod PageRows
+pub mod Reading
+pub mod Calling

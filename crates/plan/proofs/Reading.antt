@@ -1,0 +1,170 @@
+-- A text that is checked, fitted and read.
+use Prim.Native.Nat.{ℕ, zero, suc, _+_, _*_, _≤_, _<_}
+use native.Mathlib.Omega.{arith}
+use mathlib.Core.Path.{_≡_, refl, sym, ap, _∙_, subst}
+use mathlib.Core.Bool.{Bool, true, false}
+use mathlib.Core.List.{List, [], _∷_, _++_}
+use lib.Dec.{ltb}
+use lib.ListN.{length, drop}
+use borrow.Author.Tests.{le-ltb}
+use Rattle.sheet.specs.declared.Counts.{Counts}
+use Rattle.sheet.specs.declared.Checked.{Checked}
+use Rattle.sheet.specs.declared.Checked.the-variants.{Refused as NotTaken, Fine as Taken}
+use Rattle.sheet.specs.Table.{libraryMost}
+use Rattle.sheet.specs.Reading
+use Rattle.sheet.specs.Reading.{Reading, rows, reading, rowsFrom}
+use Rattle.sheet.specs.Answer.{rowsAfter}
+use Rattle.board.specs.Board.{Board}
+use Rattle.board.specs.Refusals
+use Rattle.board.specs.Refusals.{Judged, board, judged}
+use Rattle.board.specs.Demands.{PageLanes, Planned, crowded, planned, planLanes}
+use Rattle.board.specs.Planning.{Planning, refused, lanesFor, planning, crowding, records}
+use Rattle.board.specs.Tables.{Indexes}
+use Rattle.board.specs.PagePlan.{Room}
+use Rattle.board.specs.Walk.{WithinLibrary, countsIn, boardChecked, Indexed, IndexedIf}
+use Rattle.board.proofs.Lists.{never}
+use Rattle.plan.specs.declared.Lent.{Lent}
+use Rattle.plan.specs.TextPlan.{Few, fitsCounts, fitsLent, fitted, WorkLent, BoardRead, BoardChecked}
+use Rattle.plan.proofs.Fine.{Fine, fine, few, nodes-ranged, sections-in, rows-count}
+use Rattle.plan.proofs.Fitting.{fits-all}
+
+-- The counts of a board are at most the library's.
+pub counts-few : (b : Board) (c : Counts) → c ≡ countsIn b → Few b
+    → (c .pages ≤ libraryMost .pages) × (c .nodes ≤ libraryMost .nodes) × (c .chips ≤ libraryMost .chips) × (c .inner ≤ libraryMost .inner) × (c .execs ≤ libraryMost .execs) × (c .wires ≤ libraryMost .wires)
+counts-few b c e f =
+    subst (λ (d : Counts). (d .pages ≤ libraryMost .pages) × (d .nodes ≤ libraryMost .nodes) × (d .chips ≤ libraryMost .chips) × (d .inner ≤ libraryMost .inner) × (d .execs ≤ libraryMost .execs) × (d .wires ≤ libraryMost .wires)) (sym e) f
+
+-- What fits by its counts fits as a board.
+fits-counted : (lent : Lent) (b : Board) (c : Counts) (t : Bool) → c ≡ countsIn b → fitsCounts lent c ≡ t → fitsLent lent b ≡ t
+unfolding fitsLent
+fits-counted lent b c t e f = ap (fitsCounts lent) (sym e) ∙ f
+
+module _ (lent : Lent) (b : Board) (c : Counts) (e : c ≡ countsIn b) where
+  pub fitted-unfit : fitsCounts lent c ≡ false → fitted (fitsLent lent) b ≡ refused 7 0
+  fitted-unfit f = rw (fits-counted lent b c false e f, fitted) refl
+
+  pub fitted-fits : fitsCounts lent c ≡ true → fitted (fitsLent lent) b ≡ crowding b (planLanes b)
+  fitted-fits f = rw (fits-counted lent b c true e f, fitted) refl
+
+module _ (most : Counts) (text : List ℕ) (fits : Board → Bool) where
+  abbrev judgedFor : Judged → Planning
+  judgedFor (Refusals.turnedAway n l) = refused n l
+  judgedFor (board b) = fitted fits b
+
+  planning-by : planning most fits text ≡ judgedFor (judged most text)
+  unfolding planning
+  planning-by = go (judged most text)
+    where
+      go : (j : Judged) → elim j as (λ _. Planning) [ Refusals.turnedAway n l ↦ refused n l | board b ↦ elim (fits b) [ true ↦ crowding b (planLanes b) | false ↦ refused 7 0 ] ] ≡ judgedFor j
+      go (Refusals.turnedAway n l) = refl
+      go (board b) = refl
+
+  pub planning-refused : (n l : ℕ) → judged most text ≡ Refusals.turnedAway n l → planning most fits text ≡ refused n l
+  planning-refused n l e = planning-by ∙ ap judgedFor e
+
+  pub planning-fine : (b : Board) → judged most text ≡ board b → planning most fits text ≡ fitted fits b
+  planning-fine b e = planning-by ∙ ap judgedFor e
+
+-- A plan comes from an accepted board that fits.
+module _ (most : Counts) (text : List ℕ) (fits : Board → Bool) (b : Board) (ps : List PageLanes) where
+  pub record LanesFrom : Type 0 where
+    pub accepted : judged most text ≡ board b
+    pub fitting : fits b ≡ true
+    pub lanes : planLanes b ≡ planned ps
+
+  pub lanes-from : planning most fits text ≡ lanesFor b ps → LanesFrom
+  lanes-from e = go (judged most text) refl
+    where
+      go : (j : Judged) → judged most text ≡ j → LanesFrom
+      go (Refusals.turnedAway n l) is = let d : refused n l ≡ lanesFor b ps = sym (planning-refused most text fits n l is) ∙ e in never cc
+      go (board c) is = fit (fits c) refl
+        where
+          from : (t : Bool) → fits c ≡ t → elim t as (λ _. Planning) [ true ↦ crowding c (planLanes c) | false ↦ refused 7 0 ] ≡ lanesFor b ps
+          from t f = rw (← f) (sym (planning-fine most text fits c is) ∙ e)
+
+          laned : fits c ≡ true → (r : Planned) → planLanes c ≡ r → crowding c r ≡ lanesFor b ps → LanesFrom
+          laned f (crowded q) k d = never cc
+          laned f (planned qs) k d =
+              let same : c ≡ b = cc in
+              let lanes-same : qs ≡ ps = cc in
+              record { accepted = is ∙ ap board same; fitting = ap fits (sym same) ∙ f; lanes = ap planLanes (sym same) ∙ k ∙ ap planned lanes-same }
+
+          fit : (t : Bool) → fits c ≡ t → LanesFrom
+          fit true f = laned f (planLanes c) refl (from true f)
+          fit false f = let d : refused 7 0 ≡ lanesFor b ps = from false f in never cc
+
+rows-after : (old l : List (List ℕ)) → length l ≤ length old → rowsAfter old (rows l) ≡ l ++ drop (length l) old
+unfolding rowsAfter
+rows-after old l h = rw (le-ltb (length old) (length l) h, rowsAfter) refl
+
+-- The rows that are read.
+module _ {most : Counts} {text : List ℕ} {b : Board} {counts : Counts} {bodyIds bodyNexts bodyHeads innerIds innerNexts innerHeads : List ℕ}
+    (low : WithinLibrary most) (checked : BoardChecked b most text counts bodyIds bodyNexts bodyHeads innerIds innerNexts innerHeads) where
+  known : Fine most text b
+  known = fine most text b (checked .fine)
+
+  pub checked-few : Few b
+  checked-few = few low known
+
+  module _ (lent : Lent) (fits : fitsCounts lent counts ≡ true) (old : List (List ℕ)) {nodeFacts wireFacts taps groups pageFacts demands keys spare : List (List ℕ)}
+      (work : WorkLent (lent .work) (length old) nodeFacts wireFacts taps groups pageFacts demands keys spare) where
+    enough : records b ≤ lent .work
+    enough = fits-all lent b (fits-counted lent b counts true (checked .counted) fits) .work
+
+    rows-are : rowsAfter old (reading most text) ≡ rowsFrom text ++ drop (length (rowsFrom text)) old
+    rows-are =
+        let size = rows-count b (rowsFrom text) (known .known) in
+        let w = work .records-lent in
+        let n = enough in
+        ap (rowsAfter old) (known .read) ∙ rows-after old (rowsFrom text) (omega arith)
+
+    room : Room (b .pages) (b .nodes) (b .execs) (b .wires) nodeFacts wireFacts taps groups pageFacts demands keys spare
+    unfolding records
+    room =
+        let n = enough in
+        let f = checked-few in
+        let nf = work .node-facts in let wf = work .wire-facts in let ts = work .taps-lent in let gs = work .groups-lent in
+        let pf = work .page-facts in let ds = work .demands-lent in let ks = work .keys-lent in let ss = work .spare-lent in
+        record {
+          fewPages = f .0;
+          fewNodes = f .1;
+          fewExecs = f .4;
+          fewWires = f .5;
+          nodeRoom = (omega arith, omega arith, omega arith);
+          wireRoom = (omega arith, omega arith, omega arith);
+          demandRoom = (omega arith, omega arith, omega arith);
+          pageRoom = omega arith;
+        }
+
+    pub board-read : (after : List (List ℕ)) → after ≡ rowsAfter old (reading most text) → BoardRead b after counts bodyIds bodyNexts bodyHeads innerIds innerNexts innerHeads nodeFacts wireFacts taps groups pageFacts demands keys spare
+    board-read after e =
+        record {
+          sections = rw (e ∙ rows-are) (sections-in b (rowsFrom text) (drop (length (rowsFrom text)) old) (known .known));
+          counted = checked .counted;
+          few = checked-few;
+          ranged = nodes-ranged low known;
+          indexes = checked .indexes;
+          room = room;
+        }
+
+-- What `check_board` answers.
+module _ (most : Counts) (text : List ℕ) where
+  pub board-refused : (n l : ℕ) → NotTaken n l ≡ boardChecked (judged most text) → judged most text ≡ Refusals.turnedAway n l
+  board-refused n l e = go (judged most text) e
+    where
+      go : (j : Judged) → NotTaken n l ≡ boardChecked j → j ≡ Refusals.turnedAway n l
+      go (Refusals.turnedAway n′ l′) q = cc
+      go (board b) q = never cc
+
+  pub board-fine : (bodyIds bodyNexts bodyHeads chipIds chipNexts chipHeads innerIds innerNexts innerHeads : List ℕ) (c : Counts) → WithinLibrary most → Taken c ≡ boardChecked (judged most text)
+      → IndexedIf (judged most text) bodyIds bodyNexts bodyHeads chipIds chipNexts chipHeads innerIds innerNexts innerHeads
+      → (b : Board) × BoardChecked b most text c bodyIds bodyNexts bodyHeads innerIds innerNexts innerHeads
+  board-fine bodyIds bodyNexts bodyHeads chipIds chipNexts chipHeads innerIds innerNexts innerHeads c low = go (judged most text) refl
+    where
+      go : (j : Judged) → judged most text ≡ j → Taken c ≡ boardChecked j → IndexedIf j bodyIds bodyNexts bodyHeads chipIds chipNexts chipHeads innerIds innerNexts innerHeads
+          → (b : Board) × BoardChecked b most text c bodyIds bodyNexts bodyHeads innerIds innerNexts innerHeads
+      go (Refusals.turnedAway n l) is q x = never cc
+      go (board b) is q x =
+          let same : c ≡ countsIn b = cc in
+          let f = few low (fine most text b is) in
+          (b, record { fine = is; counted = same; indexes = record { few = f .1; fewInner = f .3; body = x .body; inside = x .inner } })

@@ -1,0 +1,105 @@
+use mathlib.Core.Path.{_≡_, refl, sym, ap, _∙_}
+use mathlib.Core.Bool.{true, false}
+use borrow.Author.Needs.{needs}
+use borrow.Author.Tests.{not-true, not-false}
+use Rattle.plan.specs.TextPlan.{fitsCounts}
+use Rattle.plan.proofs.Reading.{counts-few, checked-few, fitted-unfit, fitted-fits, board-read}
+use Rattle.plan.proofs.plan_fitting.Statement.{statement}
+use Rattle.plan.proofs.plan_fitting.Tie as tie
+use Rattle.plan.proofs.plan_fitting.Reads as reads
+use Rattle.plan.proofs.plan_fitting.Lts as lts
+use Rattle.plan.proofs.fits.Reads as fits-reads
+use Rattle.plan.proofs.plan_rows.Reads as plan-rows-reads
+use Rattle.sheet.proofs.read_sheet.Reads as read-sheet-reads
+
+abbrev start : tie.After-plan-rows-arg9 → tie.Start
+start c = c .before .before .before .before .before .before .before .before .before .before .before .before .before .before .before .before .before .before .before .before .before
+
+fitting : (c : tie.After-plan-rows-arg9) → fitsCounts (start c .args .lent) (start c .args .counts) ≡ true
+fitting c = sym (c .before .before .before .before .before .before .before .before .before .before .before .before .before .fits2 .ensures) ∙ not-false _ (c .before .before .before .before .before .before .before .before .before .before .before .before .if1 .left)
+
+fits-requires : tie.Need-fits-requires
+fits-requires c κs =
+    let p = c .before .before .before .before .before .before .before .pre .1 in
+    counts-few (p .1 .0) (c .before .before .before .before .before .before .before .args .counts) (p .1 .1 .counted) (checked-few (p .0) (p .1 .1))
+
+-- src/lib.rt:199:9
+returns : tie.Need-returns
+returns c =
+    let s = c .before .before .before .before .before .before .before .before .before in
+    let e : fitsCounts (s .args .lent) (s .args .counts) ≡ false = sym (c .before .fits2 .ensures) ∙ not-true _ (c .if1 .taken) in
+    λ b checked. rw (fitted-unfit (s .args .lent) b (s .args .counts) (checked .counted) e) refl
+
+-- src/lib.rt:204:9
+read-sheet-requires : tie.Need-read-sheet-requires
+read-sheet-requires c κs = search needs
+
+-- src/lib.rt:205:5
+plan-rows-requires : tie.Need-plan-rows-requires
+plan-rows-requires c κs =
+    let p = start c .pre in
+    (p .1 .1 .0, board-read (p .1 .0) (p .1 .1 .1) (start c .args .lent) (fitting c) (start c .args .records .now) (p .0) (c .before .before .before .before .before .before .before .before .before .before .read-sheet .last .1 .1 .0) (c .before .before .before .before .before .before .before .before .before .before .read-sheet .ensures .1))
+
+-- src/lib.rt:172:1
+same-length : tie.Need-same-length
+same-length c = search needs
+
+-- src/lib.rt:172:1
+same-length-2 : tie.Need-same-length-2
+same-length-2 c = search needs
+
+-- src/lib.rt:172:1
+same-length-3 : tie.Need-same-length-3
+same-length-3 c = search needs
+
+-- src/lib.rt:172:1
+same-length-4 : tie.Need-same-length-4
+same-length-4 c = search needs
+
+-- src/lib.rt:172:1
+same-length-5 : tie.Need-same-length-5
+same-length-5 c = search needs
+
+-- src/lib.rt:172:1
+same-length-6 : tie.Need-same-length-6
+same-length-6 c = search needs
+
+-- src/lib.rt:172:1
+same-length-7 : tie.Need-same-length-7
+same-length-7 c = search needs
+
+-- src/lib.rt:172:1
+same-length-8 : tie.Need-same-length-8
+same-length-8 c = search needs
+
+-- src/lib.rt:172:1
+same-length-9 : tie.Need-same-length-9
+same-length-9 c = search needs
+
+-- src/lib.rt:172:1
+returns-2 : tie.Need-returns-2
+returns-2 c =
+    let d = c .before .before .before .before .before .before .before .before .before in
+    let s = start d in
+    λ b checked.
+    rw (fitted-fits (s .args .lent) b (s .args .counts) (checked .counted) (fitting d))
+    (c .before .before .before .before .before .before .before .before .plan-rows .ensures b (board-read (s .pre .1 .0) checked (s .args .lent) (fitting d) (s .args .records .now) (s .pre .0) (d .before .before .before .before .before .before .before .before .before .before .read-sheet .last .1 .1 .0) (d .before .before .before .before .before .before .before .before .before .before .read-sheet .ensures .1)))
+
+pub plan-fitting-spec : {M : Type 1} → statement M
+plan-fitting-spec =
+    tie.close
+    (tie.spec
+    fits-requires
+    returns
+    read-sheet-requires
+    plan-rows-requires
+    same-length
+    same-length-2
+    same-length-3
+    same-length-4
+    same-length-5
+    same-length-6
+    same-length-7
+    same-length-8
+    same-length-9
+    returns-2)

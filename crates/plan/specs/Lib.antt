@@ -1,0 +1,2 @@
+pub mod TextPlan
+pub mod PagesPlan

@@ -1,0 +1,110 @@
+-- What is lent, and what planning a sheet's text leaves in the tables.
+use Prim.Native.Nat.{ℕ, suc, _+_, _*_, _≤_, min}
+use mathlib.Core.Path.{_≡_}
+use mathlib.Core.Bool.{Bool, true, false, _&&_}
+use mathlib.Core.List.{List, [], _∷_}
+use lib.Dec.{leb}
+use lib.ListN.{length, take, drop}
+use Rattle.sheet.specs.declared.Counts.{Counts}
+use Rattle.sheet.specs.Table.{libraryMost}
+use Rattle.board.specs.Board.{Board}
+use Rattle.board.specs.Refusals
+use Rattle.board.specs.Refusals.{judged}
+use Rattle.board.specs.Groups.{tapsOf}
+use Rattle.board.specs.Demands.{PageLanes, Planned, planned, planLanes}
+use Rattle.board.specs.Planning.{Planning, refused, lanesFor, planning, fitsPages, crowding, records}
+use Rattle.board.specs.Tables.{view, tapIn, NodeFacts, WireFacts, GroupFacts, PageFacts, Indexes}
+use Rattle.board.specs.Walk.{countsIn, Indexed}
+use Rattle.board.specs.Accepted.{NodesRanged}
+use Rattle.board.specs.PagePlan.{Room}
+use Rattle.plan.specs.declared.Lent.{Lent}
+use Rattle.plan.specs.declared.TextPlan.{TextPlan}
+use Rattle.plan.specs.declared.TextPlan.the-variants.{Refused, Laned}
+
+-- No line of a plan sheet is longer; a plan has at most P + 12W + 1 lines.
+abbrev pub LINE_MOST : ℕ
+LINE_MOST = 128
+
+-- "Lent for W wires and P pages: 5W rerouters, 6W bus wires, W suppressed ports, P page answers, and 96 numbers of 32 bits of work space for each record"
+unfoldable pub hasRoom : Lent → ℕ → ℕ → ℕ → Bool
+hasRoom lent wires pages records =
+    leb (5 * wires) (lent .rerouters) && (leb (6 * wires) (lent .«bus_wires») && (leb wires (lent .ports) && (leb pages (lent .answers)
+    && (leb (LINE_MOST * (pages + 12 * wires + 1)) (lent .out) && leb records (lent .work)))))
+
+unfoldable pub fitsCounts : Lent → Counts → Bool
+unfolding hasRoom
+fitsCounts lent c = hasRoom lent (c .wires) (c .pages) (c .pages + c .nodes + c .chips + c .inner + c .execs + c .wires)
+
+unfoldable pub fitsLent : Lent → Board → Bool
+unfolding fitsCounts
+fitsLent lent b = fitsCounts lent (countsIn b)
+
+-- The rows of the shortest slice of work space, by the lengths of all.
+unfoldable pub shortest : List ℕ → ℕ
+shortest [] = 0
+shortest (n ∷ []) = n
+shortest (n ∷ m ∷ l) = min n (shortest (m ∷ l))
+
+-- So many rows stand in every slice of work space.
+pub record WorkLent (work records : ℕ) (nodeFacts wireFacts taps groups pageFacts demands keys spare : List (List ℕ)) : Type 0 where
+  pub records-lent : work ≤ records
+  pub node-facts : work ≤ length nodeFacts
+  pub wire-facts : work ≤ length wireFacts
+  pub taps-lent : work ≤ length taps
+  pub groups-lent : work ≤ length groups
+  pub page-facts : work ≤ length pageFacts
+  pub demands-lent : work ≤ length demands
+  pub keys-lent : work ≤ length keys
+  pub spare-lent : work ≤ length spare
+
+-- A board's sections stand one after the other in rows.
+pub record SectionsIn (b : Board) (rows : List (List ℕ)) : Type 0 where
+  pub total : records b ≤ length rows
+  pub pages : take (length (b .pages)) rows ≡ b .pages
+  pub nodes : take (length (b .nodes)) (drop (length (b .pages)) rows) ≡ b .nodes
+  pub chips : take (length (b .chips)) (drop (length (b .pages) + length (b .nodes)) rows) ≡ b .chips
+  pub inner : take (length (b .inner)) (drop (length (b .pages) + length (b .nodes) + length (b .chips)) rows) ≡ b .inner
+  pub execs : take (length (b .execs)) (drop (length (b .pages) + length (b .nodes) + length (b .chips) + length (b .inner)) rows) ≡ b .execs
+  pub wires : take (length (b .wires)) (drop (length (b .pages) + length (b .nodes) + length (b .chips) + length (b .inner) + length (b .execs)) rows) ≡ b .wires
+
+-- At most as many records as the library takes.
+abbrev pub Few : Board → Type 0
+Few b =
+    (length (b .pages) ≤ libraryMost .pages) × (length (b .nodes) ≤ libraryMost .nodes) × (length (b .chips) ≤ libraryMost .chips)
+    × (length (b .inner) ≤ libraryMost .inner) × (length (b .execs) ≤ libraryMost .execs) × (length (b .wires) ≤ libraryMost .wires)
+
+-- A board that is read into rows, with its ids indexed, and room for its plan in the tables.
+pub record BoardRead (b : Board) (rows : List (List ℕ)) (counts : Counts) (bodyIds bodyNexts bodyHeads innerIds innerNexts innerHeads : List ℕ) (nodeFacts wireFacts taps groups pageFacts demands keys spare : List (List ℕ)) : Type 0 where
+  pub sections : SectionsIn b rows
+  pub counted : counts ≡ countsIn b
+  pub few : Few b
+  pub ranged : NodesRanged (b .nodes)
+  pub indexes : Indexes (b .nodes) (b .inner) bodyIds bodyNexts bodyHeads innerIds innerNexts innerHeads
+  pub room : Room (b .pages) (b .nodes) (b .execs) (b .wires) nodeFacts wireFacts taps groups pageFacts demands keys spare
+
+-- A sheet that refusals 1 to 6 leave, with the ids of its board indexed.
+pub record BoardChecked (b : Board) (most : Counts) (text : List ℕ) (counts : Counts) (bodyIds bodyNexts bodyHeads innerIds innerNexts innerHeads : List ℕ) : Type 0 where
+  pub fine : judged most text ≡ Refusals.board b
+  pub counted : counts ≡ countsIn b
+  pub indexes : Indexes (b .nodes) (b .inner) bodyIds bodyNexts bodyHeads innerIds innerNexts innerHeads
+
+-- Refusals 7 and 8 of a board.
+abbrev pub fitted : (Board → Bool) → Board → Planning
+fitted fits b = elim (fits b) [ true ↦ crowding b (planLanes b) | false ↦ refused 7 0 ]
+
+-- What the tables hold of a board with its lanes.
+pub record TablesHold (b : Board) (ps : List PageLanes) (rows nodeFacts wireFacts taps groups pageFacts : List (List ℕ)) (m : ℕ) : Type 0 where
+  pub sections : SectionsIn b rows
+  pub nodes-known : NodeFacts b nodeFacts
+  pub wires-known : WireFacts b wireFacts
+  pub few : m ≤ length (b .wires)
+  pub taps-are : view tapIn taps m ≡ tapsOf b
+  pub lanes-are : planLanes b ≡ planned ps
+  pub groups-known : GroupFacts b ps groups
+  pub pages-known : PageFacts ps pageFacts
+
+-- What `plan_text` answers and leaves.
+abbrev pub TextPlanned : Planning → List (List ℕ) → List (List ℕ) → List (List ℕ) → List (List ℕ) → List (List ℕ) → List (List ℕ) → TextPlan → Type 0
+TextPlanned (refused n l) rows nodeFacts wireFacts taps groups pageFacts r = r ≡ Refused n l
+TextPlanned (lanesFor b ps) rows nodeFacts wireFacts taps groups pageFacts r =
+    (m : ℕ) × (r ≡ Laned (countsIn b) m) × TablesHold b ps rows nodeFacts wireFacts taps groups pageFacts m

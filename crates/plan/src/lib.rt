@@ -1,0 +1,402 @@
+// `plan_bus`: from a sheet's text to the lanes of every page, with every refusal in its order. Each call of the router starts with `plan_text`.
+use board::demands::Plan;
+use board::demands::plan_board;
+use board::refusals::check_board;
+use sheet::Checked;
+use sheet::Counts;
+use sheet::library_most;
+use sheet::read_sheet;
+ghost use mathlib.Core.Path.{_≡_};
+ghost use mathlib.Core.Bool.{true};
+ghost use mathlib.Core.List.{List, [], _∷_, _++_, map};
+ghost use Prim.Native.Nat.{ℕ, _+_, _≤_, _<_, min};
+ghost use lib.ListN.{length, drop};
+ghost use Rattle.sheet.specs.Table.{libraryMost};
+ghost use Rattle.lanes.specs.Lanes.{laneMost};
+ghost use Rattle.board.specs.Board.{Board, field};
+ghost use Rattle.board.specs.Demands;
+ghost use Rattle.board.specs.Demands.{PageLanes, planLanes};
+ghost use Rattle.board.specs.Tables.{PageFacts};
+ghost use Rattle.board.specs.Planning.{planning, fitsPages, crowding, pageRow, pagesAfter};
+ghost use Rattle.board.specs.Walk.{WithinLibrary};
+ghost use Rattle.plan.specs.TextPlan.{fitsLent, shortest, hasRoom, fitsCounts, WorkLent, BoardRead, BoardChecked, fitted, TextPlanned};
+ghost use Rattle.plan.specs.PagesPlan.{planCall, PagesPlanned};
+
+mod export;
+
+// The lengths of what is lent: rerouters, bus wires, suppressed ports, page answers, the rows of the shortest slice of work space, and bytes for the plan sheet's
+// text. A call that is not lent one of them says as much as the largest board asks for.
+pub struct Lent {
+    pub rerouters: usize,
+    pub bus_wires: usize,
+    pub ports: usize,
+    pub answers: usize,
+    pub work: usize,
+    pub out: usize,
+}
+
+// What planning a sheet's text answers: a refusal and its place, or that the tables hold the board and its lanes.
+pub enum TextPlan {
+    Refused { number: usize, place: usize },
+    Laned { counts: Counts, taps: usize },
+}
+
+// What `plan_bus` answers: a refusal and its place, or how many pages have their answer.
+pub enum PagesPlan {
+    Refused { number: usize, place: usize },
+    Planned(usize),
+}
+
+// What the largest board asks for.
+pub const REROUTERS_MOST: usize = 40_960;
+
+pub const BUS_WIRES_MOST: usize = 49_152;
+
+pub const PORTS_MOST: usize = 8_192;
+
+pub const ANSWERS_MOST: usize = 64;
+
+pub const OUT_MOST: usize = 12_591_232;
+
+const LANE_PITCH: u32 = 2;
+
+const BUS_BAND_GUTTER: u32 = 6;
+
+pub fn lesser(a: usize, b: usize) -> usize
+    ensures { λ r. ⌜ r ≡ min a b ⌝ }
+{
+    if a < b { a } else { b }
+}
+
+// The rows of the shortest of nine slices.
+pub fn shortest_of(lengths: [usize; 9]) -> usize
+    ensures { λ r. ⌜ r ≡ shortest lengths ⌝ }
+{
+    let mut least = lengths[8];
+    let mut k: usize = 8;
+    while 0 < k {
+        k -= 1;
+        least = lesser(lengths[k], least);
+    }
+    least
+}
+
+// How many records there are.
+fn total(
+    pages: usize,
+    nodes: usize,
+    chips: usize,
+    inner: usize,
+    execs: usize,
+    wires: usize,
+) -> usize
+    requires { ⌜ (pages ≤ libraryMost .pages) × (nodes ≤ libraryMost .nodes) × (chips ≤ libraryMost .chips) × (inner ≤ libraryMost .inner) × (execs ≤ libraryMost .execs) × (wires ≤ libraryMost .wires) ⌝ }
+    ensures { λ r. ⌜ r ≡ pages + nodes + chips + inner + execs + wires ⌝ }
+{
+    pages + nodes + chips + inner + execs + wires
+}
+
+// "Lent for W wires and P pages .."
+fn has_room(lent: Lent, wires: usize, pages: usize, records: usize) -> bool
+    requires { ⌜ (wires ≤ libraryMost .wires) × (pages ≤ libraryMost .pages) ⌝ }
+    ensures { λ r. ⌜ r ≡ hasRoom lent wires pages records ⌝ }
+{
+    if lent.rerouters < 5 * wires {
+        return false;
+    }
+    if lent.bus_wires < 6 * wires {
+        return false;
+    }
+    if lent.ports < wires {
+        return false;
+    }
+    if lent.answers < pages {
+        return false;
+    }
+    if lent.out < 128 * (pages + 12 * wires + 1) {
+        return false;
+    }
+    records <= lent.work
+}
+
+fn fits(lent: Lent, c: Counts) -> bool
+    requires { ⌜ (c .pages ≤ libraryMost .pages) × (c .nodes ≤ libraryMost .nodes) × (c .chips ≤ libraryMost .chips) × (c .inner ≤ libraryMost .inner) × (c .execs ≤ libraryMost .execs) × (c .wires ≤ libraryMost .wires) ⌝ }
+    ensures { λ r. ⌜ r ≡ fitsCounts lent c ⌝ }
+{
+    let records = total(c.pages, c.nodes, c.chips, c.inner, c.execs, c.wires);
+    has_room(lent, c.wires, c.pages, records)
+}
+
+// The lanes of a board whose records stand in rows, one section after the other.
+fn plan_rows(
+    records: &[[u32; 16]],
+    counts: Counts,
+    body_ids: &[u32],
+    body_nexts: &[u32],
+    body_heads: &[u32],
+    inner_ids: &[u32],
+    inner_nexts: &[u32],
+    inner_heads: &[u32],
+    node_facts: &mut [[u32; 8]],
+    wire_facts: &mut [[u32; 8]],
+    taps: &mut [[u32; 8]],
+    groups: &mut [[u32; 8]],
+    page_facts: &mut [[u32; 8]],
+    demands: &mut [[u32; 8]],
+    keys: &mut [[u32; 8]],
+    spare: &mut [[u32; 8]],
+) -> TextPlan
+    requires { ⌜ ((b : Board) × BoardRead b (now records) counts (now «body_ids») (now «body_nexts») (now «body_heads») (now «inner_ids») (now «inner_nexts») (now «inner_heads»)
+        (now «node_facts») (now «wire_facts») (now taps) (now groups) (now «page_facts») (now demands) (now keys) (now spare)) ⌝ }
+    ensures { λ r. ⌜ ((b : Board) → BoardRead b (now (records .entry)) counts (now («body_ids» .entry)) (now («body_nexts» .entry)) (now («body_heads» .entry)) (now («inner_ids» .entry)) (now («inner_nexts» .entry)) (now («inner_heads» .entry))
+        (now («node_facts» .entry)) (now («wire_facts» .entry)) (now (taps .entry)) (now (groups .entry)) (now («page_facts» .entry)) (now (demands .entry)) (now (keys .entry)) (now (spare .entry))
+        → TextPlanned (crowding b (planLanes b)) (now (records .entry)) (now («node_facts» .exit)) (now («wire_facts» .exit)) (now (taps .exit)) (now (groups .exit)) (now («page_facts» .exit)) r) ⌝ }
+{
+    let nodes = counts.pages;
+    let chips = nodes + counts.nodes;
+    let inner = chips + counts.chips;
+    let execs = inner + counts.inner;
+    let wires = execs + counts.execs;
+    let end = wires + counts.wires;
+    let planned = plan_board(
+        &records[..nodes],
+        &records[nodes..chips],
+        &records[chips..inner],
+        &records[inner..execs],
+        &records[execs..wires],
+        &records[wires..end],
+        body_ids,
+        body_nexts,
+        body_heads,
+        inner_ids,
+        inner_nexts,
+        inner_heads,
+        node_facts,
+        wire_facts,
+        taps,
+        groups,
+        page_facts,
+        demands,
+        keys,
+        spare,
+    );
+    let plan = planned.plan;
+    let found = planned.taps;
+    match plan {
+        Plan::Crowded(p) => TextPlan::Refused {
+            number: 8,
+            place: p + 1,
+        },
+        Plan::Laned => TextPlan::Laned {
+            counts,
+            taps: found,
+        },
+    }
+}
+
+// The same of a sheet that refusals 1 to 6 leave: 7 where what is lent does not fit, else its records are read into rows.
+fn plan_fitting(
+    text: &[u8],
+    most: Counts,
+    lent: Lent,
+    counts: Counts,
+    body_ids: &[u32],
+    body_nexts: &[u32],
+    body_heads: &[u32],
+    inner_ids: &[u32],
+    inner_nexts: &[u32],
+    inner_heads: &[u32],
+    records: &mut [[u32; 16]],
+    node_facts: &mut [[u32; 8]],
+    wire_facts: &mut [[u32; 8]],
+    taps: &mut [[u32; 8]],
+    groups: &mut [[u32; 8]],
+    page_facts: &mut [[u32; 8]],
+    demands: &mut [[u32; 8]],
+    keys: &mut [[u32; 8]],
+    spare: &mut [[u32; 8]],
+) -> TextPlan
+    requires { ⌜ WorkLent (lent .work) (length (now records)) (now «node_facts») (now «wire_facts») (now taps) (now groups) (now «page_facts») (now demands) (now keys) (now spare) ⌝ }
+    requires { ⌜ WithinLibrary most × ((b : Board) × BoardChecked b most (now text) counts (now «body_ids») (now «body_nexts») (now «body_heads») (now «inner_ids») (now «inner_nexts») (now «inner_heads»)) ⌝ }
+    ensures { λ r. ⌜ ((b : Board) → BoardChecked b most (now (text .entry)) counts (now («body_ids» .entry)) (now («body_nexts» .entry)) (now («body_heads» .entry)) (now («inner_ids» .entry)) (now («inner_nexts» .entry)) (now («inner_heads» .entry))
+        → TextPlanned (fitted (fitsLent lent) b) (now (records .exit)) (now («node_facts» .exit)) (now («wire_facts» .exit)) (now (taps .exit)) (now (groups .exit)) (now («page_facts» .exit)) r) ⌝ }
+{
+    if !fits(lent, counts) {
+        return TextPlan::Refused {
+            number: 7,
+            place: 0,
+        };
+    }
+    let _read = read_sheet(text, most, records);
+    plan_rows(
+        records,
+        counts,
+        body_ids,
+        body_nexts,
+        body_heads,
+        inner_ids,
+        inner_nexts,
+        inner_heads,
+        node_facts,
+        wire_facts,
+        taps,
+        groups,
+        page_facts,
+        demands,
+        keys,
+        spare,
+    )
+}
+
+// Every refusal of a sheet in its order, or its board in the tables, with the lanes of its pages. `lent.work` rows at least stand in every slice.
+pub fn plan_text(
+    text: &[u8],
+    most: Counts,
+    lent: Lent,
+    records: &mut [[u32; 16]],
+    node_facts: &mut [[u32; 8]],
+    wire_facts: &mut [[u32; 8]],
+    taps: &mut [[u32; 8]],
+    groups: &mut [[u32; 8]],
+    page_facts: &mut [[u32; 8]],
+    demands: &mut [[u32; 8]],
+    keys: &mut [[u32; 8]],
+    spare: &mut [[u32; 8]],
+) -> TextPlan
+    requires { ⌜ WorkLent (lent .work) (length (now records)) (now «node_facts») (now «wire_facts») (now taps) (now groups) (now «page_facts») (now demands) (now keys) (now spare) ⌝ }
+    requires { ⌜ WithinLibrary most ⌝ }
+    ensures { λ r. ⌜ TextPlanned (planning most (fitsLent lent) (now (text .entry))) (now (records .exit)) (now («node_facts» .exit)) (now («wire_facts» .exit)) (now (taps .exit)) (now (groups .exit)) (now («page_facts» .exit)) r ⌝ }
+{
+    let mut body_ids = [0u32; 4096];
+    let mut body_nexts = [0u32; 4096];
+    let mut body_heads = [0u32; 4096];
+    let mut chip_ids = [0u32; 256];
+    let mut chip_nexts = [0u32; 256];
+    let mut chip_heads = [0u32; 4096];
+    let mut inner_ids = [0u32; 4096];
+    let mut inner_nexts = [0u32; 4096];
+    let mut inner_heads = [0u32; 4096];
+    match check_board(
+        text,
+        most,
+        &mut body_ids,
+        &mut body_nexts,
+        &mut body_heads,
+        &mut chip_ids,
+        &mut chip_nexts,
+        &mut chip_heads,
+        &mut inner_ids,
+        &mut inner_nexts,
+        &mut inner_heads,
+    ) {
+        Checked::Refused { number, line } => TextPlan::Refused {
+            number,
+            place: line,
+        },
+        Checked::Fine(counts) => plan_fitting(
+            text,
+            most,
+            lent,
+            counts,
+            &body_ids,
+            &body_nexts,
+            &body_heads,
+            &inner_ids,
+            &inner_nexts,
+            &inner_heads,
+            records,
+            node_facts,
+            wire_facts,
+            taps,
+            groups,
+            page_facts,
+            demands,
+            keys,
+            spare,
+        ),
+    }
+}
+
+// "Band is 0, or 2 × lanes + 6."
+fn band(lanes: u32) -> u32
+    requires { ⌜ lanes ≤ laneMost ⌝ }
+    ensures { λ r. ⌜ r ≡ Demands.band lanes ⌝ }
+{
+    if lanes == 0 {
+        0
+    } else {
+        LANE_PITCH * lanes + BUS_BAND_GUTTER
+    }
+}
+
+// The page answers: lanes and band of each page.
+pub fn write_pages(page_facts: &[[u32; 8]], n: usize, answers: &mut [[u32; 2]])
+    requires { ⌜ (n ≤ length (now «page_facts»)) × (n ≤ length (now answers)) ⌝ }
+    requires { ⌜ ((p : ℕ) → p < n → field (now «page_facts») p 0 ≤ laneMost) ⌝ }
+    ensures { λ _. ⌜ ((ps : List PageLanes) → length ps ≡ n → PageFacts ps (now («page_facts» .entry)) → now (answers .exit) ≡ map pageRow ps ++ drop n (now (answers .entry))) ⌝ }
+{
+    let mut p: usize = 0;
+    while p < n {
+        let lanes = page_facts[p][0];
+        answers[p] = [lanes, band(lanes)];
+        p += 1;
+    }
+}
+
+// The lanes and the band of every page of a sheet's board. Each slice of work space has a row for each record.
+pub fn plan_bus(
+    text: &[u8],
+    answers: &mut [[u32; 2]],
+    records: &mut [[u32; 16]],
+    node_facts: &mut [[u32; 8]],
+    wire_facts: &mut [[u32; 8]],
+    taps: &mut [[u32; 8]],
+    groups: &mut [[u32; 8]],
+    page_facts: &mut [[u32; 8]],
+    demands: &mut [[u32; 8]],
+    keys: &mut [[u32; 8]],
+    spare: &mut [[u32; 8]],
+) -> PagesPlan
+    ensures { λ r. ⌜ PagesPlanned (planCall (now (text .entry)) (length (now (answers .entry))) (length (now (records .entry)) ∷ length (now («node_facts» .entry)) ∷ length (now («wire_facts» .entry)) ∷ length (now (taps .entry)) ∷ length (now (groups .entry)) ∷ length (now («page_facts» .entry)) ∷ length (now (demands .entry)) ∷ length (now (keys .entry)) ∷ length (now (spare .entry)) ∷ []))
+        (now (answers .entry)) (now (answers .exit)) r ⌝ }
+{
+    let lent = Lent {
+        rerouters: REROUTERS_MOST,
+        bus_wires: BUS_WIRES_MOST,
+        ports: PORTS_MOST,
+        answers: answers.len(),
+        work: shortest_of([
+            records.len(),
+            node_facts.len(),
+            wire_facts.len(),
+            taps.len(),
+            groups.len(),
+            page_facts.len(),
+            demands.len(),
+            keys.len(),
+            spare.len(),
+        ]),
+        out: OUT_MOST,
+    };
+    match plan_text(
+        text,
+        library_most(),
+        lent,
+        records,
+        node_facts,
+        wire_facts,
+        taps,
+        groups,
+        page_facts,
+        demands,
+        keys,
+        spare,
+    ) {
+        TextPlan::Refused { number, place } => PagesPlan::Refused { number, place },
+        TextPlan::Laned { counts, taps: _ } => {
+            let pages = counts.pages;
+            write_pages(page_facts, pages, answers);
+            PagesPlan::Planned(pages)
+        }
+    }
+}

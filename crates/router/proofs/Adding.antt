@@ -1,0 +1,96 @@
+-- Corners added to the lanes' bus: there is room, and what is left is the finished plan.
+use Prim.Native.Nat.{ℕ, zero, suc, _+_, _-_, _*_, _≤_, _<_}
+use native.Mathlib.Omega.{arith}
+use mathlib.Core.Path.{_≡_, refl, sym, ap, _∙_, subst}
+use mathlib.Core.Bool.{Bool, true, false}
+use mathlib.Core.List.{List, [], _∷_, _++_, map}
+use lib.ListN.{length, drop, length-append, length-map, length-drop}
+use Rattle.sheet.specs.declared.Counts.{Counts}
+use Rattle.board.specs.Board.{Board}
+use Rattle.board.specs.Demands.{PageLanes}
+use Rattle.board.proofs.Lists.{clash, never}
+use Rattle.routes.specs.Bus.{Bus, Port}
+use Rattle.routes.specs.Buffers.{portRow}
+use Rattle.routes.specs.Corners.{turnable, corners}
+use Rattle.routes.specs.Plan.{busOf, finished}
+use Rattle.routes.specs.Holding.{BusHeld}
+use Rattle.routes.specs.declared.bus.BusCount.{BusCount}
+use Rattle.corners.specs.Handed.{Mutes, Handed}
+use Rattle.corners.specs.Turning.{hasRoom, TurnedFrom}
+use Rattle.corners.specs.declared.turn.Turned.{Turned}
+use Rattle.corners.specs.declared.turn.Turned.the-variants.{Short, Laid}
+use Rattle.ports.specs.Ports.{portsSet}
+use Rattle.ports.specs.Settling.{portsOver, handed, settled, Settleable, Settled}
+use Rattle.ports.proofs.Calling.{settled-corners, settleable-corners}
+use Rattle.ports.proofs.Reading.{WiresRanged}
+use Rattle.router.specs.Finish.{BusStands, CornersReady}
+use Rattle.router.proofs.Turning.{wires-ranged}
+use Rattle.router.proofs.Finishing.{laid-handed, laid-mutes, laid-room, laid-given, ports-finished, wires-fit, sort-room}
+
+ports-long : (l : List Port) (old : List (List ℕ)) → length l ≤ length old → length (portsOver l old) ≡ length old
+ports-long l old h = omega (arith, length-append (map portRow l) (drop (length l) old), length-map l portRow, length-drop (length l) old)
+
+module _ {b : Board} {ps : List PageLanes} {old oldWires oldPorts rows : List (List ℕ)} {counts : Counts} {nodeFacts wireFacts rerouters : List (List ℕ)} {n : ℕ} {busWires : List (List ℕ)} {k : ℕ} {ports : List (List ℕ)} {u : ℕ} {marks sorting spare : List (List ℕ)}
+    (ready : CornersReady b ps old oldWires oldPorts rows counts nodeFacts wireFacts rerouters n busWires k ports u marks sorting spare) where
+  pub ready-mutes : Mutes b (busOf b ps) ports u
+  ready-mutes =
+      subst (λ (j : ℕ). Mutes b (busOf b ps) ports j) (sym (ready .stands .suppressed))
+      (laid-mutes (ready .most) (ready .text) (ready .within) b (ready .accepted) ps (ready .plan) ports oldPorts (ready .portsLent) (ready .stands .ports-are))
+
+  pub ready-handed : Handed (busOf b ps) old oldWires rerouters busWires (record { rerouters = n; wires = k })
+  ready-handed =
+      subst (λ (c : BusCount). Handed (busOf b ps) old oldWires rerouters busWires c) (λ w. record { rerouters = sym (ready .stands .bricks) w; wires = sym (ready .stands .wires) w })
+      (laid-handed (ready .most) (ready .text) (ready .within) b (ready .accepted) ps (ready .plan) old oldWires rerouters busWires (ready .reroutersLent) (ready .stands .bricks-are) (ready .stands .wires-are))
+
+  ready-room : hasRoom (length (b .wires)) n k u (turnable b (busOf b ps)) ≡ true
+  ready-room =
+      rw (ready .stands .bricks, ready .stands .wires, ready .stands .suppressed) (laid-room (ready .most) (ready .text) (ready .within) b (ready .accepted) ps (ready .plan))
+
+  pub turned-short : {A : Type 0} (rerouters′ busWires′ : List (List ℕ)) (r : Turned) → TurnedFrom b (busOf b ps) old oldWires (length (b .wires)) n k u rerouters′ busWires′ r → r ≡ Short → A
+  turned-short rerouters′ busWires′ Short t e = clash ready-room t
+  turned-short rerouters′ busWires′ (Laid count) t e = never cc
+
+  pub turned-laid : (rerouters′ busWires′ : List (List ℕ)) (r : Turned) (count : BusCount) → TurnedFrom b (busOf b ps) old oldWires (length (b .wires)) n k u rerouters′ busWires′ r → r ≡ Laid count
+      → BusHeld (corners b (busOf b ps)) old oldWires rerouters′ busWires′ count
+  turned-laid rerouters′ busWires′ Short count t e = never cc
+  turned-laid rerouters′ busWires′ (Laid c) count t e = let same : c ≡ count = cc in subst (λ (d : BusCount). BusHeld (corners b (busOf b ps)) old oldWires rerouters′ busWires′ d) same t
+
+  given : portsSet (handed ports u) ≡ busOf b ps .ports
+  given =
+      ap (λ (j : ℕ). portsSet (handed ports j)) (ready .stands .suppressed)
+      ∙ laid-given (ready .most) (ready .text) (ready .within) b (ready .accepted) ps (ready .plan) ports oldPorts (ready .stands .ports-are)
+
+  ranged : WiresRanged b
+  ranged = wires-ranged (ready .most) (ready .text) (ready .within) b (ready .accepted)
+
+  module _ {rerouters′ busWires′ : List (List ℕ)} {count : BusCount} (held : BusHeld (corners b (busOf b ps)) old oldWires rerouters′ busWires′ count) where
+    fit : length (corners b (busOf b ps) .wires) ≤ length oldWires
+    fit = wires-fit (ready .most) (ready .text) (ready .within) b (ready .accepted) ps (ready .plan) oldWires (ready .wiresLent)
+
+    pub settle-ready : Settleable busWires′ k (count .wires) ports u sorting spare
+    settle-ready =
+        let room = sort-room (ready .most) (ready .text) (ready .within) b (ready .accepted) ps (ready .plan) in
+        let many = ready .stands .suppressed in
+        let sl = ready .sortingLent in
+        let pl = ready .spareLent in
+        let ol = ready .portsLent in
+        let long : length ports ≡ length oldPorts = ap length (ready .stands .ports-are) ∙ ports-long (busOf b ps .ports) oldPorts (omega arith) in
+        rw (ready .stands .wires, held .wireCount)
+        (settleable-corners b ranged (busOf b ps) busWires′ oldWires (held .wireRows) fit ports u (ready .turning .lent .muted) given sorting spare (omega arith) (omega arith) (omega arith))
+
+    pub settle-done : (ports′ : List (List ℕ)) (v : ℕ) → Settled busWires′ k (count .wires) ports u ports′ v → BusStands (finished b ps) old oldWires oldPorts rerouters′ (count .rerouters) busWires′ (count .wires) ports′ v
+    unfolding finished
+    settle-done ports′ v done =
+        let all : settled busWires′ k (count .wires) ports u ≡ corners b (busOf b ps) .ports =
+        ap (λ (j : ℕ). settled busWires′ j (count .wires) ports u) (ready .stands .wires) ∙ ap (λ (j : ℕ). settled busWires′ (length (busOf b ps .wires)) j ports u) (held .wireCount)
+        ∙ settled-corners b ranged (busOf b ps) busWires′ oldWires (held .wireRows) fit ports u (ready .turning .lent .muted) given in
+        record {
+          bricks-are = held .brickRows;
+          wires-are = held .wireRows;
+          ports-are =
+              done .rows ∙ ap (λ (l : List Port). portsOver l ports) all
+              ∙ ports-finished (ready .most) (ready .text) (ready .within) b (ready .accepted) ps (ready .plan) ports oldPorts (ready .stands .ports-are);
+          bricks = held .brickCount;
+          wires = held .wireCount;
+          suppressed = done .count ∙ ap length all;
+        }

@@ -1,0 +1,217 @@
+-- What `lay_mini_bus` asks of its steps, and its answers.
+use Prim.Native.Nat.{ℕ, zero, suc, _+_, _*_, _/_, _≤_, _<_, min}
+use native.Mathlib.Omega.{arith}
+use mathlib.Core.Path.{_≡_, refl, sym, ap, _∙_, subst}
+use mathlib.Core.Bool.{Bool, true, false, _&&_}
+use mathlib.Core.List.{List, [], _∷_, map, map-append}
+use lib.Dec.{leb}
+use lib.ListN.{length, getD, take}
+use lib.Seq.{take-suc}
+use borrow.Author.Tests.{leb-true}
+use Rattle.sheet.specs.declared.Counts.{Counts}
+use Rattle.sheet.specs.Table.{libraryMost}
+use Rattle.board.specs.Board.{Board}
+use Rattle.board.specs.Demands.{PageLanes}
+use Rattle.board.specs.Planning.{lanesFor, planning, records}
+use Rattle.board.specs.Walk.{WithinLibrary, countsIn}
+use Rattle.board.proofs.Lists.{and-left, and-right}
+use Rattle.board.proofs.GroupLaws.{length-view}
+use Rattle.plan.specs.declared.Lent.{Lent}
+use Rattle.plan.specs.TextPlan.{fitsLent, shortest, WorkLent, TablesHold}
+use Rattle.plan.proofs.Fitting.{fits-all, shortest-front}
+use Rattle.plan.proofs.Reading.{lanes-from}
+use Rattle.routes.specs.Bus.{Bus, insertPort}
+use Rattle.routes.specs.Corners.{corners, turnable}
+use Rattle.routes.specs.Holding.{BusHeld}
+use Rattle.routes.specs.Route.{Routed, turnedAway, plan}
+use Rattle.routes.specs.declared.bus.BusCount.{BusCount}
+use Rattle.routes.proofs.Room.{corner-room}
+use Rattle.corners.specs.Handed.{wireIn, portsIn, busIn}
+use Rattle.corners.specs.Turning.{hasRoom, TurnedAs}
+use Rattle.corners.specs.declared.turn.Turned.{Turned}
+use Rattle.corners.specs.declared.turn.Turned.the-variants as turnings
+use Rattle.corners.proofs.TurnLaws.{room-found}
+use Rattle.ports.specs.Ports.{portsSet}
+use Rattle.ports.specs.Settling.{portIn, handed, portsOver, settled, Settleable, Settled}
+use Rattle.ports.proofs.SetLaws.{set-last}
+use Rattle.ports.proofs.Calling.{settled-corners, settleable-corners}
+use Rattle.router.specs.declared.bus.BusPlan.{BusPlan}
+use Rattle.router.specs.declared.bus.BusPlan.the-variants.{Refused, Laid}
+use Rattle.router.specs.declared.mini.BusCounts.{BusCounts}
+use Rattle.router.specs.Bus.{BusLent}
+use Rattle.router.specs.Calls.{busLent, busAnswer, reroutersAfter, busWiresAfter, portsAfter, BusCalled}
+use Rattle.router.specs.Mini.{holds, busHeld, miniOf, miniBy, miniCall, HeldReady}
+use Rattle.router.proofs.Turning.{wires-ranged, turn-ready}
+
+-- The ports handed in, whatever row is put in first.
+ports-in : (ports : List (List ℕ)) (u : ℕ) → u ≤ length ports → portsSet (handed ports u) ≡ portsIn ports u
+unfolding portsIn
+ports-in ports zero h = refl
+ports-in ports (suc n) h =
+    ap (λ r. portsSet (map portIn r)) (take-suc ports n [] (omega arith))
+    ∙ (ap portsSet (map-append portIn (take n ports) (getD ports n [] ∷ []))
+    ∙ (set-last (handed ports n) (portIn (getD ports n [])) ∙ ap (insertPort (portIn (getD ports n []))) (ports-in ports n (omega arith))))
+
+pub held-within : (held : BusCounts) (r w p : ℕ) → holds held r w p ≡ true → (held .rerouters ≤ r) × (held .«bus_wires» ≤ w) × (held .ports ≤ p)
+unfolding holds
+held-within held r w p e =
+    let two = and-left (leb (held .rerouters) r && leb (held .«bus_wires») w) (leb (held .ports) p) e in (
+      leb-true (held .rerouters) r (and-left (leb (held .rerouters) r) (leb (held .«bus_wires») w) two),
+      leb-true (held .«bus_wires») w (and-right (leb (held .rerouters) r) (leb (held .«bus_wires») w) two),
+      leb-true (held .ports) p (and-right (leb (held .rerouters) r && leb (held .«bus_wires») w) (leb (held .ports) p) e),
+    )
+
+ports-room : (W n k u m : ℕ) → hasRoom W n k u m ≡ true → u + m ≤ W
+unfolding hasRoom
+ports-room W n k u m e = leb-true (u + m) W (and-right (leb (n + m) (5 * W) && leb (k + 2 * m) (6 * W)) (leb (u + m) W) e)
+
+pub called-same : {call same : Routed} {old oldWires oldPorts rerouters busWires ports : List (List ℕ)} {r : BusPlan} → call ≡ same
+    → BusCalled call old oldWires oldPorts rerouters busWires ports r → BusCalled same old oldWires oldPorts rerouters busWires ports r
+called-same {call} {same} {old} {oldWires} {oldPorts} {rerouters} {busWires} {ports} {r} e h =
+    subst (λ (d : Routed). BusCalled d old oldWires oldPorts rerouters busWires ports r) e h
+
+-- A call that turns a sheet away, and one that leaves a bus.
+module _ (call : Routed) (old oldWires oldPorts rerouters busWires ports : List (List ℕ)) where
+  pub called-away : (n l : ℕ) → call ≡ turnedAway n l → rerouters ≡ old → busWires ≡ oldWires → ports ≡ oldPorts → BusCalled call old oldWires oldPorts rerouters busWires ports (Refused n l)
+  called-away n l e r w p =
+      record {
+        answer = ap busAnswer (sym e);
+        rerouters-are = r ∙ ap (λ d. reroutersAfter d old) (sym e);
+        wires-are = w ∙ ap (λ d. busWiresAfter d oldWires) (sym e);
+        ports-are = p ∙ ap (λ d. portsAfter d oldPorts) (sym e);
+      }
+
+  pub called-plan : (b : Board) (ps : List PageLanes) (bus : Bus) (g : ℕ) → call ≡ plan b ps bus g → (count : BusCount) → BusHeld bus old oldWires rerouters busWires count
+      → (u : ℕ) → u ≡ length (bus .ports) → ports ≡ portsOver (bus .ports) oldPorts → BusCalled call old oldWires oldPorts rerouters busWires ports (Laid (count .rerouters) (count .wires) u g)
+  called-plan b ps bus g e count held u many p =
+      record {
+        answer = (λ i. Laid (held .brickCount i) (held .wireCount i) (many i) g) ∙ ap busAnswer (sym e);
+        rerouters-are = held .brickRows ∙ ap (λ d. reroutersAfter d old) (sym e);
+        wires-are = held .wireRows ∙ ap (λ d. busWiresAfter d oldWires) (sym e);
+        ports-are = p ∙ ap (λ d. portsAfter d oldPorts) (sym e);
+      }
+
+-- The corner pass on what is handed in.
+module _ (rerouters busWires ports : List (List ℕ)) (held : BusCounts) (b : Board) (ps : List PageLanes) where
+  abbrev start : Bus
+  start = busHeld rerouters busWires ports held
+
+  abbrev fits : Bool
+  fits = hasRoom (length (b .wires)) (held .rerouters) (held .«bus_wires») (held .ports) (turnable b start)
+
+  abbrev After : List (List ℕ) → List (List ℕ) → Turned → Type 0
+  After = TurnedAs b start (length (b .wires)) rerouters busWires (held .rerouters) (held .«bus_wires») (held .ports)
+
+  abbrev Held : Type 0
+  Held = holds held (length rerouters) (length busWires) (length ports) ≡ true
+
+  pub unheld : holds held (length rerouters) (length busWires) (length ports) ≡ false → miniOf rerouters busWires ports held b ps ≡ turnedAway 7 0
+  unheld h = rw (h, miniOf)
+
+  pub mini-short : Held → (r′ w′ : List (List ℕ)) (r : Turned) → After r′ w′ r → r ≡ turnings.Short
+      → BusCalled (miniOf rerouters busWires ports held b ps) rerouters busWires ports r′ w′ ports (Refused 7 0)
+  mini-short h r′ w′ r t e =
+      let s = subst (After r′ w′) e t in
+      let no : fits ≡ false = s .0 in
+      called-away _ rerouters busWires ports r′ w′ ports 7 0 (rw (h, no, miniOf)) (s .1) (s .2) refl
+
+  start-wires : length (start .wires) ≡ held .«bus_wires»
+  unfolding busIn
+  start-wires = length-view wireIn busWires (held .«bus_wires»)
+
+  module _ (few : Held) {rows : List (List ℕ)} {counts : Counts} {nodeFacts wireFacts sortRows spare marks : List (List ℕ)} (ready : HeldReady b rows counts nodeFacts wireFacts rerouters busWires ports sortRows spare marks)
+      (r′ w′ : List (List ℕ)) (r : Turned) (count : BusCount) (turned : After r′ w′ r) (is : r ≡ turnings.Laid count) where
+    within : (held .rerouters ≤ length rerouters) × (held .«bus_wires» ≤ length busWires) × (held .ports ≤ length ports)
+    within = held-within held (length rerouters) (length busWires) (length ports) few
+
+    laid : After r′ w′ (turnings.Laid count)
+    laid = subst (After r′ w′) is turned
+
+    start-ports : portsSet (handed ports (held .ports)) ≡ start .ports
+    unfolding busIn
+    start-ports = ports-in ports (held .ports) (within .2)
+
+    room : length (corners b start .wires) ≤ length busWires
+    unfolding corners turnable
+    room =
+        let added = corner-room b start (length (b .wires)) (omega arith) .wires in
+        let lines = room-found (length (b .wires)) (held .rerouters) (held .«bus_wires») (held .ports) (turnable b start) (laid .0) .1 in
+        let long = ready .ready (held .rerouters) (held .«bus_wires») (held .ports) (within .0) (within .1) (within .2) .lent .wireRoom in
+        let many = start-wires in
+        omega arith
+
+    pub settle : Settleable w′ (held .«bus_wires») (count .wires) ports (held .ports) sortRows spare
+    settle =
+        let most = ports-room (length (b .wires)) (held .rerouters) (held .«bus_wires») (held .ports) (turnable b start) (laid .0) in
+        let pr = ready .portRoom in
+        let sr = ready .sortRoom .0 in
+        let ss = ready .sortRoom .1 in
+        subst (λ (i : ℕ). Settleable w′ i (count .wires) ports (held .ports) sortRows spare) start-wires
+        (subst (λ (j : ℕ). Settleable w′ (length (start .wires)) j ports (held .ports) sortRows spare) (sym (laid .1 .wireCount))
+        (settleable-corners b (ready .ranged) start w′ busWires (laid .1 .wireRows) room ports (held .ports) (within .2) start-ports sortRows spare (omega arith) (omega arith) (omega arith)))
+
+    settled-is : settled w′ (held .«bus_wires») (count .wires) ports (held .ports) ≡ corners b start .ports
+    settled-is =
+        (λ i. settled w′ (sym start-wires i) (laid .1 .wireCount i) ports (held .ports))
+        ∙ settled-corners b (ready .ranged) start w′ busWires (laid .1 .wireRows) room ports (held .ports) (within .2) start-ports
+
+    pub mini-laid : (p′ : List (List ℕ)) (u : ℕ) → Settled w′ (held .«bus_wires») (count .wires) ports (held .ports) p′ u
+        → BusCalled (miniOf rerouters busWires ports held b ps) rerouters busWires ports r′ w′ p′ (Laid (count .rerouters) (count .wires) u 0)
+    mini-laid p′ u s =
+        let yes′ : fits ≡ true = laid .0 in
+        called-plan _ rerouters busWires ports r′ w′ p′ b ps (corners b start) 0 (rw (few, yes′, miniOf)) count (laid .1) u (s .count ∙ ap length settled-is)
+        (s .rows ∙ ap (λ l. portsOver l ports) settled-is)
+
+-- A planned board is ready for whatever is handed in.
+pub held-ready : (most : Counts) (text : List ℕ) (lent : Lent) → WithinLibrary most → (b : Board) (ps : List PageLanes) → planning most (fitsLent lent) text ≡ lanesFor b ps
+    → (rows nodeFacts wireFacts taps groups pageFacts demands keys spare : List (List ℕ)) (m : ℕ) → TablesHold b ps rows nodeFacts wireFacts taps groups pageFacts m → (c : Counts) → c ≡ countsIn b
+    → (n : ℕ) → WorkLent (lent .work) n nodeFacts wireFacts taps groups pageFacts demands keys spare
+    → (rerouters busWires ports marks : List (List ℕ)) → BusLent lent marks rerouters busWires → lent .ports ≤ length ports
+    → HeldReady b rows c nodeFacts wireFacts rerouters busWires ports demands spare marks
+unfolding records
+held-ready most text lent low b ps is rows nodeFacts wireFacts taps groups pageFacts demands keys spare m tables c counted n work rerouters busWires ports marks bus pl =
+    let from = lanes-from most text (fitsLent lent) b ps is in
+    let fit = fits-all lent b (from .fitting) in
+    let fw = fit .work in
+    let fp = fit .ports in
+    let ds = work .demands-lent in
+    let ss = work .spare-lent in
+    record {
+      ready = turn-ready most text lent low b ps is rows nodeFacts wireFacts taps groups pageFacts m tables c counted (work .node-facts) (work .wire-facts) rerouters busWires ports marks bus;
+      ranged = wires-ranged most text low b (from .accepted);
+      portRoom = omega arith;
+      sortRoom = (omega arith, omega arith);
+    }
+
+-- What a call finds lent.
+pub work-less : {v w n : ℕ} {nf wf ts gs pf ds ks ss : List (List ℕ)} → w ≤ v → WorkLent v n nf wf ts gs pf ds ks ss → WorkLent w n nf wf ts gs pf ds ks ss
+work-less h l =
+    let a0 = l .records-lent in let a1 = l .node-facts in let a2 = l .wire-facts in let a3 = l .taps-lent in let a4 = l .groups-lent in
+    let a5 = l .page-facts in let a6 = l .demands-lent in let a7 = l .keys-lent in let a8 = l .spare-lent in
+    record {
+      records-lent = omega arith;
+      node-facts = omega arith;
+      wire-facts = omega arith;
+      taps-lent = omega arith;
+      groups-lent = omega arith;
+      page-facts = omega arith;
+      demands-lent = omega arith;
+      keys-lent = omega arith;
+      spare-lent = omega arith;
+    }
+
+-- The rows of the shortest slice, and half of the marks.
+module _ (half : ℕ) (rest : List ℕ) (least w : ℕ) (shortest-is : least ≡ shortest rest) (lesser-is : w ≡ min half least) where
+  pub lent-below : w ≤ least
+  lent-below = omega arith
+
+  pub mini-called : (text : List ℕ) (most : Counts) → most ≡ libraryMost → (r b p : ℕ) → 0 < length rest → (rerouters busWires ports : List (List ℕ)) (held : BusCounts)
+      → miniBy rerouters busWires ports held (planning most (fitsLent (record { rerouters = r; «bus_wires» = b; ports = p; answers = 64; work = w; out = 12591232 })) text)
+      ≡ miniCall text (busLent r b p (half ∷ rest)) rerouters busWires ports held
+  unfolding miniCall
+  mini-called text most e r b p some rerouters busWires ports held =
+      let same : w ≡ shortest (half ∷ rest) = lesser-is ∙ (ap (min half) shortest-is ∙ sym (shortest-front half rest some)) in
+      λ i. miniBy rerouters busWires ports held (planning (e i) (fitsLent (record { rerouters = r; «bus_wires» = b; ports = p; answers = 64; work = same i; out = 12591232 })) text)
+
+pub marks-halved : (marks : List (List ℕ)) (least w : ℕ) → w ≡ min (length marks / 2) least → 2 * w ≤ length marks
+marks-halved marks least w e = omega arith

@@ -1,0 +1,108 @@
+-- From the bus of the lanes, as `lay_within` leaves it, to the finished plan.
+use Prim.Native.Nat.{ℕ, _+_, _*_, _≤_}
+use native.Mathlib.Omega.{arith}
+use mathlib.Core.Path.{_≡_, refl, sym, ap, _∙_, subst}
+use mathlib.Core.List.{List, _++_, map}
+use lib.ListN.{length, drop}
+use Rattle.sheet.specs.declared.Counts.{Counts}
+use Rattle.board.specs.Board.{Board}
+use Rattle.board.specs.Demands.{PageLanes}
+use Rattle.board.specs.Planning.{Planning, refused, lanesFor, planning, records, pageRow}
+use Rattle.board.specs.Walk.{WithinLibrary, countsIn}
+use Rattle.plan.specs.declared.Lent.{Lent}
+use Rattle.plan.specs.TextPlan.{fitsLent}
+use Rattle.plan.proofs.Fitting.{fits-all}
+use Rattle.plan.proofs.Reading.{lanes-from}
+use Rattle.plan.proofs.Planned.{planned-counts}
+use Rattle.plan.proofs.Calling.{LanesTold}
+use Rattle.sheet.specs.Table.{libraryMost}
+use Rattle.routes.specs.Plan.{busOf, finished, laidGroups}
+use Rattle.routes.specs.Route.{routedBy, routed}
+use Rattle.router.specs.Bus.{BusLent}
+use Rattle.router.specs.Finish.{BusStands, CornersReady, PlanTexted}
+use Rattle.router.specs.Route.{routeCall, PlanCalled}
+use Rattle.router.specs.declared.bus.BusText.{BusText}
+use Rattle.router.specs.declared.bus.BusText.the-variants.{Refused, Laid}
+use Rattle.router.specs.declared.bus.BusPlan.the-variants as plans
+use Rattle.router.proofs.Turning.{turn-ready}
+use Rattle.router.proofs.Finishing.{laid-few}
+use Rattle.router.proofs.Suppressing.{BusTold, withoutCounts}
+
+module _ (most : Counts) (text : List ℕ) (lent : Lent) (low : WithinLibrary most) (rows nodeFacts wireFacts taps groups pageFacts old oldWires oldPorts rerouters busWires ports : List (List ℕ)) (c : Counts) (n k u g : ℕ)
+    (told : BusTold rows nodeFacts wireFacts taps groups pageFacts old oldWires oldPorts rerouters busWires ports (planning most (fitsLent lent) text) c n k u g) where
+  pub corners-ready : (marks sorting spare : List (List ℕ)) → BusLent lent marks rerouters busWires → lent .ports ≤ length ports → lent .work ≤ length nodeFacts → lent .work ≤ length wireFacts → lent .work ≤ length sorting → lent .work ≤ length spare
+      → length rerouters ≡ length old → length busWires ≡ length oldWires → length ports ≡ length oldPorts
+      → CornersReady (told .onBoard) (told .lanes) old oldWires oldPorts rows c nodeFacts wireFacts rerouters n busWires k ports u marks sorting spare
+  unfolding records
+  corners-ready marks sorting spare bus pl nf wf so sp lr lw lp =
+      let b = told .onBoard in
+      let ps = told .lanes in
+      let from = lanes-from most text (fitsLent lent) b ps (told .is) in
+      let fit = fits-all lent b (from .fitting) in
+      let few = laid-few most text low b (from .accepted) ps (from .lanes) in
+      let f0 = few .0 in let f1 = few .1 in let f2 = few .2 in
+      let fr = fit .rerouters in let fb = fit .busWires in let fp = fit .ports in let fw = fit .work in
+      let rl = bus .rerouters-lent in let bl = bus .wires-lent in
+      let nb = told .bricks in let kb = told .wires in let ub = told .muted in
+      record {
+        most = most;
+        text = text;
+        within = low;
+        accepted = from .accepted;
+        plan = from .lanes;
+        turning =
+            turn-ready most text lent low b ps (told .is) rows nodeFacts wireFacts taps groups pageFacts (told .found) (told .tables) c (told .counted) nf wf rerouters busWires ports marks bus n k u (omega arith) (omega arith)
+            (omega arith);
+        stands = record { bricks-are = told .rerouters-are; wires-are = told .wires-are; ports-are = told .ports-are; bricks = nb; wires = kb; suppressed = ub };
+        reroutersLent = omega arith;
+        wiresLent = omega arith;
+        portsLent = omega arith;
+        sortingLent = omega arith;
+        spareLent = omega arith;
+      }
+
+  -- The same, as planning alone tells it.
+  pub lanes-told : LanesTold rows nodeFacts wireFacts taps groups pageFacts (planning most (fitsLent lent) text) c (told .found)
+  lanes-told = record { onBoard = told .onBoard; lanes = told .lanes; is = told .is; counted = told .counted; tables = told .tables }
+
+  pub plan-told : (rerouters′ : List (List ℕ)) (n′ : ℕ) (busWires′ : List (List ℕ)) (k′ : ℕ) (ports′ : List (List ℕ)) (u′ : ℕ) (oldAnswers answers : List (List ℕ))
+      → BusStands (finished (told .onBoard) (told .lanes)) old oldWires oldPorts rerouters′ n′ busWires′ k′ ports′ u′ → answers ≡ map pageRow (told .lanes) ++ drop (c .pages) oldAnswers
+      → PlanTexted (planning most (fitsLent lent) text) old oldWires oldPorts oldAnswers rerouters′ busWires′ ports′ answers (Laid c n′ k′ u′ g)
+  plan-told rerouters′ n′ busWires′ k′ ports′ u′ oldAnswers answers stands written =
+      let from = lanes-from most text (fitsLent lent) (told .onBoard) (told .lanes) (told .is) in
+      let pages : c .pages ≡ length (told .lanes) = ap (λ (d : Counts). d .pages) (told .counted) ∙ sym (planned-counts (told .onBoard) (told .lanes) (from .lanes) .0) in
+      rw (told .is)
+      (n′, k′, u′, ap (λ (d : Counts). Laid d n′ k′ u′ g) (told .counted) ∙ ap (Laid (countsIn (told .onBoard)) n′ k′ u′) (told .laid), stands, written ∙ ap (λ (j : ℕ). map pageRow (told .lanes) ++ drop j oldAnswers) pages)
+
+-- A refusal leaves all as it was.
+pub plan-refused : (p : Planning) (old oldWires oldPorts oldAnswers : List (List ℕ)) (rerouters busWires ports : List (List ℕ)) (n l : ℕ) → (p ≡ refused n l) × (rerouters ≡ old) × (busWires ≡ oldWires) × (ports ≡ oldPorts)
+    → PlanTexted p old oldWires oldPorts oldAnswers rerouters busWires ports oldAnswers (Refused n l)
+plan-refused p old oldWires oldPorts oldAnswers rerouters busWires ports n l (e, r, w, q) = rw e (refl, r, w, q, refl)
+
+-- `route` with what it finds lent.
+module _ (old oldWires oldPorts oldAnswers rerouters busWires ports answers : List (List ℕ)) where
+  plan-called : (p : Planning) (r : BusText) → PlanTexted p old oldWires oldPorts oldAnswers rerouters busWires ports answers r
+      → PlanCalled (routedBy finished p) old oldWires oldPorts oldAnswers rerouters busWires ports answers (withoutCounts r)
+  plan-called (refused n l) r (e, a, b, c, d) = record { answer = ap withoutCounts e; rerouters-are = a; wires-are = b; ports-are = c; answers-are = d }
+  plan-called (lanesFor b ps) r (n, k, u, e, s, w) =
+      record {
+        answer =
+            ap withoutCounts e
+            ∙ (ap (λ (j : ℕ). plans.Laid j k u (laidGroups b ps)) (s .bricks) ∙ ap (λ (j : ℕ). plans.Laid (length (finished b ps .bricks)) j u (laidGroups b ps)) (s .wires)
+            ∙ ap (λ (j : ℕ). plans.Laid (length (finished b ps .bricks)) (length (finished b ps .wires)) j (laidGroups b ps)) (s .suppressed));
+        rerouters-are = s .bricks-are;
+        wires-are = s .wires-are;
+        ports-are = s .ports-are;
+        answers-are = w;
+      }
+
+  pub route-called : (text : List ℕ) (lent : Lent) (most : Counts) → most ≡ libraryMost → (r : BusText) → PlanTexted (planning most (fitsLent lent) text) old oldWires oldPorts oldAnswers rerouters busWires ports answers r
+      → PlanCalled (routeCall text lent) old oldWires oldPorts oldAnswers rerouters busWires ports answers (withoutCounts r)
+  unfolding routeCall routed
+  route-called text lent most e r h =
+      plan-called (planning libraryMost (fitsLent lent) text) r
+      (subst (λ (m : Counts). PlanTexted (planning m (fitsLent lent) text) old oldWires oldPorts oldAnswers rerouters busWires ports answers r) e h)
+
+-- What `route` finds lent, with so many rows of work space.
+abbrev pub planWith : ℕ → ℕ → ℕ → ℕ → ℕ → Lent
+planWith rerouters busWires ports answers work = record { rerouters = rerouters; «bus_wires» = busWires; ports = ports; answers = answers; work = work; out = 12591232 }

@@ -1,0 +1,77 @@
+-- From the tables that planning leaves to what the corner pass asks for.
+use Prim.Native.Nat.{ℕ, _≤_, _<_}
+use native.Mathlib.Omega.{arith}
+use mathlib.Core.Path.{_≡_, refl}
+use mathlib.Core.List.{List}
+use lib.ListN.{length}
+use Rattle.sheet.specs.declared.Counts.{Counts}
+use Rattle.sheet.specs.Table.{MISSING}
+use Rattle.board.specs.Board.{Board}
+use Rattle.board.specs.Rows.{brickCell}
+use Rattle.board.specs.Demands.{PageLanes}
+use Rattle.board.specs.Planning.{lanesFor, planning, records}
+use Rattle.board.specs.Refusals.{board, judged}
+use Rattle.board.specs.Tables.{NodeFacts}
+use Rattle.board.specs.Walk.{WithinLibrary, countsIn}
+use Rattle.plan.specs.declared.Lent.{Lent}
+use Rattle.plan.specs.TextPlan.{fitsLent, TablesHold}
+use Rattle.plan.proofs.Fine.{fine, few}
+use Rattle.plan.proofs.Fitting.{fits-all}
+use Rattle.plan.proofs.Reading.{lanes-from}
+use Rattle.routes.specs.Chains.{boardWith}
+use Rattle.corners.specs.Turning.{BoardFits}
+use Rattle.corners.proofs.TurnLaws.{on-page}
+use Rattle.ports.proofs.Reading.{WiresRanged}
+use Rattle.text.proofs.Ranges.{Ranged, ranged, end-most}
+use Rattle.router.specs.Bus.{BusLent}
+use Rattle.router.specs.Turn.{TurnReady}
+use Rattle.router.proofs.Boards.{sheet-sound}
+
+-- A brick's cell needs the nodes alone.
+cell-end : (b : Board) (i : ℕ) → brickCell b i .x1 < MISSING → brickCell (boardWith (b .nodes)) i .x1 < MISSING
+unfolding brickCell
+cell-end b i h = h
+
+module _ (most : Counts) (text : List ℕ) (low : WithinLibrary most) (b : Board) (accepted : judged most text ≡ board b) where
+  pub board-fits : (nodeFacts wireFacts : List (List ℕ)) → NodeFacts b nodeFacts → length (b .nodes) ≤ length nodeFacts → length (b .wires) ≤ length wireFacts
+      → BoardFits (b .pages) (b .nodes) (b .wires) nodeFacts wireFacts
+  board-fits nodeFacts wireFacts known nf wf =
+      let s = sheet-sound most text b low accepted in
+      let r : Ranged b = ranged most text low b accepted in
+      let fp = s .fewPages in
+      let fn = s .fewNodes in
+      record {
+        pagesFew = omega arith;
+        nodesFew = fn;
+        wiresFew = s .fewWires;
+        factsLong = nf;
+        endsLong = wf;
+        onPages = λ i h g. on-page b (b .pages) (b .nodes) nodeFacts refl known (omega arith) i h g (s .pageThere i h g) (cell-end b i (let e = end-most b r i g in omega arith));
+      }
+
+  pub wires-ranged : WiresRanged b
+  wires-ranged = let r : Ranged b = ranged most text low b accepted in record { count = r .fewWires; targetPorts = λ w h. r .target w .1 }
+
+-- What a planned board finds lent.
+module _ (most : Counts) (text : List ℕ) (lent : Lent) (low : WithinLibrary most) (b : Board) (ps : List PageLanes) (is : planning most (fitsLent lent) text ≡ lanesFor b ps) where
+  pub turn-ready : (rows nodeFacts wireFacts taps groups pageFacts : List (List ℕ)) (m : ℕ) → TablesHold b ps rows nodeFacts wireFacts taps groups pageFacts m
+      → (c : Counts) → c ≡ countsIn b → lent .work ≤ length nodeFacts → lent .work ≤ length wireFacts
+      → (rerouters busWires ports marks : List (List ℕ)) → BusLent lent marks rerouters busWires → (n k u : ℕ) → n ≤ length rerouters → k ≤ length busWires → u ≤ length ports
+      → TurnReady b rows c nodeFacts wireFacts rerouters n busWires k ports u marks
+  unfolding records
+  turn-ready rows nodeFacts wireFacts taps groups pageFacts m tables c counted nf wf rerouters busWires ports marks bus n k u hn hk hu =
+      let from = lanes-from most text (fitsLent lent) b ps is in
+      let fit = fits-all lent b (from .fitting) in
+      let fw = fit .work in
+      let fr = fit .rerouters in
+      let fb = fit .busWires in
+      let ml = bus .marks-lent in let rl = bus .rerouters-lent in let bl = bus .wires-lent in
+      record {
+        sections = tables .sections;
+        counted = counted;
+        few = few low (fine most text b (from .accepted));
+        fits = board-fits most text low b (from .accepted) nodeFacts wireFacts (tables .nodes-known) (omega arith) (omega arith);
+        nodes-known = tables .nodes-known;
+        wires-known = tables .wires-known;
+        lent = record { bricks = hn; wires = hk; muted = hu; brickRoom = omega arith; wireRoom = omega arith; markRoom = omega arith };
+      }

@@ -1,0 +1,35 @@
+-- What laying the lanes starts from, and what the code says of stops on the way. No rule of document 01 stands here.
+use Prim.Native.Nat.{ℕ, _*_, _≤_}
+use mathlib.Core.Path.{_≡_}
+use mathlib.Core.List.{List}
+use lib.ListN.{length}
+use Rattle.sheet.specs.declared.Counts.{Counts}
+use Rattle.board.specs.Board.{Board}
+use Rattle.board.specs.Refusals.{board, judged}
+use Rattle.board.specs.Walk.{WithinLibrary}
+use Rattle.board.specs.Groups.{tapsOf}
+use Rattle.board.specs.Demands.{PageLanes, planned, planLanes}
+use Rattle.board.specs.Tables.{NodeFacts, WireFacts, GroupFacts, PageFacts, view, tapIn}
+
+-- A planned board of an accepted sheet, as `plan_board` leaves it in tables, and room for what is laid on it.
+pub record LanesReady (b : Board) (ps : List PageLanes) (pages nodes wires nodeFacts wireFacts groups pageFacts taps : List (List ℕ)) (m : ℕ) (laid spare stops marks rerouters busWires : List (List ℕ)) : Type 0 where
+  pub text : List ℕ
+  pub most : Counts
+  pub within : WithinLibrary most
+  pub accepted : judged most text ≡ board b
+  pub pages-are : b .pages ≡ pages
+  pub nodes-are : b .nodes ≡ nodes
+  pub wires-are : b .wires ≡ wires
+  pub nodes-known : NodeFacts b nodeFacts
+  pub wires-known : WireFacts b wireFacts
+  pub count : m ≤ length wires
+  pub taps-are : view tapIn taps m ≡ tapsOf b
+  pub plan : planLanes b ≡ planned ps
+  pub groups-known : GroupFacts b ps groups
+  pub pages-known : PageFacts ps pageFacts
+  pub nodeRoom : length nodes ≤ length nodeFacts
+  pub pageRoom : length pages ≤ length pageFacts
+  pub wireRoom : (length wires ≤ length wireFacts) × (length wires ≤ length groups) × (length wires ≤ length taps)
+  pub laidRoom : (length wires ≤ length laid) × (length wires ≤ length spare)
+  pub stopRoom : (length wires ≤ length stops) × (2 * length wires ≤ length marks)
+  pub busRoom : (5 * length wires ≤ length rerouters) × (6 * length wires ≤ length busWires)

@@ -1,0 +1,213 @@
+// `lay_mini_bus`: the corners of a sheet's board on a bus that is handed in, and the ports that they suppress.
+use crate::bus::BusPlan;
+use crate::turn::turn_rows;
+use corners::turn::Turned;
+use plan::ANSWERS_MOST;
+use plan::Lent;
+use plan::OUT_MOST;
+use plan::TextPlan;
+use plan::lesser;
+use plan::plan_text;
+use plan::shortest_of;
+use ports::settle::settle_ports;
+use sheet::Counts;
+use sheet::library_most;
+ghost use mathlib.Core.Path.{_≡_};
+ghost use mathlib.Core.List.{List, [], _∷_};
+ghost use Prim.Native.Nat.{_/_, _≤_};
+ghost use lib.ListN.{length};
+ghost use Rattle.board.specs.Board.{Board};
+ghost use Rattle.board.specs.Demands.{PageLanes};
+ghost use Rattle.board.specs.Planning.{planning};
+ghost use Rattle.board.specs.Walk.{WithinLibrary};
+ghost use Rattle.plan.specs.TextPlan.{fitsLent, WorkLent};
+ghost use Rattle.router.specs.Bus.{BusLent};
+ghost use Rattle.router.specs.Calls.{busLent, BusCalled};
+ghost use Rattle.router.specs.Mini.{holds as holdsCounts, miniOf, miniBy, miniCall, HeldReady};
+
+// How many rerouters, bus wires and suppressed ports are handed in.
+#[repr(C)]
+pub struct BusCounts {
+    pub rerouters: usize,
+    pub bus_wires: usize,
+    pub ports: usize,
+}
+
+// Whether buffers of these lengths hold so many.
+fn holds(held: BusCounts, rerouters: usize, bus_wires: usize, ports: usize) -> bool
+    ensures { λ r. ⌜ r ≡ holdsCounts held rerouters «bus_wires» ports ⌝ }
+{
+    (held.rerouters <= rerouters) & (held.bus_wires <= bus_wires) & (held.ports <= ports)
+}
+
+// The corners of a board whose records stand in rows, on the bus that is handed in: 7 where the buffers do not hold it with all that may turn.
+fn turn_held(
+    held: BusCounts,
+    records: &[[u32; 16]],
+    counts: Counts,
+    node_facts: &[[u32; 8]],
+    wire_facts: &[[u32; 8]],
+    rerouters: &mut [[u32; 10]],
+    bus_wires: &mut [[u32; 6]],
+    ports: &mut [[u32; 2]],
+    rows: &mut [[u32; 8]],
+    spare: &mut [[u32; 8]],
+    marks: &mut [[u32; 8]],
+) -> BusPlan
+    requires { ⌜ ((b : Board) × HeldReady b (now records) counts (now «node_facts») (now «wire_facts») (now rerouters) (now «bus_wires») (now ports) (now rows) (now spare) (now marks)) ⌝ }
+    ensures { λ r. ⌜ ((b : Board) (ps : List PageLanes) → HeldReady b (now (records .entry)) counts (now («node_facts» .entry)) (now («wire_facts» .entry)) (now (rerouters .entry)) (now («bus_wires» .entry)) (now (ports .entry)) (now (rows .entry)) (now (spare .entry)) (now (marks .entry))
+        → BusCalled (miniOf (now (rerouters .entry)) (now («bus_wires» .entry)) (now (ports .entry)) held b ps) (now (rerouters .entry)) (now («bus_wires» .entry)) (now (ports .entry)) (now (rerouters .exit)) (now («bus_wires» .exit)) (now (ports .exit)) r) ⌝ }
+{
+    if !holds(held, rerouters.len(), bus_wires.len(), ports.len()) {
+        return BusPlan::Refused {
+            number: 7,
+            place: 0,
+        };
+    }
+    match turn_rows(
+        records,
+        counts,
+        node_facts,
+        wire_facts,
+        rerouters,
+        held.rerouters,
+        bus_wires,
+        held.bus_wires,
+        ports,
+        held.ports,
+        marks,
+    ) {
+        Turned::Short => BusPlan::Refused {
+            number: 7,
+            place: 0,
+        },
+        Turned::Laid(count) => {
+            let n = count.rerouters;
+            let k = count.wires;
+            let u = settle_ports(bus_wires, held.bus_wires, k, ports, held.ports, rows, spare);
+            BusPlan::Laid {
+                rerouters: n,
+                bus_wires: k,
+                ports: u,
+                groups: 0,
+            }
+        }
+    }
+}
+
+// The same from a sheet's text, with every refusal. The demands give way to the ports that are sorted.
+fn mini_within(
+    text: &[u8],
+    most: Counts,
+    lent: Lent,
+    held: BusCounts,
+    rerouters: &mut [[u32; 10]],
+    bus_wires: &mut [[u32; 6]],
+    ports: &mut [[u32; 2]],
+    records: &mut [[u32; 16]],
+    node_facts: &mut [[u32; 8]],
+    wire_facts: &mut [[u32; 8]],
+    taps: &mut [[u32; 8]],
+    groups: &mut [[u32; 8]],
+    page_facts: &mut [[u32; 8]],
+    demands: &mut [[u32; 8]],
+    keys: &mut [[u32; 8]],
+    spare: &mut [[u32; 8]],
+    marks: &mut [[u32; 8]],
+) -> BusPlan
+    requires { ⌜ WorkLent (lent .work) (length (now records)) (now «node_facts») (now «wire_facts») (now taps) (now groups) (now «page_facts») (now demands) (now keys) (now spare) ⌝ }
+    requires { ⌜ WithinLibrary most × BusLent lent (now marks) (now rerouters) (now «bus_wires») × (lent .ports ≤ length (now ports)) ⌝ }
+    ensures { λ r. ⌜ BusCalled (miniBy (now (rerouters .entry)) (now («bus_wires» .entry)) (now (ports .entry)) held (planning most (fitsLent lent) (now (text .entry)))) (now (rerouters .entry)) (now («bus_wires» .entry)) (now (ports .entry)) (now (rerouters .exit)) (now («bus_wires» .exit)) (now (ports .exit)) r ⌝ }
+{
+    match plan_text(
+        text,
+        most,
+        lent,
+        records,
+        node_facts,
+        wire_facts,
+        taps,
+        groups,
+        page_facts,
+        demands,
+        keys,
+        spare,
+    ) {
+        TextPlan::Refused { number, place } => BusPlan::Refused { number, place },
+        TextPlan::Laned { counts, taps: _ } => turn_held(
+            held,
+            records,
+            counts,
+            node_facts,
+            wire_facts,
+            rerouters,
+            bus_wires,
+            ports,
+            demands,
+            spare,
+            marks,
+        ),
+    }
+}
+
+// The corners of a sheet's board, laid on the bus that the buffers hold. Each slice of work space has a row for each record, the marks two.
+pub fn lay_mini_bus(
+    text: &[u8],
+    held: BusCounts,
+    rerouters: &mut [[u32; 10]],
+    bus_wires: &mut [[u32; 6]],
+    ports: &mut [[u32; 2]],
+    records: &mut [[u32; 16]],
+    node_facts: &mut [[u32; 8]],
+    wire_facts: &mut [[u32; 8]],
+    taps: &mut [[u32; 8]],
+    groups: &mut [[u32; 8]],
+    page_facts: &mut [[u32; 8]],
+    demands: &mut [[u32; 8]],
+    keys: &mut [[u32; 8]],
+    spare: &mut [[u32; 8]],
+    marks: &mut [[u32; 8]],
+) -> BusPlan
+    ensures { λ r. ⌜ BusCalled (miniCall (now (text .entry)) (busLent (length (now (rerouters .entry))) (length (now («bus_wires» .entry))) (length (now (ports .entry))) (length (now (marks .entry)) / 2 ∷ length (now (records .entry)) ∷ length (now («node_facts» .entry)) ∷ length (now («wire_facts» .entry)) ∷ length (now (taps .entry)) ∷ length (now (groups .entry)) ∷ length (now («page_facts» .entry)) ∷ length (now (demands .entry)) ∷ length (now (keys .entry)) ∷ length (now (spare .entry)) ∷ []))
+        (now (rerouters .entry)) (now («bus_wires» .entry)) (now (ports .entry)) held)
+        (now (rerouters .entry)) (now («bus_wires» .entry)) (now (ports .entry)) (now (rerouters .exit)) (now («bus_wires» .exit)) (now (ports .exit)) r ⌝ }
+{
+    let work = shortest_of([
+        records.len(),
+        node_facts.len(),
+        wire_facts.len(),
+        taps.len(),
+        groups.len(),
+        page_facts.len(),
+        demands.len(),
+        keys.len(),
+        spare.len(),
+    ]);
+    let lent = Lent {
+        rerouters: rerouters.len(),
+        bus_wires: bus_wires.len(),
+        ports: ports.len(),
+        answers: ANSWERS_MOST,
+        work: lesser(marks.len() / 2, work),
+        out: OUT_MOST,
+    };
+    mini_within(
+        text,
+        library_most(),
+        lent,
+        held,
+        rerouters,
+        bus_wires,
+        ports,
+        records,
+        node_facts,
+        wire_facts,
+        taps,
+        groups,
+        page_facts,
+        demands,
+        keys,
+        spare,
+        marks,
+    )
+}

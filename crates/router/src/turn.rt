@@ -1,0 +1,54 @@
+// The corner pass over a board whose records stand in rows.
+use corners::turn::Turned;
+use corners::turn::turn_corners;
+use sheet::Counts;
+ghost use mathlib.Core.List.{List};
+ghost use Prim.Native.Nat.{ℕ};
+ghost use lib.ListN.{length};
+ghost use Rattle.board.specs.Board.{Board};
+ghost use Rattle.routes.specs.Bus.{Bus};
+ghost use Rattle.corners.specs.Handed.{busIn, Mutes, Handed};
+ghost use Rattle.corners.specs.Turning.{TurnedAs, TurnedFrom};
+ghost use Rattle.router.specs.Turn.{TurnReady};
+
+// The corners of a board on n rerouters, k bus wires and u suppressed ports.
+pub fn turn_rows(
+    records: &[[u32; 16]],
+    counts: Counts,
+    node_facts: &[[u32; 8]],
+    wire_facts: &[[u32; 8]],
+    rerouters: &mut [[u32; 10]],
+    n: usize,
+    bus_wires: &mut [[u32; 6]],
+    k: usize,
+    ports: &[[u32; 2]],
+    u: usize,
+    marks: &mut [[u32; 8]],
+) -> Turned
+    requires { ⌜ ((b : Board) × TurnReady b (now records) counts (now «node_facts») (now «wire_facts») (now rerouters) n (now «bus_wires») k (now ports) u (now marks)) ⌝ }
+    ensures { λ r. ⌜ ((b : Board) → TurnReady b (now (records .entry)) counts (now («node_facts» .entry)) (now («wire_facts» .entry)) (now (rerouters .entry)) n (now («bus_wires» .entry)) k (now (ports .entry)) u (now (marks .entry))
+        → TurnedAs b (busIn (now (rerouters .entry)) n (now («bus_wires» .entry)) k (now (ports .entry)) u) (length (b .wires)) (now (rerouters .entry)) (now («bus_wires» .entry)) n k u (now (rerouters .exit)) (now («bus_wires» .exit)) r) ⌝ }
+    ensures { λ r. ⌜ ((b : Board) (bus : Bus) (old oldWires : List (List ℕ)) → TurnReady b (now (records .entry)) counts (now («node_facts» .entry)) (now («wire_facts» .entry)) (now (rerouters .entry)) n (now («bus_wires» .entry)) k (now (ports .entry)) u (now (marks .entry))
+        → Mutes b bus (now (ports .entry)) u → Handed bus old oldWires (now (rerouters .entry)) (now («bus_wires» .entry)) (record { rerouters = n; wires = k }) → TurnedFrom b bus old oldWires (length (b .wires)) n k u (now (rerouters .exit)) (now («bus_wires» .exit)) r) ⌝ }
+{
+    let nodes = counts.pages;
+    let chips = nodes + counts.nodes;
+    let inner = chips + counts.chips;
+    let execs = inner + counts.inner;
+    let wires = execs + counts.execs;
+    let end = wires + counts.wires;
+    turn_corners(
+        &records[..nodes],
+        &records[nodes..chips],
+        &records[wires..end],
+        node_facts,
+        wire_facts,
+        rerouters,
+        n,
+        bus_wires,
+        k,
+        ports,
+        u,
+        marks,
+    )
+}

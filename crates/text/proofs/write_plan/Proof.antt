@@ -1,0 +1,38 @@
+use borrow.Author.Needs.{needs}
+use Rattle.text.proofs.PlanWritten.{wrote-plan}
+use Rattle.text.proofs.write_plan.Statement.{statement}
+use Rattle.text.proofs.write_plan.Tie as tie
+use Rattle.text.proofs.write_plan.Reads as reads
+use Rattle.text.proofs.write_plan.Lts as lts
+use Rattle.routes.proofs.plan_sheet.put_plan.Reads as put-plan-reads
+use Rattle.text.proofs.count_deliveries.Reads as count-deliveries-reads
+use Rattle.text.proofs.totals.Reads as totals-reads
+
+-- src/lib.rt:78:9
+count-deliveries-requires : tie.Need-count-deliveries-requires
+count-deliveries-requires c κs = search needs
+
+-- src/lib.rt:79:9
+totals-requires : tie.Need-totals-requires
+totals-requires c κs = search needs
+
+-- src/lib.rt:80:5
+put-plan-requires : tie.Need-put-plan-requires
+put-plan-requires c κs = search needs
+
+-- src/lib.rt:59:1
+same-length : tie.Need-same-length
+same-length c = search needs
+
+-- src/lib.rt:59:1
+returns : tie.Need-returns
+returns c b ps h =
+    let fits = c .before .before .before .before .before .before .before .pre .0 in
+    wrote-plan b ps _ _ _ _ _ _ _ _ _ _ h (fits .bricks) (fits .busWires) _ _ _ _ _
+    (c .before .before .before .before .before .count-deliveries .ensures .0) (c .before .before .before .before .totals .ensures)
+    (c .before .before .put-plan .ensures)
+
+pub write-plan-spec : {M : Type 1} → statement M
+write-plan-spec =
+    tie.close
+    (tie.spec count-deliveries-requires totals-requires put-plan-requires same-length returns)
