@@ -4,7 +4,7 @@
 use std::path::PathBuf;
 
 /// The libraries whose functions src/rattle.rs declares.
-const LIBRARIES: [&str; 3] = ["lanes", "sheet", "plan"];
+const LIBRARIES: [&str; 4] = ["lanes", "sheet", "plan", "router"];
 
 fn main() {
     println!("cargo::rerun-if-env-changed=RATTLE_STATICLIB");
