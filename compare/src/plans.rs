@@ -1,6 +1,6 @@
 //! One sheet through the Rattle `route`, and what it has to answer.
 
-use crate::rattle::{self, PlanNumbers};
+use crate::rattle::{self, BusCounts, PlanNumbers};
 use oracle::board::{self, Board, Lent, Limits, Refusal};
 use oracle::plan::Plan;
 use oracle::{check3, harness};
@@ -57,6 +57,8 @@ pub struct Lending {
     /// `None` leaves them as the last sheet left them.
     pub output: Option<u32>,
     pub work: Option<u32>,
+    /// The three calls one after the other instead of `route`.
+    pub apart: bool,
 }
 
 impl Lending {
@@ -145,16 +147,64 @@ impl Room {
         for (table, length) in self.tables.iter_mut().zip(tables) {
             table.lend(length, lending.work);
         }
-        let report = rattle::route(
+        let report = if lending.apart {
+            self.one_by_one(sheet)
+        } else {
+            rattle::route(
+                sheet,
+                self.rerouters.slice(),
+                self.bus_wires.slice(),
+                self.ports.slice(),
+                self.answers.slice(),
+                self.records.slice(),
+                self.tables.each_mut().map(Buffer::slice),
+            )
+        };
+        self.found(&lines, report)
+    }
+
+    /// `plan_bus`, `lay_bus` and `lay_mini_bus` one after the other, up to the
+    /// first refusal.
+    fn one_by_one(&mut self, sheet: &[u8]) -> PlanNumbers {
+        let [work @ .., _] = self.tables.each_mut().map(Buffer::slice);
+        let pages = rattle::plan_bus(sheet, self.answers.slice(), self.records.slice(), work);
+        if pages.refusal != 0 {
+            return PlanNumbers {
+                refusal: pages.refusal,
+                place: pages.place,
+                ..PlanNumbers::default()
+            };
+        }
+        let laid = rattle::lay_bus(
             sheet,
             self.rerouters.slice(),
             self.bus_wires.slice(),
             self.ports.slice(),
-            self.answers.slice(),
             self.records.slice(),
             self.tables.each_mut().map(Buffer::slice),
         );
-        self.found(&lines, report)
+        let held = BusCounts {
+            rerouters: laid.rerouters,
+            bus_wires: laid.bus_wires,
+            ports: laid.ports,
+        };
+        let turned = rattle::lay_mini_bus(
+            sheet,
+            held,
+            self.rerouters.slice(),
+            self.bus_wires.slice(),
+            self.ports.slice(),
+            self.records.slice(),
+            self.tables.each_mut().map(Buffer::slice),
+        );
+        PlanNumbers {
+            refusal: laid.refusal.max(turned.refusal),
+            place: laid.place.max(turned.place),
+            rerouters: turned.counts.rerouters,
+            bus_wires: turned.counts.bus_wires,
+            ports: turned.counts.ports,
+            groups: laid.groups,
+        }
     }
 
     fn found(&self, lines: &Lines, report: PlanNumbers) -> Found {

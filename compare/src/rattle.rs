@@ -38,6 +38,25 @@ pub struct PlanNumbers {
     pub groups: usize,
 }
 
+/// How many rerouters, bus wires and suppressed ports `lay_mini_bus` goes on
+/// from.
+#[repr(C)]
+#[derive(Clone, Copy, Debug, PartialEq, Eq)]
+pub struct BusCounts {
+    pub rerouters: usize,
+    pub bus_wires: usize,
+    pub ports: usize,
+}
+
+/// The answer of `lay_mini_bus`: refusal, place, and the counts after it.
+#[repr(C)]
+#[derive(Clone, Copy, Debug, PartialEq, Eq)]
+pub struct MiniNumbers {
+    pub refusal: usize,
+    pub place: usize,
+    pub counts: BusCounts,
+}
+
 /// How many records of each section: P, N, C, F, X, W.
 #[repr(C)]
 #[derive(Clone, Copy, Debug, PartialEq, Eq)]
@@ -75,95 +94,36 @@ unsafe extern "C" {
         rows: *mut [u32; 16],
         rows_len: usize,
     ) -> SheetNumbers;
+}
 
-    fn pz_plan_bus(
-        text: *const u8,
-        text_len: usize,
-        answers: *mut [u32; 2],
-        answers_len: usize,
-        records: *mut [u32; 16],
-        records_len: usize,
-        node_facts: *mut [u32; 8],
-        node_facts_len: usize,
-        wire_facts: *mut [u32; 8],
-        wire_facts_len: usize,
-        taps: *mut [u32; 8],
-        taps_len: usize,
-        groups: *mut [u32; 8],
-        groups_len: usize,
-        page_facts: *mut [u32; 8],
-        page_facts_len: usize,
-        demands: *mut [u32; 8],
-        demands_len: usize,
-        keys: *mut [u32; 8],
-        keys_len: usize,
-        spare: *mut [u32; 8],
-        spare_len: usize,
-    ) -> PagesNumbers;
+/// Calls that take a sheet's text and lent slices, each a pointer and a length:
+/// the type of a row of each slice, in order.
+macro_rules! over_a_sheet {
+    ($(fn $name:ident($(@ $held:ty;)? $($row:ty),*) -> $answer:ty;)*) => {
+        unsafe extern "C" {
+            $(fn $name(text: *const u8, length: usize, $(_: $held,)? $(_: *mut $row, _: usize),*) -> $answer;)*
+        }
+    };
+}
 
-    fn pz_lay_bus(
-        text: *const u8,
-        text_len: usize,
-        rerouters: *mut [u32; 10],
-        rerouters_len: usize,
-        bus_wires: *mut [u32; 6],
-        bus_wires_len: usize,
-        ports: *mut [u32; 2],
-        ports_len: usize,
-        records: *mut [u32; 16],
-        records_len: usize,
-        node_facts: *mut [u32; 8],
-        node_facts_len: usize,
-        wire_facts: *mut [u32; 8],
-        wire_facts_len: usize,
-        taps: *mut [u32; 8],
-        taps_len: usize,
-        groups: *mut [u32; 8],
-        groups_len: usize,
-        page_facts: *mut [u32; 8],
-        page_facts_len: usize,
-        demands: *mut [u32; 8],
-        demands_len: usize,
-        keys: *mut [u32; 8],
-        keys_len: usize,
-        spare: *mut [u32; 8],
-        spare_len: usize,
-        marks: *mut [u32; 8],
-        marks_len: usize,
-    ) -> PlanNumbers;
+type Table = [u32; 8];
 
-    fn pz_route(
-        text: *const u8,
-        text_len: usize,
-        rerouters: *mut [u32; 10],
-        rerouters_len: usize,
-        bus_wires: *mut [u32; 6],
-        bus_wires_len: usize,
-        ports: *mut [u32; 2],
-        ports_len: usize,
-        answers: *mut [u32; 2],
-        answers_len: usize,
-        records: *mut [u32; 16],
-        records_len: usize,
-        node_facts: *mut [u32; 8],
-        node_facts_len: usize,
-        wire_facts: *mut [u32; 8],
-        wire_facts_len: usize,
-        taps: *mut [u32; 8],
-        taps_len: usize,
-        groups: *mut [u32; 8],
-        groups_len: usize,
-        page_facts: *mut [u32; 8],
-        page_facts_len: usize,
-        demands: *mut [u32; 8],
-        demands_len: usize,
-        keys: *mut [u32; 8],
-        keys_len: usize,
-        spare: *mut [u32; 8],
-        spare_len: usize,
-        marks: *mut [u32; 8],
-        marks_len: usize,
-    ) -> PlanNumbers;
+// The page answers; records; node facts, wire facts, taps, groups, page facts,
+// demands, keys, spare. Then for the others: rerouters, bus wires, suppressed
+// ports, for `route` the page answers; records; the same tables and the marks.
+over_a_sheet! {
+    fn pz_plan_bus([u32; 2], [u32; 16], Table, Table, Table, Table, Table, Table, Table, Table) -> PagesNumbers;
+    fn pz_lay_bus([u32; 10], [u32; 6], [u32; 2], [u32; 16], Table, Table, Table, Table, Table, Table, Table, Table, Table) -> PlanNumbers;
+    fn pz_lay_mini_bus(@ BusCounts; [u32; 10], [u32; 6], [u32; 2], [u32; 16], Table, Table, Table, Table, Table, Table, Table, Table, Table) -> MiniNumbers;
+    fn pz_route([u32; 10], [u32; 6], [u32; 2], [u32; 2], [u32; 16], Table, Table, Table, Table, Table, Table, Table, Table, Table) -> PlanNumbers;
+}
+
+/// One such call. The pointers and lengths are those of live slices that do
+/// not overlap: the borrow checker sees to it.
+macro_rules! call {
+    ($name:ident($text:expr, $(@ $held:ident;)? $($slice:expr),*)) => {
+        unsafe { $name($text.as_ptr(), $text.len(), $($held,)? $($slice.as_mut_ptr(), $slice.len()),*) }
+    };
 }
 
 /// `allocate_lanes` of the Rattle crate `lanes`. It has no `requires`, so any
@@ -219,33 +179,9 @@ pub fn plan_bus(
     tables: [&mut [[u32; 8]]; 8],
 ) -> PagesNumbers {
     let [node, wire, taps, groups, page, demands, keys, spare] = tables;
-    // The pointers and lengths are those of live slices that do not overlap.
-    unsafe {
-        pz_plan_bus(
-            text.as_ptr(),
-            text.len(),
-            answers.as_mut_ptr(),
-            answers.len(),
-            records.as_mut_ptr(),
-            records.len(),
-            node.as_mut_ptr(),
-            node.len(),
-            wire.as_mut_ptr(),
-            wire.len(),
-            taps.as_mut_ptr(),
-            taps.len(),
-            groups.as_mut_ptr(),
-            groups.len(),
-            page.as_mut_ptr(),
-            page.len(),
-            demands.as_mut_ptr(),
-            demands.len(),
-            keys.as_mut_ptr(),
-            keys.len(),
-            spare.as_mut_ptr(),
-            spare.len(),
-        )
-    }
+    call!(pz_plan_bus(
+        text, answers, records, node, wire, taps, groups, page, demands, keys, spare
+    ))
 }
 
 /// `lay_bus` of the Rattle crate `router`. It has no `requires`. `tables` are
@@ -259,39 +195,27 @@ pub fn lay_bus(
     tables: [&mut [[u32; 8]]; 9],
 ) -> PlanNumbers {
     let [node, wire, taps, groups, page, demands, keys, spare, marks] = tables;
-    // The pointers and lengths are those of live slices that do not overlap.
-    unsafe {
-        pz_lay_bus(
-            text.as_ptr(),
-            text.len(),
-            rerouters.as_mut_ptr(),
-            rerouters.len(),
-            bus_wires.as_mut_ptr(),
-            bus_wires.len(),
-            ports.as_mut_ptr(),
-            ports.len(),
-            records.as_mut_ptr(),
-            records.len(),
-            node.as_mut_ptr(),
-            node.len(),
-            wire.as_mut_ptr(),
-            wire.len(),
-            taps.as_mut_ptr(),
-            taps.len(),
-            groups.as_mut_ptr(),
-            groups.len(),
-            page.as_mut_ptr(),
-            page.len(),
-            demands.as_mut_ptr(),
-            demands.len(),
-            keys.as_mut_ptr(),
-            keys.len(),
-            spare.as_mut_ptr(),
-            spare.len(),
-            marks.as_mut_ptr(),
-            marks.len(),
-        )
-    }
+    call!(pz_lay_bus(
+        text, rerouters, bus_wires, ports, records, node, wire, taps, groups, page, demands, keys,
+        spare, marks
+    ))
+}
+
+/// `lay_mini_bus` of the Rattle crate `router`: corners on top of what the
+/// buffers hold. It has no `requires`. `tables` are those of `lay_bus`.
+pub fn lay_mini_bus(
+    text: &[u8],
+    held: BusCounts,
+    rerouters: &mut [[u32; 10]],
+    bus_wires: &mut [[u32; 6]],
+    ports: &mut [[u32; 2]],
+    records: &mut [[u32; 16]],
+    tables: [&mut [[u32; 8]]; 9],
+) -> MiniNumbers {
+    let [node, wire, taps, groups, page, demands, keys, spare, marks] = tables;
+    call!(pz_lay_mini_bus(
+        text, @ held; rerouters, bus_wires, ports, records, node, wire, taps, groups, page, demands, keys, spare, marks
+    ))
 }
 
 /// `route` of the Rattle crate `router`: the three calls. It has no `requires`.
@@ -306,41 +230,10 @@ pub fn route(
     tables: [&mut [[u32; 8]]; 9],
 ) -> PlanNumbers {
     let [node, wire, taps, groups, page, demands, keys, spare, marks] = tables;
-    // The pointers and lengths are those of live slices that do not overlap.
-    unsafe {
-        pz_route(
-            text.as_ptr(),
-            text.len(),
-            rerouters.as_mut_ptr(),
-            rerouters.len(),
-            bus_wires.as_mut_ptr(),
-            bus_wires.len(),
-            ports.as_mut_ptr(),
-            ports.len(),
-            answers.as_mut_ptr(),
-            answers.len(),
-            records.as_mut_ptr(),
-            records.len(),
-            node.as_mut_ptr(),
-            node.len(),
-            wire.as_mut_ptr(),
-            wire.len(),
-            taps.as_mut_ptr(),
-            taps.len(),
-            groups.as_mut_ptr(),
-            groups.len(),
-            page.as_mut_ptr(),
-            page.len(),
-            demands.as_mut_ptr(),
-            demands.len(),
-            keys.as_mut_ptr(),
-            keys.len(),
-            spare.as_mut_ptr(),
-            spare.len(),
-            marks.as_mut_ptr(),
-            marks.len(),
-        )
-    }
+    call!(pz_route(
+        text, rerouters, bus_wires, ports, answers, records, node, wire, taps, groups, page,
+        demands, keys, spare, marks
+    ))
 }
 
 /// The shortest of some runs, in microseconds.

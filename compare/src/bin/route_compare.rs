@@ -60,10 +60,14 @@ fn main() {
 /// The lengths of the slices and what stands in them beforehand.
 fn lending(rng: &mut Rng) -> Lending {
     let fills = [None, Some(0), Some(u32::MAX), Some(0xdead_beef)];
+    let rows = rows(rng);
+    // A short slice may be refused after the page answers are written.
+    let apart = rows.iter().all(|more| *more >= 0) && rng.below(2) == 0;
     Lending {
-        rows: rows(rng),
+        rows,
         output: rng.pick(&fills),
         work: rng.pick(&fills),
+        apart,
     }
 }
 
