@@ -22,6 +22,9 @@ impl Limits {
     };
 }
 
+/// The most lanes a page may open.
+pub const LANE_MOST: i32 = 512;
+
 /// Why a board is turned away: the condition's number and the line it names.
 #[derive(Clone, Copy, Debug, PartialEq, Eq)]
 pub struct Refusal {

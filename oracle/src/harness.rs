@@ -3,7 +3,7 @@
 //! The fields that document 01 adds are derived from the Rust's answer:
 //! README.md says how each is.
 
-use crate::board::{Board, Port, Refusal};
+use crate::board::{Board, LANE_MOST, Port, Refusal};
 use crate::plan::*;
 use original::collections::HashMap;
 use original::emit::Placement;
@@ -13,9 +13,6 @@ use original::layout::code::pages::PageInfo;
 use original::layout::code::{BUS_BAND_GUTTER, LANE_PITCH, LaidBody, Routed, route};
 use original::layout::{BusEnd, BusLayout, BusNode, BusRole, NodeRotation};
 use std::sync::Arc;
-
-/// The most lanes a page may open.
-pub const LANE_MOST: i32 = 512;
 
 const KINDS: [NodeKind; 6] = [
     NodeKind::Gate,

@@ -1,7 +1,6 @@
 //! The lane call on its own, and its refusals.
 
-use crate::board::Refusal;
-use crate::harness::LANE_MOST;
+use crate::board::{LANE_MOST, Refusal};
 use original::ir::port_registry::WirePort;
 use original::ir::{NodeId, PortRef};
 use original::layout::bus::{BusDemand, allocate_lanes};

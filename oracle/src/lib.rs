@@ -6,23 +6,29 @@ pub mod board;
 pub mod check3;
 pub mod facts;
 pub mod r#gen;
+#[cfg(feature = "original")]
 pub mod harness;
+#[cfg(feature = "original")]
 pub mod lanes;
 pub mod model;
 pub mod plan;
 pub mod plan_read;
+#[cfg(feature = "original")]
 pub mod records;
 pub mod rng;
 pub mod sheet;
 pub mod shrink;
+#[cfg(feature = "original")]
 pub mod soak;
 pub mod text;
 
 pub use board::{Board, Limits, Refusal};
+#[cfg(feature = "original")]
 pub use harness::run_plan;
 pub use plan::Plan;
 
 /// The answer to one sheet: the plan sheet, or the `E` line of its refusal.
+#[cfg(feature = "original")]
 pub fn answer(text: &[u8], limits: &Limits) -> String {
     match board::parse(text, limits).and_then(|b| run_plan(&b)) {
         Ok(plan) => plan.sheet(),

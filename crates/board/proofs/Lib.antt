@@ -4,14 +4,6 @@ pub mod Sections
 pub mod Faults
 pub mod Judging
 pub mod Members
-pub mod RowLaws
-pub mod KeyLaws
-pub mod Filling
-pub mod Ends
-pub mod TapLaws
-pub mod GroupLaws
-pub mod PageLaws
-pub mod PlanLaws
 pub mod Lists
 pub mod Taps
 pub mod LanesFit

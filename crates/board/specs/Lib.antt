@@ -9,4 +9,3 @@ pub mod Tables
 pub mod Index
 pub mod Walk
 pub mod Accepted
-pub mod PagePlan

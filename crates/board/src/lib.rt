@@ -1,6 +1,3 @@
 // What a board is: its ids, chips, rows, groups and demands, and what turns it away.
-pub mod demands;
-pub mod groups;
 pub mod ids;
 pub mod refusals;
-pub mod rows;

@@ -1,6 +1,6 @@
 -- The corner pass: levels taken read off their marks, ends found by their anchors, suppressed ports kept by class.
-use Prim.Native.Nat.{ℕ, zero, suc, _≤_, _<_}
-use mathlib.Core.Path.{_≡_, refl, ap, ap₂, sym, _∙_}
+use Prim.Native.Nat.{ℕ, zero, suc, _+_, _*_, _≤_, _<_}
+use mathlib.Core.Path.{_≡_, refl, ap, ap₂, sym, subst, _∙_}
 use mathlib.Core.Bool.{Bool, true, false, not, _&&_, _||_}
 use mathlib.Core.List.{List, [], _∷_}
 use native.Mathlib.Omega.{arith}
@@ -8,7 +8,7 @@ use native.Mathlib.Decide.{decLt}
 use lib.Dec.{eqb, ltb}
 use lib.ListN.{length, getD, set}
 use lib.Seq.{getD-set-same, getD-set-other}
-use borrow.Author.Tests.{eq-eqb, ne-eqb, eqb-true, eqb-false}
+use borrow.Author.Tests.{eq-eqb, ne-eqb, eqb-true, eqb-false, le-leb, lt-leb}
 use Rattle.sheet.specs.Table.{MISSING}
 use Rattle.board.specs.Lists.{Found, none, at, any, keep, newest}
 use Rattle.board.specs.Board.{Board, field, idOf, yOf, pageOf, downOf, lineOf, rotationOf, hasRow, hasLine, innerChip}
@@ -21,16 +21,18 @@ use Rattle.board.proofs.Newest.{link-below, link-held}
 use Rattle.routes.specs.Bus
 use Rattle.routes.specs.Bus.{roleLine, partCorner, Bus, Feed, Port, clearOfRow, insertPort, samePort, portOf, muted, deliver}
 use Rattle.routes.specs.Corners.{Taken, Cornering, sinkLoad, cornerClear, cornerLevel, cornerBrick, turnsDown}
-use Rattle.routes.specs.Levels.{lowest, lightest, levelsIn}
-use Rattle.routes.specs.Laying.{levelAnswer}
-use Rattle.routes.specs.Marks.{markIn, sameMark, countOf}
-use Rattle.corners.specs.CornerTables.{atSink, takenMarks, TurnOf, Asked, openCorner}
+use Rattle.routes.specs.Levels.{STAGGER_STEP, lowest, lightest, levelsIn}
+use Rattle.stops.specs.Laying.{levelAnswer}
+use Rattle.stops.specs.Marks.{markIn, sameMark, countOf}
+use Rattle.corners.specs.Blocked.{TellsClear, levelsOf}
+use Rattle.corners.specs.CornerTables.{atSink, takenMarks, TurnOf, Asked, LevelTold, LevelsTold, openCorner}
 use Rattle.corners.specs.declared.lay.Turn.{Turn}
-use Rattle.routes.specs.declared.levels.Level.the-variants.{None, At}
-use Rattle.routes.specs.declared.marks.Mark.{Mark}
+use Rattle.stops.specs.declared.levels.Level.the-variants.{None, At}
+use Rattle.stops.specs.declared.marks.Mark.{Mark}
 use Rattle.board.proofs.Lists.{clash, and-left, and-right}
-use Rattle.routes.proofs.MarkLaws.{same-mark}
-use Rattle.routes.proofs.LevelLaws.{same-test}
+use Rattle.stops.proofs.MarkLaws.{same-mark}
+use Rattle.stops.proofs.LevelLaws.{same-test}
+use Rattle.corners.proofs.Blocking.{and-no, and-yes}
 use Rattle.corners.proofs.Searches.{none-kept, found-at, found-none}
 
 both : {s t : Bool} → s ≡ true → t ≡ true → s && t ≡ true
@@ -66,27 +68,48 @@ load-taken b (k ∷ l) t x = go (eqb (k .sink) t && eqb (k .level) x) (sameMark 
     go s true e h = rw e (ap suc h)
     go s false e h = rw e h
 
--- The answers about a level of a sink, of what the tables hold.
-module _ (b : Board) (c : Cornering) (s t : ℕ) (nodes facts rerouters marks : List (List ℕ)) (n m : ℕ) (turn : Turn) (h : Asked b c s t nodes facts rerouters marks n m turn) (x : ℕ) where
+-- The answers about a level of a sink, of what is told of it.
+module _ (b : Board) (c : Cornering) (s t : ℕ) (marks : List (List ℕ)) (m : ℕ) (turn : Turn) (x end : ℕ) (h : LevelTold b c s t marks m turn x end) where
   abbrev mark : Mark
   mark = atSink (turn .sink) x
 
-  pub corner-clear : clearOfRow b (c .bus) (turn .page) (turn .row) (rerouterCell x (turn .y)) ≡ cornerClear b (c .bus) s t x
-  unfolding cornerClear
-  corner-clear = let g = h .turning in λ i. clearOfRow b (c .bus) (g .page i) (g .row i) (rerouterCell x (g .y i))
-
   pub corner-load : countOf mark (view markIn marks m) ≡ sinkLoad b (c .taken) t x
-  corner-load = (λ i. countOf (atSink (h .turning .sink i) x) (h .taken i)) ∙ sym (load-taken b (c .taken) t x)
+  corner-load = (λ i. countOf (atSink (h .sink i) x) (h .taken i)) ∙ sym (load-taken b (c .taken) t x)
 
   unused : eqb (sinkLoad b (c .taken) t x) 0 ≡ not (any (sameMark mark) (view markIn marks m))
   unfolding countOf
   unused = ap (λ v. eqb v 0) (sym corner-load) ∙ none-kept (sameMark mark) (view markIn marks m)
 
-  pub corner-used : any (sameMark mark) (view markIn marks m) ≡ true → false ≡ openCorner b c s t x
-  corner-used e = sym (ap (λ v. v && cornerClear b (c .bus) s t x) (unused ∙ ap not e))
+  pub corner-clear : end ≤ x → cornerClear b (c .bus) s t x ≡ true
+  corner-clear l = sym (h .clear) ∙ le-leb end x l
 
-  pub corner-unused : any (sameMark mark) (view markIn marks m) ≡ false → cornerClear b (c .bus) s t x ≡ openCorner b c s t x
-  corner-unused e = sym (ap (λ v. v && cornerClear b (c .bus) s t x) (unused ∙ ap not e))
+  pub corner-blocked : x < end → cornerClear b (c .bus) s t x ≡ false
+  corner-blocked l = sym (h .clear) ∙ lt-leb end x l
+
+  pub corner-closed : x < end → false ≡ openCorner b c s t x
+  corner-closed l = sym (ap (λ v. eqb (sinkLoad b (c .taken) t x) 0 && v) (corner-blocked l) ∙ and-no (eqb (sinkLoad b (c .taken) t x) 0))
+
+  pub corner-open : (used : Bool) → used ≡ any (sameMark mark) (view markIn marks m) → end ≤ x → not used ≡ openCorner b c s t x
+  corner-open used e l = sym (ap₂ (λ u v. u && v) (unused ∙ ap not (sym e)) (corner-clear l) ∙ and-yes (not used))
+
+-- The ends of all levels tell so much of each.
+pub levels-told : (b : Board) (c : Cornering) (s t : ℕ) (nodes facts rerouters marks : List (List ℕ)) (n m : ℕ) (turn : Turn) → Asked b c s t nodes facts rerouters marks n m turn
+    → (ends : List ℕ) (count : ℕ) → count ≡ levelsIn (turn .x) (turn .top)
+    → TellsClear (levelsOf turn count) ends (λ x. clearOfRow b (c .bus) (turn .page) (turn .row) (rerouterCell x (turn .y)))
+    → LevelsTold b c s t marks m ends turn
+unfolding cornerClear
+levels-told b c s t nodes facts rerouters marks n m turn h ends count e tells k low =
+    let g = h .turning in
+    record {
+      clear = tells k (omega arith) ∙ (λ i. clearOfRow b (c .bus) (g .page i) (g .row i) (rerouterCell (turn .x + STAGGER_STEP * k) (g .y i)));
+      taken = h .taken;
+      sink = g .sink;
+    }
+
+-- What is told of a level that the search comes to.
+pub told-at : (b : Board) (c : Cornering) (s t : ℕ) (marks : List (List ℕ)) (m : ℕ) (ends : List ℕ) (turn : Turn) → LevelsTold b c s t marks m ends turn
+    → (k level : ℕ) → level ≡ turn .x + STAGGER_STEP * k → level + STAGGER_STEP ≤ turn .top → LevelTold b c s t marks m turn level (getD ends k 0)
+told-at b c s t marks m ends turn told k level e within = subst (λ (x : ℕ). LevelTold b c s t marks m turn x (getD ends k 0)) (sym e) (told k (omega arith))
 
 -- A corner's level: the lowest open one, else the least loaded clear one.
 module _ (b : Board) (c : Cornering) (s t : ℕ) (turn : Turn) (h : TurnOf b s t turn) where

@@ -21,11 +21,11 @@ use Rattle.board.proofs.Newest.{pick-true, pick-false}
 use Rattle.routes.proofs.Room.{turned-before, corner-room}
 use Rattle.routes.specs.Bus
 use Rattle.routes.specs.Bus.{Bus, samePort, portOf, muted, place, placedFeed, portFeed, deliver}
-use Rattle.routes.specs.Chains.{boardWith, CellRows}
+use Rattle.cells.specs.Chains.{boardWith, CellRows}
 use Rattle.routes.specs.Corners.{Cornering, cornerBrick, cornerLevel, turnsDown, turnWire, turns, withCorner, corners}
-use Rattle.routes.specs.Emitting.{PlacedOn}
+use Rattle.emit.specs.Emitting.{PlacedOn}
 use Rattle.routes.specs.Holding.{feedOf, brickOf, BusHeld, Delivering}
-use Rattle.routes.specs.Marks.{Marks, markIn}
+use Rattle.stops.specs.Marks.{Marks, markIn}
 use Rattle.corners.specs.CornerTables.{atSink, TurnOf, turnRead, TurnFacts, WireOf, RoomForCorner, CornerPlaced, turnedBus, Laid, laid, CornerReady, CornersHeld, CornerFacts, CornerStep, cornered, Asked, InReach, EndsThere, CornerFits, CornersLaid, begun, Tested, firsts, TestsFit, Flagged, Turners}
 use Rattle.routes.specs.declared.bus.Brick.{Brick}
 use Rattle.routes.specs.declared.bus.BusCount.{BusCount}
@@ -210,14 +210,15 @@ turn-numbers pages nodes facts s t top e =
     λ i. record { page = field nodes t 10; row = field facts t 0; x = field nodes t 8; top = e i; y = field nodes s 9; z = field pages (field nodes t 10) 2; colour = record { 0 = field nodes s 1 }; sink = t }
 
 pub turn-ranges : (pages nodes facts : List (List ℕ)) (s t : ℕ) → InReach pages nodes facts s t → (turn : Turn) → turn ≡ turnRead pages nodes facts s t
-    → (turn .page ≡ MISSING → ⊥) × (turn .row ≡ MISSING → ⊥) × (turn .top ≤ MISSING)
+    → (turn .page ≡ MISSING → ⊥) × (turn .row ≡ MISSING → ⊥) × (turn .top ≤ MISSING) × (turn .top ≤ turn .x + 2000)
 turn-ranges pages nodes facts s t h turn e =
     let page : turn .page ≡ field nodes t 10 = ap (λ v. v .page) e in
     let row : turn .row ≡ field facts t 0 = ap (λ v. v .row) e in
     let top : turn .top ≡ brickCell (boardWith nodes) t .x1 = ap (λ v. v .top) e in
+    let x : turn .x ≡ field nodes t 8 = ap (λ v. v .x) e in
     let few = h .pagesFew in
     let on = h .onPage in
-    (λ z. omega arith, λ z. omega arith, omega arith)
+    (λ z. omega arith, λ z. omega arith, omega arith, omega arith)
 
 -- The tables answer of what is held.
 pub asked-of : (b : Board) (c : Cornering) (pages nodes facts : List (List ℕ)) (s t : ℕ) → TurnFacts b pages nodes facts t → (turn : Turn) → turn ≡ turnRead pages nodes facts s t

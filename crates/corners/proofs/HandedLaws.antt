@@ -13,10 +13,10 @@ use Rattle.board.specs.Board.{Board}
 use Rattle.board.specs.Lists.{any}
 use Rattle.board.specs.Tables.{view}
 use Rattle.board.proofs.Lists.{same-two}
-use Rattle.board.proofs.GroupLaws.{length-view}
+use Rattle.demands.proofs.GroupLaws.{length-view}
 use Rattle.routes.specs.Bus.{End, port, rerouter, Carries, onward, delivery, Port, samePort, portOf, muted}
 use Rattle.routes.specs.Buffers.{outward, brickRow, endRow, carriesRow, wireRow}
-use Rattle.routes.specs.Chains.{inward, CellRows}
+use Rattle.cells.specs.Chains.{inward, CellRows}
 use Rattle.routes.specs.Tables.{writtenOver}
 use Rattle.corners.specs.Handed.{brickIn, endIn, carriesIn, wireIn, portIn, portsIn, busIn, Row, Rows, Mutes, Handed}
 use Rattle.corners.proofs.CornerLaws.{port-in}

@@ -1,3 +1,4 @@
+pub mod Blocking
 pub mod Searches
 pub mod CornerLaws
 pub mod CornerSteps

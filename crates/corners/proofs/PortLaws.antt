@@ -14,8 +14,8 @@ use Rattle.board.specs.Index.{link}
 use Rattle.board.proofs.Lists.{same-two}
 use Rattle.board.proofs.Newest.{Following, chain-start, chain-next, link-below, link-held, Implies}
 use Rattle.routes.specs.Bus.{Port, samePort}
-use Rattle.routes.specs.Chains.{BUCKETS, Empty}
-use Rattle.routes.proofs.Walks.{chained-none, chained-on}
+use Rattle.cells.specs.Chains.{BUCKETS, Empty}
+use Rattle.cells.proofs.Walks.{chained-none, chained-on}
 use Rattle.corners.specs.CornerTables.{portAt, Classed}
 use Rattle.corners.specs.Ports.{portBucket, wireBucket, thePort, goesTo, WireWalk, classFor, Ported, PortRoom, FlaggedBy}
 use Rattle.corners.proofs.CornerLaws.{newest-none, flag-set}

@@ -12,15 +12,15 @@ use Rattle.board.specs.Lists.{any, keep, upto}
 use Rattle.board.specs.Board.{Board, field, given, hasRow, pageOf}
 use Rattle.board.specs.Groups.{wireOpen}
 use Rattle.board.specs.Rows.{brickCell, rowOf}
-use Rattle.board.proofs.RowLaws.{row-below}
+use Rattle.collect.proofs.RowLaws.{row-below}
 use Rattle.board.specs.Tables.{view, flag, NodeFacts}
 use Rattle.board.proofs.Lists.{and-left, and-right}
 use Rattle.routes.specs.Bus
 use Rattle.routes.specs.Bus.{samePort}
-use Rattle.routes.specs.Chains.{BUCKETS, Empty, Walkable, brickBucket, nodeBucket, boardWith, CellRows}
+use Rattle.cells.specs.Chains.{BUCKETS, Empty, Walkable, brickBucket, nodeBucket, boardWith, CellRows}
 use Rattle.routes.specs.Corners.{turns, turnable}
 use Rattle.routes.specs.Holding.{BusHeld}
-use Rattle.routes.specs.Marks.{Marks}
+use Rattle.stops.specs.Marks.{Marks}
 use Rattle.routes.specs.declared.bus.BusCount.{BusCount}
 use Rattle.corners.specs.CornerTables.{portAt, OnPage, Classed, CornerFits, CornerFacts, CornerReady, CornersHeld, Flagged, firsts, laid, begun}
 use Rattle.corners.specs.Handed.{portIn, Mutes}
@@ -145,13 +145,13 @@ lay-fits nodes wires ends R W ports M n k u classes flags list m lent f e cl fl 
       markRoom = lent .markRoom;
     }
 
--- A node with a row is on a page where its page is among the pages and its cell ends low enough: its row has a number.
+-- A node with a row is on a page where its page is among the pages, and its cell ends low enough and is not too wide: its row has a number.
 pub on-page : (b : Board) (pages nodes facts : List (List ℕ)) → b .nodes ≡ nodes → NodeFacts b facts → length nodes ≤ MISSING → (i : ℕ) → i < length nodes → given (field nodes i 10) ≡ true
-    → field nodes i 10 < length pages → brickCell (boardWith nodes) i .x1 < MISSING → OnPage pages nodes facts i
-on-page b pages nodes facts same known few i low has page end =
+    → field nodes i 10 < length pages → brickCell (boardWith nodes) i .x1 < MISSING → brickCell (boardWith nodes) i .x1 ≤ field nodes i 8 + 2000 → OnPage pages nodes facts i
+on-page b pages nodes facts same known few i low has page end wide =
     let long : length (b .nodes) ≡ length nodes = ap length same in
     let there : i < length (b .nodes) = omega arith in
     let row : hasRow b i ≡ true = (λ j. given (field (same j) i 10)) ∙ has in
     let number : field facts i 0 ≡ rowOf b i = known .rows i there row in
     let below = row-below b (pageOf b i) i (record { there-is = there; row = row; page = refl }) in
-    record { page = page; end = end; row = omega arith }
+    record { page = page; end = end; wide = wide; row = omega arith }

@@ -3,7 +3,7 @@ use Prim.Native.Nat.{ℕ, zero, suc, _+_, _*_, _≤_, _<_}
 use mathlib.Core.Path.{_≡_}
 use mathlib.Core.Bool.{Bool, true, false, not, _&&_}
 use mathlib.Core.List.{List, [], _∷_}
-use lib.Dec.{eqb}
+use lib.Dec.{eqb, leb}
 use lib.ListN.{length, getD}
 use Rattle.sheet.specs.Table.{MISSING}
 use Rattle.board.specs.Lists.{none, at, keep, upto}
@@ -13,15 +13,16 @@ use Rattle.board.specs.Groups.{anchorOf, wireOpen}
 use Rattle.board.specs.Tables.{NodeFacts, held, view}
 use Rattle.routes.specs.Bus
 use Rattle.routes.specs.Bus.{samePort, muted, place, placedFeed, portFeed, deliver}
-use Rattle.routes.specs.Chains.{Walkable, brickBucket, nodeBucket, boardWith, CellRows}
+use Rattle.cells.specs.Chains.{Walkable, brickBucket, nodeBucket, boardWith, CellRows}
 use Rattle.routes.specs.Corners.{Taken, Cornering, sinkLoad, cornerClear, cornerLevel, withCorner, turnWire, turns, corners}
 use Rattle.routes.specs.Holding.{BusHeld, brickOf}
-use Rattle.routes.specs.Marks.{Marks, markIn}
+use Rattle.routes.specs.Levels.{STAGGER_STEP, levelsIn}
+use Rattle.stops.specs.Marks.{Marks, markIn}
 use Rattle.routes.specs.declared.bus.Brick.{Brick}
 use Rattle.routes.specs.declared.bus.BusCount.{BusCount}
 use Rattle.corners.specs.declared.lay.CornerCount.{CornerCount}
 use Rattle.corners.specs.declared.lay.Turn.{Turn}
-use Rattle.routes.specs.declared.marks.Mark.{Mark}
+use Rattle.stops.specs.declared.marks.Mark.{Mark}
 
 -- A mark's third side: a level that a corner of the sink took.
 abbrev pub AT_SINK : ℕ
@@ -59,10 +60,11 @@ turnRead pages nodes facts s t =
       sink = t;
     }
 
--- A node with a row is on a page, its cell ends below what 32 bits hold, and its row has a number.
+-- A node with a row is on a page, its cell ends below what 32 bits hold and is at most 1,000 levels wide, and its row has a number.
 pub record OnPage (pages nodes facts : List (List ℕ)) (i : ℕ) : Type 0 where
   pub page : field nodes i 10 < length pages
   pub end : brickCell (boardWith nodes) i .x1 < MISSING
+  pub wide : brickCell (boardWith nodes) i .x1 ≤ field nodes i 8 + 2000
   pub row : field facts i 0 < MISSING
 
 -- The source and the sink of a turn are nodes, and the sink has a row.
@@ -74,7 +76,7 @@ pub record InReach (pages nodes facts : List (List ℕ)) (s t : ℕ) : Type 0 wh
   pub target : t < length nodes
   pub onPage : OnPage pages nodes facts t
 
--- The tables can be asked for a clear cell and a level taken.
+-- The tables can be asked for clear cells and for a level taken.
 pub record Askable (nodes facts rerouters marks : List (List ℕ)) (nodeNexts nodeHeads nexts heads markHeads : List ℕ) (n m : ℕ) (turn : Turn) : Type 0 where
   pub nodeWalk : Walkable (nodeBucket nodes facts) (length facts) nodeNexts nodeHeads (length nodes)
   pub brickWalk : Walkable (brickBucket rerouters) (length rerouters) nexts heads n
@@ -82,6 +84,7 @@ pub record Askable (nodes facts rerouters marks : List (List ℕ)) (nodeNexts no
   pub pageThere : turn .page ≡ MISSING → ⊥
   pub rowThere : turn .row ≡ MISSING → ⊥
   pub topFits : turn .top ≤ MISSING
+  pub wide : turn .top ≤ turn .x + 2000
 
 -- What they answer of is the bus and the levels taken so far.
 pub record Asked (b : Board) (c : Cornering) (s t : ℕ) (nodes facts rerouters marks : List (List ℕ)) (n m : ℕ) (turn : Turn) : Type 0 where
@@ -91,6 +94,21 @@ pub record Asked (b : Board) (c : Cornering) (s t : ℕ) (nodes facts rerouters 
   pub count : n ≡ length (c .bus .bricks)
   pub taken : view markIn marks m ≡ takenMarks (c .taken)
   pub turning : TurnOf b s t turn
+
+-- The levels taken can be asked for, and each level has its end.
+pub record Searchable (marks : List (List ℕ)) (markHeads : List ℕ) (m : ℕ) (ends : List ℕ) (turn : Turn) : Type 0 where
+  pub marked : Marks marks markHeads m
+  pub endsLong : levelsIn (turn .x) (turn .top) ≤ length ends
+  pub topFits : turn .top ≤ MISSING
+
+-- A level's end tells whether it is clear, and the marks which levels the sink's corners took.
+pub record LevelTold (b : Board) (c : Cornering) (s t : ℕ) (marks : List (List ℕ)) (m : ℕ) (turn : Turn) (level end : ℕ) : Type 0 where
+  pub clear : leb end level ≡ cornerClear b (c .bus) s t level
+  pub taken : view markIn marks m ≡ takenMarks (c .taken)
+  pub sink : turn .sink ≡ t
+
+abbrev pub LevelsTold : Board → Cornering → ℕ → ℕ → List (List ℕ) → ℕ → List ℕ → Turn → Type 0
+LevelsTold b c s t marks m ends turn = (k : ℕ) → k < levelsIn (turn .x) (turn .top) → LevelTold b c s t marks m turn (turn .x + STAGGER_STEP * k) (getD ends k 0)
 
 -- "not yet used by this sink's corners whose cell .. is clear"
 abbrev pub openCorner : Board → Cornering → ℕ → ℕ → ℕ → Bool

@@ -10,7 +10,7 @@ use Rattle.board.specs.Board.{Board}
 use Rattle.board.specs.Lists.{any}
 use Rattle.board.specs.Tables.{view}
 use Rattle.routes.specs.Bus.{Bus, Brick, BusWire, End, port, rerouter, Carries, onward, delivery, Port, insertPort, samePort, portOf, muted}
-use Rattle.routes.specs.Chains.{inward, CellRows}
+use Rattle.cells.specs.Chains.{inward, CellRows}
 use Rattle.routes.specs.Holding.{BusHeld}
 use Rattle.routes.specs.declared.bus.BusCount.{BusCount}
 

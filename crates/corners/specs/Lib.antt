@@ -1,3 +1,4 @@
+pub mod Blocked
 pub mod CornerTables
 pub mod Handed
 pub mod Ports

@@ -10,7 +10,7 @@ use Rattle.board.specs.Lists.{Found, none, at, any}
 use Rattle.board.specs.Board.{field}
 use Rattle.board.specs.Tables.{view}
 use Rattle.routes.specs.Bus.{Port, samePort}
-use Rattle.routes.specs.Chains.{BUCKETS, Walkable}
+use Rattle.cells.specs.Chains.{BUCKETS, Walkable}
 use Rattle.corners.specs.CornerTables.{portAt, Classed}
 use Rattle.corners.specs.Handed.{portIn}
 

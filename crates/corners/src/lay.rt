@@ -1,4 +1,8 @@
 // Corners (`lay_mini_bus`): a wire that goes down its own line's block turns once, beside its sink.
+use crate::blocked::Levels;
+use crate::blocked::find_ends;
+use cells::cells::brick_cell;
+use emit::emit::place;
 use routes::bus::Brick;
 use routes::bus::BusCount;
 use routes::bus::End;
@@ -6,17 +10,14 @@ use routes::bus::Feed;
 use routes::bus::MISSING;
 use routes::bus::NodeId;
 use routes::bus::push_delivery;
-use routes::cells::brick_cell;
-use routes::cells::row_clear;
-use routes::emit::place;
-use routes::levels::Level;
-use routes::levels::STAGGER_STEP;
-use routes::levels::is_within;
-use routes::levels::levels_in;
-use routes::marks::Mark;
-use routes::marks::add_mark;
-use routes::marks::count_of;
-use routes::marks::is_marked;
+use stops::levels::Level;
+use stops::levels::STAGGER_STEP;
+use stops::levels::is_within;
+use stops::levels::levels_in;
+use stops::marks::Mark;
+use stops::marks::add_mark;
+use stops::marks::count_of;
+use stops::marks::is_marked;
 ghost use mathlib.Core.Path.{_≡_};
 ghost use mathlib.Core.Bool.{true, false};
 ghost use mathlib.Core.List.{List, []};
@@ -29,13 +30,14 @@ ghost use Rattle.board.specs.Refusals.{bodyOf};
 ghost use Rattle.board.specs.Tables.{held};
 ghost use Rattle.routes.specs.Corners.{Cornering, turnsDown, cornerBrick, cornerLevel, cornerClear, sinkLoad, withCorner, turnWire, turns as turnsAt};
 ghost use Rattle.routes.specs.Levels.{levelsIn, lowest, lightest};
-ghost use Rattle.routes.specs.Chains.{Walkable, brickBucket, nodeBucket};
+ghost use Rattle.cells.specs.Chains.{Walkable, brickBucket, nodeBucket};
 ghost use Rattle.routes.specs.Holding.{brickOf};
+ghost use Rattle.stops.specs.Marks.{Marks};
 ghost use lib.Dec.{eqb};
 ghost use mathlib.Core.Bool.{not};
 ghost use Rattle.routes.specs.Bus.{Bus, muted as isMuted};
-ghost use Rattle.routes.specs.Laying.{levelAnswer};
-ghost use Rattle.corners.specs.CornerTables.{CornerStep, WireOf, TurnFacts, CornersLaid, begun, Tested, firsts, TestsFit, Turners, WireThere, EndsThere, TurnOf, turnRead, InReach, Askable, Asked, openCorner, RoomForCorner, CornerPlaced, laid, CornerReady, CornersHeld, CornerFits, CornerFacts, cornered};
+ghost use Rattle.stops.specs.Laying.{levelAnswer};
+ghost use Rattle.corners.specs.CornerTables.{CornerStep, WireOf, TurnFacts, CornersLaid, begun, Tested, firsts, TestsFit, Turners, WireThere, EndsThere, TurnOf, turnRead, InReach, Askable, Asked, Searchable, LevelTold, LevelsTold, openCorner, RoomForCorner, CornerPlaced, laid, CornerReady, CornersHeld, CornerFits, CornerFacts, cornered};
 
 // What a corner goes by: where it may stand and what it looks like.
 pub struct Turn {
@@ -90,27 +92,22 @@ fn is_body(nodes: &[[u32; 16]], anchor: u32, id: u32) -> bool
     nodes[i][1] == id
 }
 
-// Whether no corner of the sink took the level, and a corner's cell there is clear of the sink row's cells.
+// Whether a corner's cell at the level is clear of the sink row's cells, as its end tells, and no corner of the sink took the level.
 fn is_open_corner(
-    nodes: &[[u32; 16]],
-    facts: &[[u32; 8]],
-    node_nexts: &[u32],
-    node_heads: &[u32],
-    rerouters: &[[u32; 10]],
-    nexts: &[u32],
-    heads: &[u32],
-    n: usize,
     marks: &[[u32; 8]],
     mark_heads: &[u32],
     m: usize,
     turn: Turn,
     level: u32,
+    end: u64,
 ) -> bool
-    requires { ⌜ Askable (now nodes) (now facts) (now rerouters) (now marks) (now «node_nexts») (now «node_heads») (now nexts) (now heads) (now «mark_heads») n m turn ⌝ }
-    ensures { λ r. ⌜ ((b : Board) (c : Cornering) (s t : ℕ) → Asked b c s t (now (nodes .entry)) (now (facts .entry)) (now (rerouters .entry)) (now (marks .entry)) n m turn
-        → r ≡ openCorner b c s t level) ⌝ }
+    requires { ⌜ Marks (now marks) (now «mark_heads») m ⌝ }
+    ensures { λ r. ⌜ ((b : Board) (c : Cornering) (s t : ℕ) → LevelTold b c s t (now (marks .entry)) m turn level end → r ≡ openCorner b c s t level) ⌝ }
 {
-    if is_marked(
+    if (level as u64) < end {
+        return false;
+    }
+    let used = is_marked(
         marks,
         mark_heads,
         m,
@@ -120,89 +117,48 @@ fn is_open_corner(
             place: turn.sink,
             level: level,
         },
-    ) {
-        return false;
-    }
-    row_clear(
-        nodes,
-        facts,
-        node_nexts,
-        node_heads,
-        rerouters,
-        nexts,
-        heads,
-        n,
-        turn.page,
-        turn.row,
-        level,
-        turn.y,
-    )
+    );
+    !used
 }
 
 // "the lowest not yet used by this sink's corners whose cell .. is clear of the sink row's cells", or none.
 fn lowest_corner(
-    nodes: &[[u32; 16]],
-    facts: &[[u32; 8]],
-    node_nexts: &[u32],
-    node_heads: &[u32],
-    rerouters: &[[u32; 10]],
-    nexts: &[u32],
-    heads: &[u32],
-    n: usize,
     marks: &[[u32; 8]],
     mark_heads: &[u32],
     m: usize,
+    ends: &[u64],
     turn: Turn,
 ) -> Level
-    requires { ⌜ Askable (now nodes) (now facts) (now rerouters) (now marks) (now «node_nexts») (now «node_heads») (now nexts) (now heads) (now «mark_heads») n m turn ⌝ }
-    ensures { λ r. ⌜ ((b : Board) (c : Cornering) (s t : ℕ) → Asked b c s t (now (nodes .entry)) (now (facts .entry)) (now (rerouters .entry)) (now (marks .entry)) n m turn
+    requires { ⌜ Searchable (now marks) (now «mark_heads») m (now ends) turn ⌝ }
+    ensures { λ r. ⌜ ((b : Board) (c : Cornering) (s t : ℕ) → LevelsTold b c s t (now (marks .entry)) m (now (ends .entry)) turn
         → r ≡ levelAnswer (lowest (openCorner b c s t) (turn .x) (levelsIn (turn .x) (turn .top)))) ⌝ }
 {
     let top = turn.top;
     let mut level = turn.x;
+    let mut k: usize = 0;
     let found = loop {
         if !is_within(level, top) {
             break Level::None;
         }
-        if is_open_corner(
-            nodes,
-            facts,
-            node_nexts,
-            node_heads,
-            rerouters,
-            nexts,
-            heads,
-            n,
-            marks,
-            mark_heads,
-            m,
-            turn,
-            level,
-        ) {
+        if is_open_corner(marks, mark_heads, m, turn, level, ends[k]) {
             break Level::At(level);
         }
         level += STAGGER_STEP;
+        k += 1;
     };
     found
 }
 
 // "else the least loaded clear one, lower first", or none. It goes from the highest down, so that the last one taken is the lowest.
 fn least_loaded_corner(
-    nodes: &[[u32; 16]],
-    facts: &[[u32; 8]],
-    node_nexts: &[u32],
-    node_heads: &[u32],
-    rerouters: &[[u32; 10]],
-    nexts: &[u32],
-    heads: &[u32],
-    n: usize,
     marks: &[[u32; 8]],
     mark_heads: &[u32],
     m: usize,
+    ends: &[u64],
     turn: Turn,
 ) -> Level
-    requires { ⌜ Askable (now nodes) (now facts) (now rerouters) (now marks) (now «node_nexts») (now «node_heads») (now nexts) (now heads) (now «mark_heads») n m turn ⌝ }
-    ensures { λ r. ⌜ ((b : Board) (c : Cornering) (s t : ℕ) → Asked b c s t (now (nodes .entry)) (now (facts .entry)) (now (rerouters .entry)) (now (marks .entry)) n m turn
+    requires { ⌜ Searchable (now marks) (now «mark_heads») m (now ends) turn ⌝ }
+    ensures { λ r. ⌜ ((b : Board) (c : Cornering) (s t : ℕ) → LevelsTold b c s t (now (marks .entry)) m (now (ends .entry)) turn
         → r ≡ levelAnswer (lightest (cornerClear b (c .bus) s t) (sinkLoad b (c .taken) t) (turn .x) (levelsIn (turn .x) (turn .top)))) ⌝ }
 {
     let base = turn.x;
@@ -212,20 +168,7 @@ fn least_loaded_corner(
     while 0 < k {
         k -= 1;
         let level = base + STAGGER_STEP * k;
-        if row_clear(
-            nodes,
-            facts,
-            node_nexts,
-            node_heads,
-            rerouters,
-            nexts,
-            heads,
-            n,
-            turn.page,
-            turn.row,
-            level,
-            turn.y,
-        ) {
+        if ends[k as usize] <= level as u64 {
             let load = count_of(
                 marks,
                 mark_heads,
@@ -246,7 +189,7 @@ fn least_loaded_corner(
     best
 }
 
-// "the lowest ..; else the least loaded clear one, lower first; else no corner"
+// "the lowest ..; else the least loaded clear one, lower first; else no corner". Half sizes go to 1,000, so there are no more levels than that.
 fn corner_level(
     nodes: &[[u32; 16]],
     facts: &[[u32; 8]],
@@ -265,7 +208,16 @@ fn corner_level(
     ensures { λ r. ⌜ ((b : Board) (c : Cornering) (s t : ℕ) → Asked b c s t (now (nodes .entry)) (now (facts .entry)) (now (rerouters .entry)) (now (marks .entry)) n m turn
         → r ≡ levelAnswer (cornerLevel b c s t)) ⌝ }
 {
-    if let Level::At(level) = lowest_corner(
+    let row = turn.row;
+    let levels = Levels {
+        page: turn.page,
+        row: row,
+        x: turn.x,
+        y: turn.y,
+        count: levels_in(turn.x, turn.top),
+    };
+    let mut ends = [0u64; 1000];
+    find_ends(
         nodes,
         facts,
         node_nexts,
@@ -274,27 +226,13 @@ fn corner_level(
         nexts,
         heads,
         n,
-        marks,
-        mark_heads,
-        m,
-        turn,
-    ) {
+        levels,
+        &mut ends,
+    );
+    if let Level::At(level) = lowest_corner(marks, mark_heads, m, &ends, turn) {
         return Level::At(level);
     }
-    least_loaded_corner(
-        nodes,
-        facts,
-        node_nexts,
-        node_heads,
-        rerouters,
-        nexts,
-        heads,
-        n,
-        marks,
-        mark_heads,
-        m,
-        turn,
-    )
+    least_loaded_corner(marks, mark_heads, m, &ends, turn)
 }
 
 // A corner at a level: "at the level and the source's y", "with rotation 2, the page's z, the source node's colour".

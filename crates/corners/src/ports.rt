@@ -1,13 +1,13 @@
 // Wires by target port: which share one, and which lead to a suppressed one. They are chained by bucket, so that each port is found in a few steps.
 use board::ids::Found;
-use routes::cells::chain;
+use cells::cells::chain;
 ghost use mathlib.Core.Path.{_≡_};
 ghost use mathlib.Core.Bool.{Bool, _||_};
 ghost use Prim.Native.Nat.{ℕ, _<_, _≤_};
 ghost use lib.ListN.{length, getD};
 ghost use Rattle.board.specs.Index.{foundOf};
 ghost use Rattle.board.specs.Lists.{newest};
-ghost use Rattle.routes.specs.Chains.{Empty};
+ghost use Rattle.cells.specs.Chains.{Empty};
 ghost use Rattle.corners.specs.CornerTables.{portAt};
 ghost use Rattle.corners.specs.Ports.{portBucket, thePort, goesTo, WireWalk, classFor, Ported, PortRoom, FlaggedBy, amongPorts};
 

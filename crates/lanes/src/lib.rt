@@ -211,15 +211,3 @@ pub fn report(a: Allocation) -> LaneReport
         },
     }
 }
-
-#[no_mangle]
-pub extern "C" fn pz_allocate_lanes(
-    demands: &[u32],
-    lanes: &mut [u32],
-    work: &mut [[u32; 8]],
-    spare: &mut [[u32; 8]],
-) -> LaneReport
-    ensures { λ r. ⌜ Answered (now (demands .entry)) (now (lanes .entry)) (now (lanes .exit)) (length (now (work .entry))) (length (now (spare .entry))) r ⌝ }
-{
-    report(allocate_lanes(demands, lanes, work, spare))
-}

@@ -67,15 +67,20 @@ pages-fit answers work b h g =
     let w : ℕ = length (b .wires) in
     rw (le-leb (5 * w) 40960 (omega arith), le-leb (6 * w) 49152 (omega arith), le-leb w 8192 (omega arith), le-leb (LINE_MOST * (length (b .pages) + 12 * w + 1)) 12591232 (omega arith)) refl
 
-pub pages-planning : (text : List ℕ) (answers work : ℕ) → planning libraryMost (fitsLent (pagesLent answers work)) text ≡ planning libraryMost (fitsPages answers work) text
-pages-planning text answers work = go (judged libraryMost text) refl
+-- Two tests of what is lent that agree on every board within the limits plan alike.
+pub planning-same : (text : List ℕ) (f g : Board → Bool) → ((b : Board) → length (b .wires) ≤ libraryMost .wires → length (b .pages) ≤ libraryMost .pages → f b ≡ g b)
+    → planning libraryMost f text ≡ planning libraryMost g text
+planning-same text f g same = go (judged libraryMost text) refl
   where
-    go : (j : Judged) → judged libraryMost text ≡ j → planning libraryMost (fitsLent (pagesLent answers work)) text ≡ planning libraryMost (fitsPages answers work) text
-    go (Refusals.turnedAway n l) e = planning-refused libraryMost text _ n l e ∙ sym (planning-refused libraryMost text _ n l e)
+    go : (j : Judged) → judged libraryMost text ≡ j → planning libraryMost f text ≡ planning libraryMost g text
+    go (Refusals.turnedAway n l) e = planning-refused libraryMost text f n l e ∙ sym (planning-refused libraryMost text g n l e)
     go (board b) e =
-        planning-fine libraryMost text (fitsLent (pagesLent answers work)) b e
-        ∙ ap (λ (t : Bool). elim t as (λ _. Planning) [ true ↦ crowding b (planLanes b) | false ↦ refused 7 0 ]) (let f = few within-library (fine libraryMost text b e) in pages-fit answers work b (f .5) (f .0))
-        ∙ sym (planning-fine libraryMost text (fitsPages answers work) b e)
+        planning-fine libraryMost text f b e
+        ∙ ap (λ (t : Bool). elim t as (λ _. Planning) [ true ↦ crowding b (planLanes b) | false ↦ refused 7 0 ]) (let h = few within-library (fine libraryMost text b e) in same b (h .5) (h .0))
+        ∙ sym (planning-fine libraryMost text g b e)
+
+pub pages-planning : (text : List ℕ) (answers work : ℕ) → planning libraryMost (fitsLent (pagesLent answers work)) text ≡ planning libraryMost (fitsPages answers work) text
+pages-planning text answers work = planning-same text (fitsLent (pagesLent answers work)) (fitsPages answers work) (pages-fit answers work)
 
 -- What an answer says of the planning.
 module _ (rows nodeFacts wireFacts taps groups pageFacts : List (List ℕ)) where

@@ -18,7 +18,7 @@ use Rattle.board.specs.Refusals
 use Rattle.board.specs.Refusals.{Judged, judged}
 use Rattle.board.specs.Demands.{planLanes}
 use Rattle.board.specs.Planning.{Planning, refused, planning, crowding, fitsPages, records}
-use Rattle.board.specs.PagePlan.{Room}
+use Rattle.demands.specs.PagePlan.{Room}
 use Rattle.board.specs.Walk.{WithinLibrary, countsIn}
 use Rattle.board.proofs.Lists.{and-left, and-right}
 use Rattle.plan.specs.declared.Lent.{Lent}

@@ -11,17 +11,17 @@ use Rattle.lanes.specs.Lanes
 use Rattle.lanes.specs.Lanes.{Packed, laneMost}
 use Rattle.lanes.specs.Apart.{Rising}
 use Rattle.lanes.proofs.Promise.{lanes-apart}
-use Rattle.board.specs.declared.demands.BoardPlan.{BoardPlan}
-use Rattle.board.specs.declared.demands.Plan.{Plan}
-use Rattle.board.specs.declared.demands.Plan.the-variants.{Crowded, Laned}
+use Rattle.demands.specs.declared.demands.BoardPlan.{BoardPlan}
+use Rattle.demands.specs.declared.demands.Plan.{Plan}
+use Rattle.demands.specs.declared.demands.Plan.the-variants.{Crowded, Laned}
 use Rattle.board.specs.Lists.{least, greatest}
 use Rattle.board.specs.Board.{Board}
 use Rattle.board.specs.Groups.{Tap, tapsOf, tapsIn}
 use Rattle.board.specs.Demands.{PageLanes, Planned, crowded, planned, noLanes, planUpto, planLanes, packedOn, groupsOn, demandOf, firstRow, lastRow}
 use Rattle.board.specs.Planning.{Planning, crowding}
-use Rattle.board.specs.Tables.{PlanHeld}
+use Rattle.demands.specs.PagePlan.{PlanHeld}
 use Rattle.board.specs.Walk.{countsIn}
-use Rattle.board.specs.PagePlan.{BoardPlanned}
+use Rattle.demands.specs.PagePlan.{BoardPlanned}
 use Rattle.board.proofs.Lists.{never}
 use Rattle.plan.specs.declared.TextPlan
 use Rattle.plan.specs.declared.TextPlan.the-variants as answers

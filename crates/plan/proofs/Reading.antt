@@ -5,22 +5,22 @@ use mathlib.Core.Path.{_≡_, refl, sym, ap, _∙_, subst}
 use mathlib.Core.Bool.{Bool, true, false}
 use mathlib.Core.List.{List, [], _∷_, _++_}
 use lib.Dec.{ltb}
-use lib.ListN.{length, drop}
-use borrow.Author.Tests.{le-ltb}
+use lib.ListN.{length, drop, length-map}
 use Rattle.sheet.specs.declared.Counts.{Counts}
 use Rattle.sheet.specs.declared.Checked.{Checked}
 use Rattle.sheet.specs.declared.Checked.the-variants.{Refused as NotTaken, Fine as Taken}
 use Rattle.sheet.specs.Table.{libraryMost}
 use Rattle.sheet.specs.Reading
-use Rattle.sheet.specs.Reading.{Reading, rows, reading, rowsFrom}
-use Rattle.sheet.specs.Answer.{rowsAfter}
+use Rattle.sheet.specs.Reading.{Reading, rows, reading, rowOf, rowsFrom, sheetLines}
+use Rattle.sheet.specs.Walk.{allRead}
+use Rattle.sheet.proofs.Walks.{accepted-read}
 use Rattle.board.specs.Board.{Board}
 use Rattle.board.specs.Refusals
 use Rattle.board.specs.Refusals.{Judged, board, judged}
 use Rattle.board.specs.Demands.{PageLanes, Planned, crowded, planned, planLanes}
 use Rattle.board.specs.Planning.{Planning, refused, lanesFor, planning, crowding, records}
-use Rattle.board.specs.Tables.{Indexes}
-use Rattle.board.specs.PagePlan.{Room}
+use Rattle.collect.specs.Collecting.{Indexes}
+use Rattle.demands.specs.PagePlan.{Room}
 use Rattle.board.specs.Walk.{WithinLibrary, countsIn, boardChecked, Indexed, IndexedIf}
 use Rattle.board.proofs.Lists.{never}
 use Rattle.plan.specs.declared.Lent.{Lent}
@@ -93,10 +93,6 @@ module _ (most : Counts) (text : List ℕ) (fits : Board → Bool) (b : Board) (
           fit true f = laned f (planLanes c) refl (from true f)
           fit false f = let d : refused 7 0 ≡ lanesFor b ps = from false f in never cc
 
-rows-after : (old l : List (List ℕ)) → length l ≤ length old → rowsAfter old (rows l) ≡ l ++ drop (length l) old
-unfolding rowsAfter
-rows-after old l h = rw (le-ltb (length old) (length l) h, rowsAfter) refl
-
 -- The rows that are read.
 module _ {most : Counts} {text : List ℕ} {b : Board} {counts : Counts} {bodyIds bodyNexts bodyHeads innerIds innerNexts innerHeads : List ℕ}
     (low : WithinLibrary most) (checked : BoardChecked b most text counts bodyIds bodyNexts bodyHeads innerIds innerNexts innerHeads) where
@@ -111,12 +107,17 @@ module _ {most : Counts} {text : List ℕ} {b : Board} {counts : Counts} {bodyId
     enough : records b ≤ lent .work
     enough = fits-all lent b (fits-counted lent b counts true (checked .counted) fits) .work
 
-    rows-are : rowsAfter old (reading most text) ≡ rowsFrom text ++ drop (length (rowsFrom text)) old
-    rows-are =
+    -- What `fill_rows` asks: a line for each record, all read.
+    pub fill-asks : (n : ℕ) → n ≡ counts .pages + counts .nodes + counts .chips + counts .inner + counts .execs + counts .wires
+        → (n ≡ length (sheetLines text)) × (n ≤ length old) × (allRead (sheetLines text) ≡ true)
+    unfolding records rowsFrom
+    fill-asks n is =
         let size = rows-count b (rowsFrom text) (known .known) in
+        let lines : length (rowsFrom text) ≡ length (sheetLines text) = length-map (sheetLines text) rowOf in
+        let all : n ≡ records b = is ∙ ap (λ (c : Counts). c .pages + c .nodes + c .chips + c .inner + c .execs + c .wires) (checked .counted) in
         let w = work .records-lent in
-        let n = enough in
-        ap (rowsAfter old) (known .read) ∙ rows-after old (rowsFrom text) (omega arith)
+        let e = enough in
+        (omega arith, omega arith, accepted-read most text (rowsFrom text) (known .read))
 
     room : Room (b .pages) (b .nodes) (b .execs) (b .wires) nodeFacts wireFacts taps groups pageFacts demands keys spare
     unfolding records
@@ -136,10 +137,10 @@ module _ {most : Counts} {text : List ℕ} {b : Board} {counts : Counts} {bodyId
           pageRoom = omega arith;
         }
 
-    pub board-read : (after : List (List ℕ)) → after ≡ rowsAfter old (reading most text) → BoardRead b after counts bodyIds bodyNexts bodyHeads innerIds innerNexts innerHeads nodeFacts wireFacts taps groups pageFacts demands keys spare
-    board-read after e =
+    pub board-read : (n : ℕ) (after : List (List ℕ)) → after ≡ rowsFrom text ++ drop n old → BoardRead b after counts bodyIds bodyNexts bodyHeads innerIds innerNexts innerHeads nodeFacts wireFacts taps groups pageFacts demands keys spare
+    board-read n after e =
         record {
-          sections = rw (e ∙ rows-are) (sections-in b (rowsFrom text) (drop (length (rowsFrom text)) old) (known .known));
+          sections = rw e (sections-in b (rowsFrom text) (drop n old) (known .known));
           counted = checked .counted;
           few = checked-few;
           ranged = nodes-ranged low known;

@@ -8,7 +8,6 @@ use Rattle.board.specs.Planning.{Planning, refused, lanesFor, planning, fitsPag
 use Rattle.plan.specs.TextPlan.{shortest}
 use Rattle.plan.specs.declared.PagesPlan.{PagesPlan}
 use Rattle.plan.specs.declared.PagesPlan.the-variants.{Refused, Planned}
-use Rattle.plan.specs.declared.export.PagesNumbers.{PagesNumbers}
 
 -- The planning of a sheet's text with so many page answers and slices of work space of these lengths lent.
 unfoldable pub planCall : List ℕ → ℕ → List ℕ → Planning
@@ -21,13 +20,4 @@ pagesPlan (lanesFor b ps) = Planned (length (b .pages))
 -- The answer, and all of the page answers: on a refusal they are as they were.
 pub record PagesPlanned (call : Planning) (before after : List (List ℕ)) (r : PagesPlan) : Type 0 where
   pub answer : r ≡ pagesPlan call
-  pub answers : after ≡ pagesAfter call before
-
--- The exported answer: refusal, place, pages.
-abbrev pub pagesNumbers : PagesPlan → PagesNumbers
-pagesNumbers (Refused n l) = record { refusal = n; place = l; pages = 0 }
-pagesNumbers (Planned n) = record { refusal = 0; place = 0; pages = n }
-
-pub record PagesNumbered (call : Planning) (before after : List (List ℕ)) (r : PagesNumbers) : Type 0 where
-  pub answer : r ≡ pagesNumbers (pagesPlan call)
   pub answers : after ≡ pagesAfter call before

@@ -13,10 +13,11 @@ use Rattle.board.specs.Refusals.{judged}
 use Rattle.board.specs.Groups.{tapsOf}
 use Rattle.board.specs.Demands.{PageLanes, Planned, planned, planLanes}
 use Rattle.board.specs.Planning.{Planning, refused, lanesFor, planning, fitsPages, crowding, records}
-use Rattle.board.specs.Tables.{view, tapIn, NodeFacts, WireFacts, GroupFacts, PageFacts, Indexes}
+use Rattle.board.specs.Tables.{view, tapIn, NodeFacts, WireFacts, GroupFacts, PageFacts}
+use Rattle.collect.specs.Collecting.{Indexes}
 use Rattle.board.specs.Walk.{countsIn, Indexed}
 use Rattle.board.specs.Accepted.{NodesRanged}
-use Rattle.board.specs.PagePlan.{Room}
+use Rattle.demands.specs.PagePlan.{Room}
 use Rattle.plan.specs.declared.Lent.{Lent}
 use Rattle.plan.specs.declared.TextPlan.{TextPlan}
 use Rattle.plan.specs.declared.TextPlan.the-variants.{Refused, Laned}

@@ -1,11 +1,11 @@
 // `plan_bus`: from a sheet's text to the lanes of every page, with every refusal in its order. Each call of the router starts with `plan_text`.
-use board::demands::Plan;
-use board::demands::plan_board;
 use board::refusals::check_board;
+use demands::demands::Plan;
+use demands::demands::plan_board;
 use sheet::Checked;
 use sheet::Counts;
+use sheet::fill_rows;
 use sheet::library_most;
-use sheet::read_sheet;
 ghost use mathlib.Core.Path.{_≡_};
 ghost use mathlib.Core.Bool.{true};
 ghost use mathlib.Core.List.{List, [], _∷_, _++_, map};
@@ -21,8 +21,6 @@ ghost use Rattle.board.specs.Planning.{planning, fitsPages, crowding, pageRow, 
 ghost use Rattle.board.specs.Walk.{WithinLibrary};
 ghost use Rattle.plan.specs.TextPlan.{fitsLent, shortest, hasRoom, fitsCounts, WorkLent, BoardRead, BoardChecked, fitted, TextPlanned};
 ghost use Rattle.plan.specs.PagesPlan.{planCall, PagesPlanned};
-
-mod export;
 
 // The lengths of what is lent: rerouters, bus wires, suppressed ports, page answers, the rows of the shortest slice of work space, and bytes for the plan sheet's
 // text. A call that is not lent one of them says as much as the largest board asks for.
@@ -227,7 +225,15 @@ fn plan_fitting(
             place: 0,
         };
     }
-    let _read = read_sheet(text, most, records);
+    let lines = total(
+        counts.pages,
+        counts.nodes,
+        counts.chips,
+        counts.inner,
+        counts.execs,
+        counts.wires,
+    );
+    fill_rows(text, records, lines);
     plan_rows(
         records,
         counts,

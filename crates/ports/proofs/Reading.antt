@@ -12,7 +12,7 @@ use Rattle.board.specs.Board.{Board, targetPort}
 use Rattle.routes.specs.Bus.{Bus, BusWire, End, port, rerouter, Carries, onward, delivery, Port}
 use Rattle.routes.specs.Buffers.{endRow, carriesRow, wireRow, portRow}
 use Rattle.routes.specs.Tables.{writtenOver}
-use Rattle.routes.proofs.PlanText.{rows-written}
+use Rattle.routes.proofs.Views.{rows-written}
 use Rattle.ports.specs.Ports.{sentTo, targets, suppress, portsSet, Ported}
 use Rattle.ports.specs.Settling.{endIn, carriesIn, wireIn, wiresFrom, portIn, handed, portsOver, settled}
 

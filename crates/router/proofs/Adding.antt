@@ -24,7 +24,7 @@ use Rattle.ports.specs.Settling.{portsOver, handed, settled, Settleable, Settle
 use Rattle.ports.proofs.Calling.{settled-corners, settleable-corners}
 use Rattle.ports.proofs.Reading.{WiresRanged}
 use Rattle.router.specs.Finish.{BusStands, CornersReady}
-use Rattle.router.proofs.Turning.{wires-ranged}
+use Rattle.gutter.proofs.Suppressing.{wires-ranged}
 use Rattle.router.proofs.Finishing.{laid-handed, laid-mutes, laid-room, laid-given, ports-finished, wires-fit, sort-room}
 
 ports-long : (l : List Port) (old : List (List ℕ)) → length l ≤ length old → length (portsOver l old) ≡ length old
@@ -61,7 +61,7 @@ module _ {b : Board} {ps : List PageLanes} {old oldWires oldPorts rows : List (L
       ∙ laid-given (ready .most) (ready .text) (ready .within) b (ready .accepted) ps (ready .plan) ports oldPorts (ready .stands .ports-are)
 
   ranged : WiresRanged b
-  ranged = wires-ranged (ready .most) (ready .text) (ready .within) b (ready .accepted)
+  ranged = wires-ranged (ready .most) (ready .text) b (ready .within) (ready .accepted)
 
   module _ {rerouters′ busWires′ : List (List ℕ)} {count : BusCount} (held : BusHeld (corners b (busOf b ps)) old oldWires rerouters′ busWires′ count) where
     fit : length (corners b (busOf b ps) .wires) ≤ length oldWires

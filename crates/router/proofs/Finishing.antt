@@ -20,13 +20,13 @@ use Rattle.board.proofs.Lists.{clash, count-none, none-counted, count-reverse, 
 use Rattle.routes.specs.Bus.{Bus, Brick, BusWire, Port, insertPort, place, deliver, samePort, portOf, muted}
 use Rattle.routes.specs.Buffers.{brickRow, wireRow, portRow}
 use Rattle.routes.specs.Tables.{writtenOver}
-use Rattle.routes.specs.Chains.{Fits, RowsOf, CellRows}
+use Rattle.cells.specs.Chains.{Fits, RowsOf, CellRows}
 use Rattle.routes.specs.Corners.{turnable, corners}
 use Rattle.routes.specs.Plan.{busOf, finished}
 use Rattle.routes.specs.Holding.{BusHeld}
 use Rattle.routes.specs.Demand3.{HighGutters}
 use Rattle.routes.proofs.Views.{view-take}
-use Rattle.routes.proofs.Emitting.{rows-more}
+use Rattle.emit.proofs.Emitting.{rows-more}
 use Rattle.routes.proofs.Room.{Room, room-to-turn, room-finished}
 use Rattle.routes.proofs.Routed.{judged-gutters}
 use Rattle.corners.specs.Handed.{portIn, Mutes, Handed}

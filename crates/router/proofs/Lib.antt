@@ -1,12 +1,6 @@
-pub mod Loops
-pub mod Boards
-pub mod Heights
-pub mod Supply
-pub mod Planned
 pub mod Finishing
 pub mod Turning
 pub mod Adding
-pub mod Suppressing
 pub mod Routing
 pub mod Promise
 pub mod MiniLaws

@@ -15,7 +15,7 @@ use Rattle.board.specs.Demands.{PageLanes}
 use Rattle.board.specs.Planning.{lanesFor, planning, records}
 use Rattle.board.specs.Walk.{WithinLibrary, countsIn}
 use Rattle.board.proofs.Lists.{and-left, and-right}
-use Rattle.board.proofs.GroupLaws.{length-view}
+use Rattle.demands.proofs.GroupLaws.{length-view}
 use Rattle.plan.specs.declared.Lent.{Lent}
 use Rattle.plan.specs.TextPlan.{fitsLent, shortest, WorkLent, TablesHold}
 use Rattle.plan.proofs.Fitting.{fits-all, shortest-front}
@@ -35,13 +35,14 @@ use Rattle.ports.specs.Ports.{portsSet}
 use Rattle.ports.specs.Settling.{portIn, handed, portsOver, settled, Settleable, Settled}
 use Rattle.ports.proofs.SetLaws.{set-last}
 use Rattle.ports.proofs.Calling.{settled-corners, settleable-corners}
-use Rattle.router.specs.declared.bus.BusPlan.{BusPlan}
-use Rattle.router.specs.declared.bus.BusPlan.the-variants.{Refused, Laid}
+use Rattle.gutter.specs.declared.bus.BusPlan.{BusPlan}
+use Rattle.gutter.specs.declared.bus.BusPlan.the-variants.{Refused, Laid}
 use Rattle.router.specs.declared.mini.BusCounts.{BusCounts}
-use Rattle.router.specs.Bus.{BusLent}
-use Rattle.router.specs.Calls.{busLent, busAnswer, reroutersAfter, busWiresAfter, portsAfter, BusCalled}
+use Rattle.gutter.specs.Bus.{BusLent}
+use Rattle.gutter.specs.Calls.{busFits, busAnswer, reroutersAfter, busWiresAfter, portsAfter, BusCalled}
 use Rattle.router.specs.Mini.{holds, busHeld, miniOf, miniBy, miniCall, HeldReady}
-use Rattle.router.proofs.Turning.{wires-ranged, turn-ready}
+use Rattle.gutter.proofs.Suppressing.{wires-ranged, lentWith, bus-planning}
+use Rattle.router.proofs.Turning.{turn-ready}
 
 -- The ports handed in, whatever row is put in first.
 ports-in : (ports : List (List ℕ)) (u : ℕ) → u ≤ length ports → portsSet (handed ports u) ≡ portsIn ports u
@@ -178,7 +179,7 @@ held-ready most text lent low b ps is rows nodeFacts wireFacts taps groups pageF
     let ss = work .spare-lent in
     record {
       ready = turn-ready most text lent low b ps is rows nodeFacts wireFacts taps groups pageFacts m tables c counted (work .node-facts) (work .wire-facts) rerouters busWires ports marks bus;
-      ranged = wires-ranged most text low b (from .accepted);
+      ranged = wires-ranged most text b low (from .accepted);
       portRoom = omega arith;
       sortRoom = (omega arith, omega arith);
     }
@@ -206,12 +207,13 @@ module _ (half : ℕ) (rest : List ℕ) (least w : ℕ) (shortest-is : least ≡
   lent-below = omega arith
 
   pub mini-called : (text : List ℕ) (most : Counts) → most ≡ libraryMost → (r b p : ℕ) → 0 < length rest → (rerouters busWires ports : List (List ℕ)) (held : BusCounts)
-      → miniBy rerouters busWires ports held (planning most (fitsLent (record { rerouters = r; «bus_wires» = b; ports = p; answers = 64; work = w; out = 12591232 })) text)
-      ≡ miniCall text (busLent r b p (half ∷ rest)) rerouters busWires ports held
+      → miniBy rerouters busWires ports held (planning most (fitsLent (lentWith r b p w)) text)
+      ≡ miniCall text (busFits r b p (half ∷ rest)) rerouters busWires ports held
   unfolding miniCall
   mini-called text most e r b p some rerouters busWires ports held =
       let same : w ≡ shortest (half ∷ rest) = lesser-is ∙ (ap (min half) shortest-is ∙ sym (shortest-front half rest some)) in
-      λ i. miniBy rerouters busWires ports held (planning (e i) (fitsLent (record { rerouters = r; «bus_wires» = b; ports = p; answers = 64; work = same i; out = 12591232 })) text)
+      (λ i. miniBy rerouters busWires ports held (planning (e i) (fitsLent (lentWith r b p (same i))) text))
+      ∙ ap (miniBy rerouters busWires ports held) (bus-planning text r b p (shortest (half ∷ rest)))
 
 pub marks-halved : (marks : List (List ℕ)) (least w : ℕ) → w ≡ min (length marks / 2) least → 2 * w ≤ length marks
 marks-halved marks least w e = omega arith

@@ -4,29 +4,41 @@ use native.Mathlib.Omega.{arith}
 use mathlib.Core.Path.{_≡_, refl, sym, ap, _∙_, subst}
 use mathlib.Core.List.{List, _++_, map}
 use lib.ListN.{length, drop}
+use borrow.Author.Tests.{le-leb}
 use Rattle.sheet.specs.declared.Counts.{Counts}
 use Rattle.board.specs.Board.{Board}
 use Rattle.board.specs.Demands.{PageLanes}
 use Rattle.board.specs.Planning.{Planning, refused, lanesFor, planning, records, pageRow}
 use Rattle.board.specs.Walk.{WithinLibrary, countsIn}
 use Rattle.plan.specs.declared.Lent.{Lent}
-use Rattle.plan.specs.TextPlan.{fitsLent}
+use Rattle.plan.specs.TextPlan.{LINE_MOST, hasRoom, fitsCounts, fitsLent}
 use Rattle.plan.proofs.Fitting.{fits-all}
 use Rattle.plan.proofs.Reading.{lanes-from}
 use Rattle.plan.proofs.Planned.{planned-counts}
-use Rattle.plan.proofs.Calling.{LanesTold}
+use Rattle.plan.proofs.Calling.{LanesTold, planning-same}
 use Rattle.sheet.specs.Table.{libraryMost}
 use Rattle.routes.specs.Plan.{busOf, finished, laidGroups}
-use Rattle.routes.specs.Route.{routedBy, routed}
-use Rattle.router.specs.Bus.{BusLent}
+use Rattle.routes.specs.Route.{routedBy, fitsPlan, routed}
+use Rattle.gutter.specs.Bus.{BusLent}
 use Rattle.router.specs.Finish.{BusStands, CornersReady, PlanTexted}
 use Rattle.router.specs.Route.{routeCall, PlanCalled}
-use Rattle.router.specs.declared.bus.BusText.{BusText}
-use Rattle.router.specs.declared.bus.BusText.the-variants.{Refused, Laid}
-use Rattle.router.specs.declared.bus.BusPlan.the-variants as plans
+use Rattle.gutter.specs.declared.bus.BusText.{BusText}
+use Rattle.gutter.specs.declared.bus.BusText.the-variants.{Refused, Laid}
+use Rattle.gutter.specs.declared.bus.BusPlan.the-variants as plans
 use Rattle.router.proofs.Turning.{turn-ready}
 use Rattle.router.proofs.Finishing.{laid-few}
-use Rattle.router.proofs.Suppressing.{BusTold, withoutCounts}
+use Rattle.gutter.proofs.Suppressing.{BusTold, withoutCounts}
+
+-- What `route` finds lent, with so many rows of work space. It writes no text, and plans as if the most were lent for it: so only document 01's lengths decide.
+abbrev pub planWith : ℕ → ℕ → ℕ → ℕ → ℕ → Lent
+planWith rerouters busWires ports answers work = record { rerouters = rerouters; «bus_wires» = busWires; ports = ports; answers = answers; work = work; out = 12591232 }
+
+plan-fit : (r w p a work : ℕ) (b : Board) → length (b .wires) ≤ libraryMost .wires → length (b .pages) ≤ libraryMost .pages → fitsLent (planWith r w p a work) b ≡ fitsPlan r w p a work b
+unfolding fitsLent fitsCounts hasRoom fitsPlan records
+plan-fit r w p a work b h g = rw (le-leb (LINE_MOST * (length (b .pages) + 12 * length (b .wires) + 1)) 12591232 (omega arith)) refl
+
+plan-planning : (text : List ℕ) (r w p a work : ℕ) → planning libraryMost (fitsLent (planWith r w p a work)) text ≡ planning libraryMost (fitsPlan r w p a work) text
+plan-planning text r w p a work = planning-same text (fitsLent (planWith r w p a work)) (fitsPlan r w p a work) (plan-fit r w p a work)
 
 module _ (most : Counts) (text : List ℕ) (lent : Lent) (low : WithinLibrary most) (rows nodeFacts wireFacts taps groups pageFacts old oldWires oldPorts rerouters busWires ports : List (List ℕ)) (c : Counts) (n k u g : ℕ)
     (told : BusTold rows nodeFacts wireFacts taps groups pageFacts old oldWires oldPorts rerouters busWires ports (planning most (fitsLent lent) text) c n k u g) where
@@ -96,13 +108,11 @@ module _ (old oldWires oldPorts oldAnswers rerouters busWires ports answers : Li
         answers-are = w;
       }
 
-  pub route-called : (text : List ℕ) (lent : Lent) (most : Counts) → most ≡ libraryMost → (r : BusText) → PlanTexted (planning most (fitsLent lent) text) old oldWires oldPorts oldAnswers rerouters busWires ports answers r
-      → PlanCalled (routeCall text lent) old oldWires oldPorts oldAnswers rerouters busWires ports answers (withoutCounts r)
+  pub route-called : (text : List ℕ) (r w p a work : ℕ) (most : Counts) → most ≡ libraryMost → (result : BusText)
+      → PlanTexted (planning most (fitsLent (planWith r w p a work)) text) old oldWires oldPorts oldAnswers rerouters busWires ports answers result
+      → PlanCalled (routeCall text (fitsPlan r w p a work)) old oldWires oldPorts oldAnswers rerouters busWires ports answers (withoutCounts result)
   unfolding routeCall routed
-  route-called text lent most e r h =
-      plan-called (planning libraryMost (fitsLent lent) text) r
-      (subst (λ (m : Counts). PlanTexted (planning m (fitsLent lent) text) old oldWires oldPorts oldAnswers rerouters busWires ports answers r) e h)
-
--- What `route` finds lent, with so many rows of work space.
-abbrev pub planWith : ℕ → ℕ → ℕ → ℕ → ℕ → Lent
-planWith rerouters busWires ports answers work = record { rerouters = rerouters; «bus_wires» = busWires; ports = ports; answers = answers; work = work; out = 12591232 }
+  route-called text r w p a work most e result h =
+      plan-called (planning libraryMost (fitsPlan r w p a work) text) result
+      (subst (λ (q : Planning). PlanTexted q old oldWires oldPorts oldAnswers rerouters busWires ports answers result) (plan-planning text r w p a work)
+      (subst (λ (m : Counts). PlanTexted (planning m (fitsLent (planWith r w p a work)) text) old oldWires oldPorts oldAnswers rerouters busWires ports answers result) e h))

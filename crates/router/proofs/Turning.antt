@@ -1,36 +1,43 @@
 -- From the tables that planning leaves to what the corner pass asks for.
-use Prim.Native.Nat.{ℕ, _≤_, _<_}
+use Prim.Native.Nat.{ℕ, _+_, _*_, _≤_, _<_}
 use native.Mathlib.Omega.{arith}
 use mathlib.Core.Path.{_≡_, refl}
 use mathlib.Core.List.{List}
 use lib.ListN.{length}
 use Rattle.sheet.specs.declared.Counts.{Counts}
-use Rattle.sheet.specs.Table.{MISSING}
-use Rattle.board.specs.Board.{Board}
-use Rattle.board.specs.Rows.{brickCell}
+use Rattle.sheet.specs.Table.{MISSING, HALF_MOST}
+use Rattle.board.specs.Board.{Board, field}
+use Rattle.board.specs.Rows.{turned, sizeX, brickCell}
 use Rattle.board.specs.Demands.{PageLanes}
 use Rattle.board.specs.Planning.{lanesFor, planning, records}
 use Rattle.board.specs.Refusals.{board, judged}
 use Rattle.board.specs.Tables.{NodeFacts}
 use Rattle.board.specs.Walk.{WithinLibrary, countsIn}
+use Rattle.board.proofs.Lists.{byTest}
 use Rattle.plan.specs.declared.Lent.{Lent}
 use Rattle.plan.specs.TextPlan.{fitsLent, TablesHold}
 use Rattle.plan.proofs.Fine.{fine, few}
 use Rattle.plan.proofs.Fitting.{fits-all}
 use Rattle.plan.proofs.Reading.{lanes-from}
-use Rattle.routes.specs.Chains.{boardWith}
+use Rattle.cells.specs.Chains.{boardWith}
 use Rattle.corners.specs.Turning.{BoardFits}
 use Rattle.corners.proofs.TurnLaws.{on-page}
-use Rattle.ports.proofs.Reading.{WiresRanged}
 use Rattle.text.proofs.Ranges.{Ranged, ranged, end-most}
-use Rattle.router.specs.Bus.{BusLent}
+use Rattle.gutter.specs.Bus.{BusLent}
 use Rattle.router.specs.Turn.{TurnReady}
-use Rattle.router.proofs.Boards.{sheet-sound}
+use Rattle.gutter.proofs.Boards.{sheet-sound}
 
 -- A brick's cell needs the nodes alone.
 cell-end : (b : Board) (i : ℕ) → brickCell b i .x1 < MISSING → brickCell (boardWith (b .nodes)) i .x1 < MISSING
 unfolding brickCell
 cell-end b i h = h
+
+-- "half sizes 1 to 1,000": no brick's cell is wider.
+cell-wide : (b : Board) → Ranged b → (i : ℕ) → brickCell (boardWith (b .nodes)) i .x1 ≤ field (b .nodes) i 8 + 2000
+unfolding brickCell
+cell-wide b r i =
+    let half : sizeX b i ≤ 2 * HALF_MOST = byTest (λ n. 2 * n ≤ 2 * HALF_MOST) (turned b i) (λ e. omega (arith, r .halfY i)) (λ e. omega (arith, r .halfX i)) in
+    omega arith
 
 module _ (most : Counts) (text : List ℕ) (low : WithinLibrary most) (b : Board) (accepted : judged most text ≡ board b) where
   pub board-fits : (nodeFacts wireFacts : List (List ℕ)) → NodeFacts b nodeFacts → length (b .nodes) ≤ length nodeFacts → length (b .wires) ≤ length wireFacts
@@ -46,11 +53,8 @@ module _ (most : Counts) (text : List ℕ) (low : WithinLibrary most) (b : Board
         wiresFew = s .fewWires;
         factsLong = nf;
         endsLong = wf;
-        onPages = λ i h g. on-page b (b .pages) (b .nodes) nodeFacts refl known (omega arith) i h g (s .pageThere i h g) (cell-end b i (let e = end-most b r i g in omega arith));
+        onPages = λ i h g. on-page b (b .pages) (b .nodes) nodeFacts refl known (omega arith) i h g (s .pageThere i h g) (cell-end b i (let e = end-most b r i g in omega arith)) (cell-wide b r i);
       }
-
-  pub wires-ranged : WiresRanged b
-  wires-ranged = let r : Ranged b = ranged most text low b accepted in record { count = r .fewWires; targetPorts = λ w h. r .target w .1 }
 
 -- What a planned board finds lent.
 module _ (most : Counts) (text : List ℕ) (lent : Lent) (low : WithinLibrary most) (b : Board) (ps : List PageLanes) (is : planning most (fitsLent lent) text ≡ lanesFor b ps) where

@@ -15,8 +15,8 @@ use Rattle.routes.specs.Tables.{writtenOver}
 use Rattle.routes.specs.Plan.{busOf, finished, laidGroups}
 use Rattle.ports.specs.Settling.{portsOver}
 use Rattle.router.specs.Turn.{TurnReady}
-use Rattle.router.specs.declared.bus.BusText.{BusText}
-use Rattle.router.specs.declared.bus.BusText.the-variants.{Refused, Laid}
+use Rattle.gutter.specs.declared.bus.BusText.{BusText}
+use Rattle.gutter.specs.declared.bus.BusText.the-variants.{Refused, Laid}
 use Rattle.router.specs.declared.route.Added.{Added}
 
 -- The rows of a bus stand in the buffers, and so many they are.

@@ -1,9 +1,4 @@
-pub mod Lay
-pub mod Bus
-pub mod Calls
-pub mod Numbers
 pub mod Turn
 pub mod Finish
 pub mod Route
 pub mod Mini
-pub mod MiniExport

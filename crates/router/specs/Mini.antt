@@ -9,8 +9,6 @@ use Rattle.sheet.specs.Table.{libraryMost}
 use Rattle.board.specs.Board.{Board}
 use Rattle.board.specs.Demands.{PageLanes}
 use Rattle.board.specs.Planning.{Planning, refused, lanesFor, planning}
-use Rattle.plan.specs.declared.Lent.{Lent}
-use Rattle.plan.specs.TextPlan.{fitsLent}
 use Rattle.routes.specs.Bus.{Bus}
 use Rattle.routes.specs.Corners.{corners, turnable}
 use Rattle.routes.specs.Route.{Routed, turnedAway, plan}
@@ -43,8 +41,8 @@ module _ (rerouters busWires ports : List (List ℕ)) (held : BusCounts) where
   miniBy (refused n l) = turnedAway n l
   miniBy (lanesFor b ps) = miniOf b ps
 
-unfoldable pub miniCall : List ℕ → Lent → (rerouters busWires ports : List (List ℕ)) → BusCounts → Routed
-miniCall text lent rerouters busWires ports held = miniBy rerouters busWires ports held (planning libraryMost (fitsLent lent) text)
+unfoldable pub miniCall : List ℕ → (Board → Bool) → (rerouters busWires ports : List (List ℕ)) → BusCounts → Routed
+miniCall text fits rerouters busWires ports held = miniBy rerouters busWires ports held (planning libraryMost fits text)
 
 -- A board of an accepted sheet, ready for the corner pass whatever is handed in, with rows for the ports that are sorted.
 pub record HeldReady (b : Board) (rows : List (List ℕ)) (counts : Counts) (nodeFacts wireFacts rerouters busWires ports sortRows spare marks : List (List ℕ)) : Type 0 where

@@ -1,7 +1,7 @@
 // `lay_mini_bus`: the corners of a sheet's board on a bus that is handed in, and the ports that they suppress.
-use crate::bus::BusPlan;
 use crate::turn::turn_rows;
 use corners::turn::Turned;
+use gutter::bus::BusPlan;
 use plan::ANSWERS_MOST;
 use plan::Lent;
 use plan::OUT_MOST;
@@ -21,8 +21,8 @@ ghost use Rattle.board.specs.Demands.{PageLanes};
 ghost use Rattle.board.specs.Planning.{planning};
 ghost use Rattle.board.specs.Walk.{WithinLibrary};
 ghost use Rattle.plan.specs.TextPlan.{fitsLent, WorkLent};
-ghost use Rattle.router.specs.Bus.{BusLent};
-ghost use Rattle.router.specs.Calls.{busLent, BusCalled};
+ghost use Rattle.gutter.specs.Bus.{BusLent};
+ghost use Rattle.gutter.specs.Calls.{busFits, BusCalled};
 ghost use Rattle.router.specs.Mini.{holds as holdsCounts, miniOf, miniBy, miniCall, HeldReady};
 
 // How many rerouters, bus wires and suppressed ports are handed in.
@@ -168,7 +168,7 @@ pub fn lay_mini_bus(
     spare: &mut [[u32; 8]],
     marks: &mut [[u32; 8]],
 ) -> BusPlan
-    ensures { λ r. ⌜ BusCalled (miniCall (now (text .entry)) (busLent (length (now (rerouters .entry))) (length (now («bus_wires» .entry))) (length (now (ports .entry))) (length (now (marks .entry)) / 2 ∷ length (now (records .entry)) ∷ length (now («node_facts» .entry)) ∷ length (now («wire_facts» .entry)) ∷ length (now (taps .entry)) ∷ length (now (groups .entry)) ∷ length (now («page_facts» .entry)) ∷ length (now (demands .entry)) ∷ length (now (keys .entry)) ∷ length (now (spare .entry)) ∷ []))
+    ensures { λ r. ⌜ BusCalled (miniCall (now (text .entry)) (busFits (length (now (rerouters .entry))) (length (now («bus_wires» .entry))) (length (now (ports .entry))) (length (now (marks .entry)) / 2 ∷ length (now (records .entry)) ∷ length (now («node_facts» .entry)) ∷ length (now («wire_facts» .entry)) ∷ length (now (taps .entry)) ∷ length (now (groups .entry)) ∷ length (now («page_facts» .entry)) ∷ length (now (demands .entry)) ∷ length (now (keys .entry)) ∷ length (now (spare .entry)) ∷ []))
         (now (rerouters .entry)) (now («bus_wires» .entry)) (now (ports .entry)) held)
         (now (rerouters .entry)) (now («bus_wires» .entry)) (now (ports .entry)) (now (rerouters .exit)) (now («bus_wires» .exit)) (now (ports .exit)) r ⌝ }
 {

@@ -1,9 +1,9 @@
 // The three calls in order: the lanes planned, laid, and the corners turned.
-use crate::bus::BusPlan;
-use crate::bus::BusText;
-use crate::bus::lay_within;
 use crate::turn::turn_rows;
 use corners::turn::Turned;
+use gutter::bus::BusPlan;
+use gutter::bus::BusText;
+use gutter::bus::lay_within;
 use plan::Lent;
 use plan::OUT_MOST;
 use plan::lesser;
@@ -22,9 +22,9 @@ ghost use Rattle.board.specs.Planning.{planning};
 ghost use Rattle.board.specs.Walk.{WithinLibrary};
 ghost use Rattle.plan.specs.TextPlan.{fitsLent, WorkLent};
 ghost use Rattle.routes.specs.Plan.{finished};
-ghost use Rattle.router.specs.Bus.{BusLent};
+ghost use Rattle.gutter.specs.Bus.{BusLent};
 ghost use Rattle.router.specs.Finish.{BusStands, CornersReady, PlanTexted};
-ghost use Rattle.router.specs.Route.{planLent, routeCall, PlanCalled};
+ghost use Rattle.router.specs.Route.{planFits, routeCall, PlanCalled};
 
 // How many rerouters, bus wires and suppressed ports stand in the buffers.
 pub struct Added {
@@ -183,7 +183,7 @@ pub fn route(
     spare: &mut [[u32; 8]],
     marks: &mut [[u32; 8]],
 ) -> BusPlan
-    ensures { λ r. ⌜ PlanCalled (routeCall (now (text .entry)) (planLent (length (now (rerouters .entry))) (length (now («bus_wires» .entry))) (length (now (ports .entry))) (length (now (answers .entry))) (length (now (marks .entry)) / 2 ∷ length (now (records .entry)) ∷ length (now («node_facts» .entry)) ∷ length (now («wire_facts» .entry)) ∷ length (now (taps .entry)) ∷ length (now (groups .entry)) ∷ length (now («page_facts» .entry)) ∷ length (now (demands .entry)) ∷ length (now (keys .entry)) ∷ length (now (spare .entry)) ∷ [])))
+    ensures { λ r. ⌜ PlanCalled (routeCall (now (text .entry)) (planFits (length (now (rerouters .entry))) (length (now («bus_wires» .entry))) (length (now (ports .entry))) (length (now (answers .entry))) (length (now (marks .entry)) / 2 ∷ length (now (records .entry)) ∷ length (now («node_facts» .entry)) ∷ length (now («wire_facts» .entry)) ∷ length (now (taps .entry)) ∷ length (now (groups .entry)) ∷ length (now («page_facts» .entry)) ∷ length (now (demands .entry)) ∷ length (now (keys .entry)) ∷ length (now (spare .entry)) ∷ [])))
         (now (rerouters .entry)) (now («bus_wires» .entry)) (now (ports .entry)) (now (answers .entry)) (now (rerouters .exit)) (now («bus_wires» .exit)) (now (ports .exit)) (now (answers .exit)) r ⌝ }
 {
     let work = shortest_of([

@@ -239,3 +239,8 @@ module _ (b : Board) (ps : List PageLanes) where
   pub columns-bound : (t : Tap) (l : List Tap) → LaidIn b ps (t ∷ l) → columnsSeen (t ∷ l) t ≤ columnsOn (tapsOf b) t
   unfolding columnsOn
   columns-bound t l h = seen-le (λ u. u .y) (inRow t) (inRow t) (t ∷ l) (tapsOf b) (λ u m g. (h .inTaps u m, g))
+
+-- A laid tap is a tap of the board, and its group has a lane.
+pub of-laid : (b : Board) (ts : List Tap) (ps : List PageLanes) (t : Tap) → List·Memᴰ t (laidTaps b ts ps) → List·Memᴰ t ts × (isLaid b ts ps t ≡ true)
+unfolding laidTaps
+of-laid b ts ps t m = in-keep (isLaid b ts ps) ts (in-sorted tapBefore (keep (isLaid b ts ps) ts) (in-reverse (sorted tapBefore (keep (isLaid b ts ps) ts)) m))

@@ -2,15 +2,16 @@
 use Prim.Native.Nat.{ℕ, zero, suc, _≤_, _<_}
 use mathlib.Core.Path.{_≡_, refl, ap, sym, _∙_}
 use mathlib.Core.Bool.{Bool, true, false}
-use mathlib.Core.List.{List, [], _∷_, _++_, map, reverse, reverse-append, List·Memᴰ, List·Memᴰ·head, List·Memᴰ·tail}
+use mathlib.Core.List.{List, [], _∷_, _++_, map, reverse, reverse-append, reverse-cons, List·Memᴰ, List·Memᴰ·head, List·Memᴰ·tail}
 use native.Mathlib.Omega.{arith}
 use native.Mathlib.Decide.{decLt}
-use lib.ListN.{length, getD, take, set}
-use lib.Seq.{ext-getD, take-suc, getD-set-same, getD-set-other}
+use lib.ListN.{length, getD, take, set, length-set}
+use lib.Seq.{ext-getD, take-suc, take-suc-set, getD-set-same, getD-set-other}
 use Rattle.lanes.specs.Sort.{sorted, inserted, lexLess, sortedRows}
 use Rattle.board.specs.Groups.{Tap}
 use Rattle.board.specs.Tables.{view, tapIn, tapRow}
 use Rattle.routes.specs.Stops.{tapBefore}
+use Rattle.routes.specs.Tables.{writtenOver}
 
 pub map-snoc : {A B : Type 0} (f : A → B) (l : List A) (x : A) → map f (l ++ (x ∷ [])) ≡ map f l ++ (f x ∷ [])
 map-snoc f [] x = refl
@@ -88,3 +89,19 @@ tap-row r h = ext-getD 0 (tapRow (tapIn r)) r (sym h) (λ i l. at i l)
     at (suc (suc (suc (suc (suc (suc zero)))))) l = refl
     at (suc (suc (suc (suc (suc (suc (suc zero))))))) l = refl
     at (suc (suc (suc (suc (suc (suc (suc (suc i)))))))) l = absurd (omega arith)
+
+-- The rows of a list that was written over a table.
+pub rows-written {ℓ} : {A : Type ℓ} (row : A → List ℕ) (l : List A) (old : List (List ℕ)) → length l ≤ length old
+    → (take (length l) (writtenOver row l old) ≡ map row (reverse l)) × (length (writtenOver row l old) ≡ length old)
+rows-written {A = A} row [] old h = (refl, refl)
+rows-written {A = A} row (x ∷ l) old h =
+    let rec = rows-written row l old (omega arith) in
+    let inside : length l < length (writtenOver row l old) = rw (rec .1) h in (
+      take-suc-set (writtenOver row l old) (length l) (row x) inside
+          ∙ ap (λ k. k ++ (row x ∷ [])) (rec .0) ∙ sym (map-snoc (reverse l) x) ∙ ap (map row) (sym (reverse-cons x l)),
+      length-set (writtenOver row l old) (length l) (row x) ∙ rec .1,
+    )
+  where
+    map-snoc : (l : List A) (x : A) → map row (l ++ (x ∷ [])) ≡ map row l ++ (row x ∷ [])
+    map-snoc [] x = refl
+    map-snoc (y ∷ l) x = ap (λ k. row y ∷ k) (map-snoc l x)

@@ -10,9 +10,4 @@ pub mod Route
 pub mod Demand3
 pub mod Examples
 pub mod Tables
-pub mod Laying
-pub mod Marks
 pub mod Holding
-pub mod Chains
-pub mod Emitting
-pub mod Fields

@@ -12,19 +12,17 @@ use Rattle.routes.specs.Bus.{Bus}
 use Rattle.routes.specs.Plan.{busOf, finished, laidGroups}
 use Rattle.routes.specs.PlanSheet.{planSheet, refusalSheet}
 
--- The lengths of what is lent: rerouters, bus wires, suppressed ports, page answers, and the rows of the shortest slice of work space.
-pub record Lent : Type 0 where
-  pub rerouters : ℕ
-  pub busWires : ℕ
-  pub ports : ℕ
-  pub answers : ℕ
-  pub work : ℕ
+-- "Lent for W wires ..: 5W rerouters, 6W bus wires, W suppressed ports, .. and 96 numbers of 32 bits of work space for each record": the work space is counted
+-- in rows, one a record.
+unfoldable pub fitsBus : ℕ → ℕ → ℕ → ℕ → Board → Bool
+fitsBus rerouters busWires ports work b =
+    leb (5 * length (b .wires)) rerouters && (leb (6 * length (b .wires)) busWires && (leb (length (b .wires)) ports && leb (records b) work))
 
--- "Lent for W wires and P pages: 5W rerouters, 6W bus wires, W suppressed ports, P page answers, and 96 numbers of 32 bits of work space for each record"
-unfoldable pub fitsPlan : Lent → Board → Bool
-fitsPlan lent b =
-    leb (5 * length (b .wires)) (lent .rerouters) && leb (6 * length (b .wires)) (lent .busWires) && leb (length (b .wires)) (lent .ports)
-    && leb (length (b .pages)) (lent .answers) && leb (records b) (lent .work)
+-- "and P pages: .. P page answers" too.
+unfoldable pub fitsPlan : ℕ → ℕ → ℕ → ℕ → ℕ → Board → Bool
+fitsPlan rerouters busWires ports answers work b =
+    leb (5 * length (b .wires)) rerouters
+    && (leb (6 * length (b .wires)) busWires && (leb (length (b .wires)) ports && (leb (length (b .pages)) answers && leb (records b) work)))
 
 -- A refusal's number and place; or a plan: the board, the lanes of its pages, the bus, and how many groups were laid.
 pub data Routed : Type 0 where

@@ -10,5 +10,4 @@ pub mod Answer
 pub mod Range
 pub mod Walk
 pub mod Written
-pub mod Export
 pub mod Examples

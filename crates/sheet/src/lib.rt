@@ -14,7 +14,6 @@ use line::line_at;
 use table::COLUMNS;
 
 mod check;
-mod export;
 mod line;
 mod number;
 pub mod table;
@@ -134,7 +133,7 @@ pub fn row_at(text: &[u8], at: usize) -> RowAt
 }
 
 // Fills the first `n` rows with the rows of the lines from the text's start on.
-fn fill_rows(text: &[u8], rows: &mut [[u32; 16]], n: usize)
+pub fn fill_rows(text: &[u8], rows: &mut [[u32; 16]], n: usize)
     requires { ⌜ (n ≡ length (sheetLines (now text))) × (n ≤ length (now rows)) × (allRead (sheetLines (now text)) ≡ true) ⌝ }
     ensures { λ _. ⌜ now (rows .exit) ≡ rowsFrom (now (text .entry)) ++ drop n (now (rows .entry)) ⌝ }
 {

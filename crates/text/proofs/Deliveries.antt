@@ -16,8 +16,8 @@ use Rattle.routes.specs.Bus.{BusWire, End, port, rerouter, Carries, onward, del
 use Rattle.routes.specs.Buffers.{endRow, carriesRow, wireRow}
 use Rattle.routes.specs.Tables.{writtenOver}
 use Rattle.routes.specs.Plan.{isDelivery, deliveries}
-use Rattle.routes.proofs.PlanText.{CarriesFit, WireFits, rows-written}
-use Rattle.routes.proofs.Views.{view-more}
+use Rattle.text.proofs.PlanText.{CarriesFit, WireFits}
+use Rattle.routes.proofs.Views.{view-more, rows-written}
 use Rattle.text.specs.Held.{namesWire, deliveryRows}
 use Rattle.text.proofs.Ranges.{All}
 

@@ -5,3 +5,5 @@ pub mod PlanRange
 pub mod Deliveries
 pub mod PlanWritten
 pub mod SheetRoom
+pub mod Lines
+pub mod PlanText

@@ -23,7 +23,7 @@ use Rattle.routes.specs.Bus.{Bus, Brick, portFeed, deliver, emptyBus, muted}
 use Rattle.routes.specs.Rerouters.{Emission, columnFree, levelHere, source, chainRotation, laneBrick, rowBrick, headBrick, linkBrick, tapBrick, sourceBrick, gateSideBrick, clearFor, hangOn, tapOff, chainOn, withSource, startGroup, withLink, startRow, withGateSide, serve, emitTap, emit}
 use Rattle.routes.specs.Corners.{Cornering, turnsDown, turnWire, withCorner, cornerLevel, cornerClear, sinkLoad, cornerBrick, corners}
 use Rattle.routes.specs.Plan.{busOf, finished}
-use Rattle.routes.proofs.TapTables.{of-laid}
+use Rattle.routes.proofs.Laid.{of-laid}
 use Rattle.routes.proofs.Claims.{stops-before}
 use Rattle.routes.proofs.Room.{room-finished}
 use Rattle.routes.proofs.Routed.{judged-gutters}

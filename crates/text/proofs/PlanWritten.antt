@@ -16,12 +16,13 @@ use Rattle.board.proofs.Lists.{never, byTest, in-reverse}
 use Rattle.routes.specs.Bus.{Bus, Brick, BusWire, End, port, rerouter, Carries, onward, delivery}
 use Rattle.routes.specs.Buffers.{brickRow, wireRow, portRow}
 use Rattle.routes.specs.Tables.{writtenOver}
-use Rattle.routes.specs.Fields.{planText, PlanFits}
+use Rattle.text.specs.Fields.{planText, PlanFits}
 use Rattle.routes.specs.Stops.{laidTaps, newGroup}
 use Rattle.routes.specs.Plan.{deliveries, groupCount, finished, laidGroups}
 use Rattle.routes.specs.PlanSheet.{planSheet}
-use Rattle.routes.specs.declared.plan_sheet.Totals.{Totals}
-use Rattle.routes.proofs.PlanText.{BrickFits, EndFit, CarriesFit, WireFits, rows-written, Holds, plan-text}
+use Rattle.text.specs.declared.plan_sheet.Totals.{Totals}
+use Rattle.routes.proofs.Views.{rows-written}
+use Rattle.text.proofs.PlanText.{BrickFits, EndFit, CarriesFit, WireFits, Holds, plan-text}
 use Rattle.routes.proofs.Laid.{laid-short}
 use Rattle.text.specs.Held.{deliveryRows, totalsOf, PlanHeld}
 use Rattle.text.proofs.Ranges.{All, ranged}

@@ -15,7 +15,7 @@ use Rattle.board.specs.Tables.{view}
 use Rattle.routes.specs.Buffers.{portRow}
 use Rattle.routes.specs.Holding.{BusHeld}
 use Rattle.routes.specs.Plan.{finished, laidGroups}
-use Rattle.routes.specs.declared.plan_sheet.Totals.{Totals}
+use Rattle.text.specs.declared.plan_sheet.Totals.{Totals}
 
 -- A bus wire's row that names a wire: a delivery. How many of the first k rows do.
 abbrev pub namesWire : List ℕ → Bool

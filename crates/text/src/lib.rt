@@ -1,6 +1,8 @@
 // The finished plan as text: the buffers, counted and written.
-use routes::plan_sheet::Totals;
-use routes::plan_sheet::put_plan;
+pub mod plan_sheet;
+
+use crate::plan_sheet::Totals;
+use crate::plan_sheet::put_plan;
 ghost use mathlib.Core.Path.{_≡_};
 ghost use mathlib.Core.List.{List};
 ghost use Prim.Native.Nat.{_-_, _≤_, _<_};
@@ -8,7 +10,7 @@ ghost use lib.ListN.{length};
 ghost use Rattle.sheet.specs.Written.{Wrote};
 ghost use Rattle.board.specs.Board.{Board};
 ghost use Rattle.board.specs.Demands.{PageLanes};
-ghost use Rattle.routes.specs.Fields.{PlanFits};
+ghost use Rattle.text.specs.Fields.{PlanFits};
 ghost use Rattle.routes.specs.Plan.{finished, laidGroups};
 ghost use Rattle.routes.specs.PlanSheet.{planSheet};
 ghost use Rattle.text.specs.Held.{deliveryRows, totalsOf, PlanHeld};

@@ -63,25 +63,29 @@ pub fn many_lanes(rng: &mut Rng) -> Board {
     board
 }
 
-/// A program as the layout draws it: 8 pages of 64 rows of 8 bricks, values
-/// from the left neighbour, and stored values read all over the board.
+/// A full board of the typical kind: 4,096 bricks, 8,192 wires.
 pub fn full_typical(rng: &mut Rng) -> Board {
-    const PAGES: u32 = 8;
-    const ROWS: u32 = 64;
+    typical(rng, 8, 64)
+}
+
+/// A program as the layout draws it: pages of rows of 8 bricks, values from
+/// the left neighbour, and stored values read all over the board. Each brick
+/// has two wires.
+pub fn typical(rng: &mut Rng, pages: u32, rows: u32) -> Board {
     const COLUMNS: u32 = 8;
     let mut board = Board::default();
-    for p in 0..PAGES {
+    for p in 0..pages {
         board.pages.push(page(0, 10 + 50 * p as i32));
     }
-    for i in 0..PAGES * ROWS * COLUMNS {
-        let (p, row, column) = (i / (ROWS * COLUMNS), i / COLUMNS % ROWS, i % COLUMNS);
+    for i in 0..pages * rows * COLUMNS {
+        let (p, row, column) = (i / (rows * COLUMNS), i / COLUMNS % rows, i % COLUMNS);
         let down = row as i32 * 12;
         let at = (-down, column as i32 * 16);
         let half = (rng.range(2, 5), rng.range(2, 5));
         let mut n = brick(i + 1, half, at, (p as usize, down));
         n.class = u8::from(column == 0 && row % 2 == 0);
         n.rotation = u8::from(column == 1);
-        n.line = Some(p * ROWS + row / 2);
+        n.line = Some(p * rows + row / 2);
         board.nodes.push(n);
     }
     let storage: Vec<u32> = (board.nodes.iter())
@@ -94,8 +98,8 @@ pub fn full_typical(rng: &mut Rng) -> Board {
         let near = rng.chance(70);
         let from = if near {
             // A stored value of the same page.
-            let first = (n.id - 1) / (ROWS * COLUMNS) * (ROWS / 2);
-            storage[first as usize + rng.below(ROWS as usize / 2)]
+            let first = (n.id - 1) / (rows * COLUMNS) * (rows / 2);
+            storage[first as usize + rng.below(rows as usize / 2)]
         } else {
             storage[rng.below(storage.len())]
         };

@@ -6,9 +6,8 @@ mod corners;
 mod emit;
 mod levels;
 
-use crate::board::{Board, Refusal};
+use crate::board::{Board, LANE_MOST, Refusal};
 use crate::facts::{Cell, Facts, Group, Passed, cell, worthy};
-use crate::harness::LANE_MOST;
 use crate::plan::*;
 use branch::{Branch, Counts};
 use std::collections::{HashMap, HashSet};

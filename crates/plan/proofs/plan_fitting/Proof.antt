@@ -3,20 +3,21 @@ use mathlib.Core.Bool.{true, false}
 use borrow.Author.Needs.{needs}
 use borrow.Author.Tests.{not-true, not-false}
 use Rattle.plan.specs.TextPlan.{fitsCounts}
-use Rattle.plan.proofs.Reading.{counts-few, checked-few, fitted-unfit, fitted-fits, board-read}
+use Rattle.plan.proofs.Reading.{counts-few, checked-few, fitted-unfit, fitted-fits, fill-asks, board-read}
 use Rattle.plan.proofs.plan_fitting.Statement.{statement}
 use Rattle.plan.proofs.plan_fitting.Tie as tie
 use Rattle.plan.proofs.plan_fitting.Reads as reads
 use Rattle.plan.proofs.plan_fitting.Lts as lts
 use Rattle.plan.proofs.fits.Reads as fits-reads
 use Rattle.plan.proofs.plan_rows.Reads as plan-rows-reads
-use Rattle.sheet.proofs.read_sheet.Reads as read-sheet-reads
+use Rattle.plan.proofs.total.Reads as total-reads
+use Rattle.sheet.proofs.fill_rows.Reads as fill-rows-reads
 
-abbrev start : tie.After-plan-rows-arg9 → tie.Start
-start c = c .before .before .before .before .before .before .before .before .before .before .before .before .before .before .before .before .before .before .before .before .before
+abbrev start : tie.After-fill-rows-arg → tie.Start
+start c = c .before .before .before .before .before .before .before .before .before .before .before
 
-fitting : (c : tie.After-plan-rows-arg9) → fitsCounts (start c .args .lent) (start c .args .counts) ≡ true
-fitting c = sym (c .before .before .before .before .before .before .before .before .before .before .before .before .before .fits2 .ensures) ∙ not-false _ (c .before .before .before .before .before .before .before .before .before .before .before .before .if1 .left)
+fitting : (c : tie.After-fill-rows-arg) → fitsCounts (start c .args .lent) (start c .args .counts) ≡ true
+fitting c = sym (c .before .before .before .fits2 .ensures) ∙ not-false _ (c .before .before .if1 .left)
 
 fits-requires : tie.Need-fits-requires
 fits-requires c κs =
@@ -30,15 +31,23 @@ returns c =
     let e : fitsCounts (s .args .lent) (s .args .counts) ≡ false = sym (c .before .fits2 .ensures) ∙ not-true _ (c .if1 .taken) in
     λ b checked. rw (fitted-unfit (s .args .lent) b (s .args .counts) (checked .counted) e) refl
 
--- src/lib.rt:204:9
-read-sheet-requires : tie.Need-read-sheet-requires
-read-sheet-requires c κs = search needs
+total-requires : tie.Need-total-requires
+total-requires c κs =
+    let s = c .before .before .before .before .before .before .before .before .before in
+    let p = s .pre .1 in
+    counts-few (p .1 .0) (s .args .counts) (p .1 .1 .counted) (checked-few (p .0) (p .1 .1))
+
+fill-rows-requires : tie.Need-fill-rows-requires
+fill-rows-requires c κs =
+    let s = start c in
+    fill-asks (s .pre .1 .0) (s .pre .1 .1 .1) (s .args .lent) (fitting c) (s .args .records .now) (s .pre .0) (c .before .total .result) (c .before .total .ensures)
 
 -- src/lib.rt:205:5
 plan-rows-requires : tie.Need-plan-rows-requires
 plan-rows-requires c κs =
-    let p = start c .pre in
-    (p .1 .1 .0, board-read (p .1 .0) (p .1 .1 .1) (start c .args .lent) (fitting c) (start c .args .records .now) (p .0) (c .before .before .before .before .before .before .before .before .before .before .read-sheet .last .1 .1 .0) (c .before .before .before .before .before .before .before .before .before .before .read-sheet .ensures .1))
+    let f = c .before .before .before .before .before .before .before .before .before .before .before in
+    let s = start f in
+    (s .pre .1 .1 .0, board-read (s .pre .1 .0) (s .pre .1 .1 .1) (s .args .lent) (fitting f) (s .args .records .now) (s .pre .0) (f .before .total .result) (c .before .before .before .before .before .before .before .before .before .before .fill-rows .last .1 .0) (c .before .before .before .before .before .before .before .before .before .before .fill-rows .ensures))
 
 -- src/lib.rt:172:1
 same-length : tie.Need-same-length
@@ -80,10 +89,11 @@ same-length-9 c = search needs
 returns-2 : tie.Need-returns-2
 returns-2 c =
     let d = c .before .before .before .before .before .before .before .before .before in
-    let s = start d in
+    let f = d .before .before .before .before .before .before .before .before .before .before .before in
+    let s = start f in
     λ b checked.
-    rw (fitted-fits (s .args .lent) b (s .args .counts) (checked .counted) (fitting d))
-    (c .before .before .before .before .before .before .before .before .plan-rows .ensures b (board-read (s .pre .1 .0) checked (s .args .lent) (fitting d) (s .args .records .now) (s .pre .0) (d .before .before .before .before .before .before .before .before .before .before .read-sheet .last .1 .1 .0) (d .before .before .before .before .before .before .before .before .before .before .read-sheet .ensures .1)))
+    rw (fitted-fits (s .args .lent) b (s .args .counts) (checked .counted) (fitting f))
+    (c .before .before .before .before .before .before .before .before .plan-rows .ensures b (board-read (s .pre .1 .0) checked (s .args .lent) (fitting f) (s .args .records .now) (s .pre .0) (f .before .total .result) (d .before .before .before .before .before .before .before .before .before .before .fill-rows .last .1 .0) (d .before .before .before .before .before .before .before .before .before .before .fill-rows .ensures)))
 
 pub plan-fitting-spec : {M : Type 1} → statement M
 plan-fitting-spec =
@@ -91,7 +101,8 @@ plan-fitting-spec =
     (tie.spec
     fits-requires
     returns
-    read-sheet-requires
+    total-requires
+    fill-rows-requires
     plan-rows-requires
     same-length
     same-length-2

@@ -10,7 +10,7 @@ use Rattle.plan.proofs.plan_rows.Statement.{statement}
 use Rattle.plan.proofs.plan_rows.Tie as tie
 use Rattle.plan.proofs.plan_rows.Reads as reads
 use Rattle.plan.proofs.plan_rows.Lts as lts
-use Rattle.board.proofs.demands.plan_board.Reads as plan-board-reads
+use Rattle.demands.proofs.demands.plan_board.Reads as plan-board-reads
 
 known : (s : tie.Start) → Slices (s .pre .0) (s .args .records .now) (s .args .counts)
 known s = slices (s .pre .0) (s .args .records .now) (s .args .counts) (s .pre .1 .sections) (s .pre .1 .counted) (s .pre .1 .few)

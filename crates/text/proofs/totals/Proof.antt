@@ -1,5 +1,5 @@
 use mathlib.Core.Path.{ap}
-use Rattle.routes.specs.declared.plan_sheet.Totals.{Totals}
+use Rattle.text.specs.declared.plan_sheet.Totals.{Totals}
 use borrow.Author.Needs.{needs}
 use Rattle.text.proofs.totals.Statement.{statement}
 use Rattle.text.proofs.totals.Tie as tie

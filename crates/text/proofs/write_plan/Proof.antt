@@ -4,7 +4,7 @@ use Rattle.text.proofs.write_plan.Statement.{statement}
 use Rattle.text.proofs.write_plan.Tie as tie
 use Rattle.text.proofs.write_plan.Reads as reads
 use Rattle.text.proofs.write_plan.Lts as lts
-use Rattle.routes.proofs.plan_sheet.put_plan.Reads as put-plan-reads
+use Rattle.text.proofs.plan_sheet.put_plan.Reads as put-plan-reads
 use Rattle.text.proofs.count_deliveries.Reads as count-deliveries-reads
 use Rattle.text.proofs.totals.Reads as totals-reads
 

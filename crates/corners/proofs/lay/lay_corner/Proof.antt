@@ -15,7 +15,7 @@ corner-level-requires c κs =
     let s = c .before .before .before .before .before .before .before .before .before .before .before .before .before in
     let a = s .args in
     let g = turn-ranges (a .pages .now) (a .nodes .now) (a .facts .now) (a .s) (a .t) (s .pre .0) (c .before .before .before .before .before .before .turn-of .result) (c .before .before .before .before .before .before .turn-of .ensures) in
-    record { nodeWalk = s .pre .1 .0; brickWalk = s .pre .1 .1 .0 .walkable; marked = s .pre .1 .1 .0 .marked; pageThere = g .0; rowThere = g .1; topFits = g .2 }
+    record { nodeWalk = s .pre .1 .0; brickWalk = s .pre .1 .1 .0 .walkable; marked = s .pre .1 .1 .0 .marked; pageThere = g .0; rowThere = g .1; topFits = g .2; wide = g .3 }
 
 enum-known-level : tie.Need-enum-known-level
 enum-known-level c = search needs

@@ -2,7 +2,7 @@
 use mathlib.Core.Path.{_≡_, ap}
 use native.Mathlib.Omega.{arith}
 use Rattle.board.specs.Rows.{brickCell}
-use Rattle.routes.specs.Chains.{boardWith}
+use Rattle.cells.specs.Chains.{boardWith}
 use Rattle.corners.proofs.CornerSteps.{turn-numbers}
 use borrow.Author.Needs.{needs}
 use Rattle.corners.proofs.lay.turn_of.Statement.{statement}

@@ -2,7 +2,7 @@
 use Rattle.corners.proofs.PortLaws.{found-below}
 use Rattle.corners.specs.Ports.{goesTo, classFor}
 use Rattle.corners.specs.CornerTables.{portAt}
-use Rattle.board.proofs.Ends.{found-at, found-nothing}
+use Rattle.collect.proofs.Ends.{found-at, found-nothing}
 use Rattle.board.specs.Lists.{newest, at, none}
 use native.Mathlib.Omega.{arith}
 use mathlib.Core.Path.{_≡_, ap, sym}

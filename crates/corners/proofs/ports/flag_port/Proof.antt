@@ -1,7 +1,7 @@
 -- The class of a wire to the port gets its flag; a port that no wire leads to has none.
 use Rattle.corners.proofs.PortLaws.{found-below, flag-none, flag-found}
 use Rattle.corners.specs.Ports.{goesTo, thePort}
-use Rattle.board.proofs.Ends.{found-at, found-nothing}
+use Rattle.collect.proofs.Ends.{found-at, found-nothing}
 use Rattle.board.specs.Lists.{newest, at, none}
 use native.Mathlib.Omega.{arith}
 use lib.ListN.{length, getD}

@@ -2,8 +2,8 @@
 use borrow.Author.Needs.{needs}
 use Rattle.corners.proofs.HandedLaws.{rows-none, rows-more}
 use Rattle.corners.specs.Handed.{Rows}
-use Rattle.routes.proofs.Walks.{chained-none}
-use Rattle.routes.specs.Chains.{Walkable, brickBucket}
+use Rattle.cells.proofs.Walks.{chained-none}
+use Rattle.cells.specs.Chains.{Walkable, brickBucket}
 use native.Mathlib.Omega.{arith}
 use lib.ListN.{length}
 use native.Mathlib.Numerals.{add-one}

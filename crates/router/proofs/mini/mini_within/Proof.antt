@@ -5,7 +5,7 @@ use Rattle.board.specs.Planning.{Planning, planning}
 use Rattle.plan.specs.TextPlan.{fitsLent}
 use Rattle.plan.proofs.Calling.{LanesTold, text-refusal, text-lanes}
 use Rattle.router.specs.Mini.{miniBy}
-use Rattle.router.proofs.Planned.{work-again}
+use Rattle.gutter.proofs.Planned.{work-again}
 use Rattle.router.proofs.MiniLaws.{called-same, called-away, held-ready}
 use Rattle.router.proofs.mini.mini_within.Statement.{statement}
 use Rattle.router.proofs.mini.mini_within.Tie as tie

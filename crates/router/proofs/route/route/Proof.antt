@@ -6,12 +6,12 @@ use lib.ListN.{length}
 use Rattle.sheet.specs.declared.Counts.{Counts}
 use Rattle.board.specs.Walk.{WithinLibrary}
 use Rattle.plan.proofs.Calling.{within-library}
-use Rattle.routes.specs.Route.{Routed}
-use Rattle.router.specs.Route.{planLent, routeCall, PlanCalled}
-use Rattle.router.specs.declared.bus.BusPlan.{BusPlan}
-use Rattle.router.specs.declared.bus.BusText.{BusText}
-use Rattle.router.proofs.Suppressing.{withoutCounts, workLengths, work-of-all, marked-work, all-lent}
-use Rattle.router.proofs.Routing.{route-called, planWith}
+use Rattle.routes.specs.Route.{Routed, fitsPlan}
+use Rattle.router.specs.Route.{planFits, routeCall, PlanCalled}
+use Rattle.gutter.specs.declared.bus.BusPlan.{BusPlan}
+use Rattle.gutter.specs.declared.bus.BusText.{BusText}
+use Rattle.gutter.proofs.Suppressing.{withoutCounts, workLengths, work-of-all, marked-work, all-lent}
+use Rattle.router.proofs.Routing.{route-called}
 use borrow.Author.Needs.{needs}
 use Rattle.router.proofs.route.route.Statement.{statement}
 use Rattle.router.proofs.route.route.Tie as tie
@@ -28,7 +28,7 @@ start d = d .before .before .before .before .before .before .before .before .bef
 abbrev call-of : tie.Start → Routed
 call-of s =
     let a = s .args in
-    routeCall (a .text .now) (planLent (length (a .rerouters .now)) (length (a .bus-wires .now)) (length (a .ports .now)) (length (a .answers .now)) (length (a .marks .now) / 2 ∷ workLengths (length (a .records .now)) (a .node-facts .now) (a .wire-facts .now) (a .taps .now) (a .groups .now) (a .page-facts .now) (a .demands .now) (a .keys .now) (a .spare .now) (a .marks .now)))
+    routeCall (a .text .now) (planFits (length (a .rerouters .now)) (length (a .bus-wires .now)) (length (a .ports .now)) (length (a .answers .now)) (length (a .marks .now) / 2 ∷ workLengths (length (a .records .now)) (a .node-facts .now) (a .wire-facts .now) (a .taps .now) (a .groups .now) (a .page-facts .now) (a .demands .now) (a .keys .now) (a .spare .now) (a .marks .now)))
 
 abbrev Called : tie.After-route-within → BusPlan → Type 0
 Called d r = let a = start d .args in PlanCalled (call-of (start d)) (a .rerouters .now) (a .bus-wires .now) (a .ports .now) (a .answers .now) (d .route-within .last .1 .1 .1 .0) (d .route-within .last .1 .1 .1 .1 .0) (d .route-within .last .1 .1 .1 .1 .1 .0) (d .route-within .last .1 .1 .1 .1 .1 .1 .0) r
@@ -38,9 +38,9 @@ called d =
     let a = start d .args in
     let w = d .before .before .before .before .before .before .before .before .before .before .before .before .before .before .before .before .lesser in
     let l = d .before .before .before .before .before .before .before .before .before .before .before .before .before .before .before .before .before .shortest-of in
-    subst (λ (k : ℕ). PlanCalled (routeCall (a .text .now) (planWith (length (a .rerouters .now)) (length (a .bus-wires .now)) (length (a .ports .now)) (length (a .answers .now)) k)) (a .rerouters .now) (a .bus-wires .now) (a .ports .now) (a .answers .now) (d .route-within .last .1 .1 .1 .0) (d .route-within .last .1 .1 .1 .1 .0) (d .route-within .last .1 .1 .1 .1 .1 .0) (d .route-within .last .1 .1 .1 .1 .1 .1 .0) (withoutCounts (d .route-within .result)))
+    subst (λ (k : ℕ). PlanCalled (routeCall (a .text .now) (fitsPlan (length (a .rerouters .now)) (length (a .bus-wires .now)) (length (a .ports .now)) (length (a .answers .now)) k)) (a .rerouters .now) (a .bus-wires .now) (a .ports .now) (a .answers .now) (d .route-within .last .1 .1 .1 .0) (d .route-within .last .1 .1 .1 .1 .0) (d .route-within .last .1 .1 .1 .1 .1 .0) (d .route-within .last .1 .1 .1 .1 .1 .1 .0) (withoutCounts (d .route-within .result)))
     (work-of-all (length (a .records .now)) (a .node-facts .now) (a .wire-facts .now) (a .taps .now) (a .groups .now) (a .page-facts .now) (a .demands .now) (a .keys .now) (a .spare .now) (a .marks .now) (l .result) (w .result) (l .ensures) (w .ensures))
-    (route-called (a .rerouters .now) (a .bus-wires .now) (a .ports .now) (a .answers .now) (d .route-within .last .1 .1 .1 .0) (d .route-within .last .1 .1 .1 .1 .0) (d .route-within .last .1 .1 .1 .1 .1 .0) (d .route-within .last .1 .1 .1 .1 .1 .1 .0) (a .text .now) (planWith (length (a .rerouters .now)) (length (a .bus-wires .now)) (length (a .ports .now)) (length (a .answers .now)) (w .result)) _ (d .before .before .before .before .before .before .before .before .before .before .before .before .before .before .before .library-most .ensures) (d .route-within .result) (d .route-within .ensures))
+    (route-called (a .rerouters .now) (a .bus-wires .now) (a .ports .now) (a .answers .now) (d .route-within .last .1 .1 .1 .0) (d .route-within .last .1 .1 .1 .1 .0) (d .route-within .last .1 .1 .1 .1 .1 .0) (d .route-within .last .1 .1 .1 .1 .1 .1 .0) (a .text .now) (length (a .rerouters .now)) (length (a .bus-wires .now)) (length (a .ports .now)) (length (a .answers .now)) (w .result) _ (d .before .before .before .before .before .before .before .before .before .before .before .before .before .before .before .library-most .ensures) (d .route-within .result) (d .route-within .ensures))
 
 shortest-of-requires : tie.Need-shortest-of-requires
 shortest-of-requires c κs = search needs

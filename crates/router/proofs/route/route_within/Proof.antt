@@ -8,14 +8,14 @@ use Rattle.plan.proofs.Calling.{pages-ready}
 use Rattle.plan.proofs.Planned.{planned-counts}
 use Rattle.plan.proofs.Reading.{lanes-from}
 use Rattle.sheet.specs.declared.Counts.{Counts}
-use Rattle.router.proofs.Suppressing.{BusTold, bus-told, bus-refusal}
+use Rattle.gutter.proofs.Suppressing.{BusTold, bus-told, bus-refusal}
 use Rattle.router.proofs.Routing.{corners-ready, lanes-told, plan-told, plan-refused}
 use Rattle.router.proofs.route.route_within.Statement.{statement}
 use Rattle.router.proofs.route.route_within.Tie as tie
 use Rattle.router.proofs.route.route_within.Reads as reads
 use Rattle.router.proofs.route.route_within.Lts as lts
 use Rattle.plan.proofs.write_pages.Reads as write-pages-reads
-use Rattle.router.proofs.bus.lay_within.Reads as lay-within-reads
+use Rattle.gutter.proofs.bus.lay_within.Reads as lay-within-reads
 use Rattle.router.proofs.route.add_corners.Reads as add-corners-reads
 
 abbrev start : tie.After-lay-within → tie.Start

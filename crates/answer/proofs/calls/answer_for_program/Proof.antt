@@ -1,0 +1,106 @@
+use Prim.Native.Nat.{_/_}
+use mathlib.Core.Path.{sym, subst}
+use mathlib.Core.List.{_∷_}
+use lib.ListN.{length}
+use Rattle.sheet.specs.declared.Counts.{Counts}
+use Rattle.board.specs.Walk.{WithinLibrary}
+use Rattle.gutter.proofs.Suppressing.{workLengths}
+use Rattle.answer.specs.Answering.{answerLent}
+use Rattle.answer.proofs.Program.{within-program, too-long, not-long}
+use Rattle.answer.proofs.calls.answer_for_program.Statement.{statement}
+use Rattle.answer.proofs.calls.answer_for_program.Tie as tie
+
+tell-refusal-requires : tie.Need-tell-refusal-requires
+tell-refusal-requires c κs = tt
+
+same-length : tie.Need-same-length
+same-length c = c .before .before .tell-refusal .kept .0
+
+returns : tie.Need-returns
+returns c =
+    let a = c .before .before .before .before .before .before .before .args in
+    let t = c .before .before .tell-refusal in
+    too-long (a .text .now) (answerLent (length (a .rerouters .now)) (length (a .bus-wires .now)) (length (a .ports .now)) (length (a .answers .now)) (length (a .out .now)) (length (a .marks .now) / 2 ∷ workLengths (length (a .records .now)) (a .node-facts .now) (a .wire-facts .now) (a .taps .now) (a .groups .now) (a .page-facts .now) (a .demands .now) (a .keys .now) (a .spare .now) (a .marks .now))) (c .before .before .before .before .if1 .taken) (a .out .now) (t .last .0) (t .result) (t .ensures) (a .rerouters .now) (a .bus-wires .now) (a .ports .now) (a .answers .now)
+
+program-most-requires : tie.Need-program-most-requires
+program-most-requires c κs = tt
+
+answer-within-requires : tie.Need-answer-within-requires
+answer-within-requires c κs = subst (λ (m : Counts). WithinLibrary m) (sym (c .before .before .before .before .before .before .before .before .before .before .before .before .before .before .before .program-most .ensures)) within-program
+
+same-length-2 : tie.Need-same-length-2
+same-length-2 c = c .before .before .before .before .before .before .before .before .before .before .before .before .before .before .before .before .answer-within .kept .1 .1 .0
+
+same-length-3 : tie.Need-same-length-3
+same-length-3 c = c .before .before .before .before .before .before .before .before .before .before .before .before .before .before .before .before .answer-within .kept .1 .1 .1 .0
+
+same-length-4 : tie.Need-same-length-4
+same-length-4 c = c .before .before .before .before .before .before .before .before .before .before .before .before .before .before .before .before .answer-within .kept .1 .1 .1 .1 .0
+
+same-length-5 : tie.Need-same-length-5
+same-length-5 c = c .before .before .before .before .before .before .before .before .before .before .before .before .before .before .before .before .answer-within .kept .1 .1 .1 .1 .1 .0
+
+same-length-6 : tie.Need-same-length-6
+same-length-6 c = c .before .before .before .before .before .before .before .before .before .before .before .before .before .before .before .before .answer-within .kept .1 .1 .1 .1 .1 .1 .0
+
+same-length-7 : tie.Need-same-length-7
+same-length-7 c = c .before .before .before .before .before .before .before .before .before .before .before .before .before .before .before .before .answer-within .kept .1 .1 .1 .1 .1 .1 .1 .0
+
+same-length-8 : tie.Need-same-length-8
+same-length-8 c = c .before .before .before .before .before .before .before .before .before .before .before .before .before .before .before .before .answer-within .kept .1 .1 .1 .1 .1 .1 .1 .1 .0
+
+same-length-9 : tie.Need-same-length-9
+same-length-9 c = c .before .before .before .before .before .before .before .before .before .before .before .before .before .before .before .before .answer-within .kept .1 .1 .1 .1 .1 .1 .1 .1 .1 .0
+
+same-length-10 : tie.Need-same-length-10
+same-length-10 c = c .before .before .before .before .before .before .before .before .before .before .before .before .before .before .before .before .answer-within .kept .1 .1 .1 .1 .1 .1 .1 .1 .1 .1 .0
+
+same-length-11 : tie.Need-same-length-11
+same-length-11 c = c .before .before .before .before .before .before .before .before .before .before .before .before .before .before .before .before .answer-within .kept .1 .1 .1 .1 .1 .1 .1 .1 .1 .1 .1 .0
+
+same-length-12 : tie.Need-same-length-12
+same-length-12 c = c .before .before .before .before .before .before .before .before .before .before .before .before .before .before .before .before .answer-within .kept .1 .1 .1 .1 .1 .1 .1 .1 .1 .1 .1 .1 .0
+
+same-length-13 : tie.Need-same-length-13
+same-length-13 c = c .before .before .before .before .before .before .before .before .before .before .before .before .before .before .before .before .answer-within .kept .1 .1 .1 .1 .1 .1 .1 .1 .1 .1 .1 .1 .1 .0
+
+same-length-14 : tie.Need-same-length-14
+same-length-14 c = c .before .before .before .before .before .before .before .before .before .before .before .before .before .before .before .before .answer-within .kept .1 .1 .1 .1 .1 .1 .1 .1 .1 .1 .1 .1 .1 .1 .0
+
+same-length-15 : tie.Need-same-length-15
+same-length-15 c = c .before .before .before .before .before .before .before .before .before .before .before .before .before .before .before .before .answer-within .kept .1 .1 .1 .1 .1 .1 .1 .1 .1 .1 .1 .1 .1 .1 .1 .0
+
+same-length-16 : tie.Need-same-length-16
+same-length-16 c = c .before .before .before .before .before .before .before .before .before .before .before .before .before .before .before .before .answer-within .kept .1 .1 .1 .1 .1 .1 .1 .1 .1 .1 .1 .1 .1 .1 .1 .1 .0
+
+returns-2 : tie.Need-returns-2
+returns-2 c =
+    let d = c .before .before .before .before .before .before .before .before .before .before .before .before .before .before .before .before in
+    let a = d .before .before .before .before .before .before .before .before .before .before .before .before .before .before .before .before .before .before .before .before .args in
+    not-long (a .text .now) (answerLent (length (a .rerouters .now)) (length (a .bus-wires .now)) (length (a .ports .now)) (length (a .answers .now)) (length (a .out .now)) (length (a .marks .now) / 2 ∷ workLengths (length (a .records .now)) (a .node-facts .now) (a .wire-facts .now) (a .taps .now) (a .groups .now) (a .page-facts .now) (a .demands .now) (a .keys .now) (a .spare .now) (a .marks .now))) (d .before .before .before .before .before .before .before .before .before .before .before .before .before .before .before .before .before .if1 .left) _ (d .before .before .before .before .before .before .before .before .before .before .before .before .before .before .before .before .program-most .ensures) (d .answer-within .ensures)
+
+pub answer-for-program-spec : {M : Type 1} → statement M
+answer-for-program-spec =
+    tie.close
+    (tie.spec
+    tell-refusal-requires
+    same-length
+    returns
+    program-most-requires
+    answer-within-requires
+    same-length-2
+    same-length-3
+    same-length-4
+    same-length-5
+    same-length-6
+    same-length-7
+    same-length-8
+    same-length-9
+    same-length-10
+    same-length-11
+    same-length-12
+    same-length-13
+    same-length-14
+    same-length-15
+    same-length-16
+    returns-2)

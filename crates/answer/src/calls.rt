@@ -1,0 +1,144 @@
+// The calls: at the library's limits, at the program's, and at the program's with work space of its own.
+use crate::Answer;
+use crate::answer_within;
+use crate::tell_refusal;
+use sheet::library_most;
+use sheet::program_most;
+ghost use mathlib.Core.List.{[], _∷_};
+ghost use Prim.Native.Nat.{_/_};
+ghost use lib.ListN.{length};
+ghost use Rattle.sheet.specs.Table.{libraryMost};
+ghost use Rattle.answer.specs.Answering.{Told, Answered, answerLent, answerCall, programCall, programLent};
+
+// The most bytes of input that the program takes.
+pub const INPUT_MOST: usize = 65_536;
+
+// Bytes of text for the largest plan of a board that the program takes: 128 a line, 8 pages, 12 lines for each of 56 wires, and the last line.
+pub const PLAN_MOST: usize = 87_168;
+
+// The answer to a sheet at the library's limits.
+pub fn answer(
+    text: &[u8],
+    out: &mut [u8],
+    rerouters: &mut [[u32; 10]],
+    bus_wires: &mut [[u32; 6]],
+    ports: &mut [[u32; 2]],
+    answers: &mut [[u32; 2]],
+    records: &mut [[u32; 16]],
+    node_facts: &mut [[u32; 8]],
+    wire_facts: &mut [[u32; 8]],
+    taps: &mut [[u32; 8]],
+    groups: &mut [[u32; 8]],
+    page_facts: &mut [[u32; 8]],
+    demands: &mut [[u32; 8]],
+    keys: &mut [[u32; 8]],
+    spare: &mut [[u32; 8]],
+    marks: &mut [[u32; 8]],
+) -> Answer
+    ensures { λ r. ⌜ Answered (answerCall libraryMost (now (text .entry)) (answerLent (length (now (rerouters .entry))) (length (now («bus_wires» .entry))) (length (now (ports .entry))) (length (now (answers .entry))) (length (now (out .entry))) (length (now (marks .entry)) / 2 ∷ length (now (records .entry)) ∷ length (now («node_facts» .entry)) ∷ length (now («wire_facts» .entry)) ∷ length (now (taps .entry)) ∷ length (now (groups .entry)) ∷ length (now («page_facts» .entry)) ∷ length (now (demands .entry)) ∷ length (now (keys .entry)) ∷ length (now (spare .entry)) ∷ [])))
+        (now (out .entry)) (now (rerouters .entry)) (now («bus_wires» .entry)) (now (ports .entry)) (now (answers .entry)) (now (out .exit)) (now (rerouters .exit)) (now («bus_wires» .exit)) (now (ports .exit)) (now (answers .exit)) r ⌝ }
+{
+    answer_within(
+        text,
+        library_most(),
+        out,
+        rerouters,
+        bus_wires,
+        ports,
+        answers,
+        records,
+        node_facts,
+        wire_facts,
+        taps,
+        groups,
+        page_facts,
+        demands,
+        keys,
+        spare,
+        marks,
+    )
+}
+
+// The answer to the program's input. "over 65,536 bytes of input give 2 and line 0 before all else"
+pub fn answer_for_program(
+    text: &[u8],
+    out: &mut [u8],
+    rerouters: &mut [[u32; 10]],
+    bus_wires: &mut [[u32; 6]],
+    ports: &mut [[u32; 2]],
+    answers: &mut [[u32; 2]],
+    records: &mut [[u32; 16]],
+    node_facts: &mut [[u32; 8]],
+    wire_facts: &mut [[u32; 8]],
+    taps: &mut [[u32; 8]],
+    groups: &mut [[u32; 8]],
+    page_facts: &mut [[u32; 8]],
+    demands: &mut [[u32; 8]],
+    keys: &mut [[u32; 8]],
+    spare: &mut [[u32; 8]],
+    marks: &mut [[u32; 8]],
+) -> Answer
+    ensures { λ r. ⌜ Answered (programCall (now (text .entry)) (answerLent (length (now (rerouters .entry))) (length (now («bus_wires» .entry))) (length (now (ports .entry))) (length (now (answers .entry))) (length (now (out .entry))) (length (now (marks .entry)) / 2 ∷ length (now (records .entry)) ∷ length (now («node_facts» .entry)) ∷ length (now («wire_facts» .entry)) ∷ length (now (taps .entry)) ∷ length (now (groups .entry)) ∷ length (now («page_facts» .entry)) ∷ length (now (demands .entry)) ∷ length (now (keys .entry)) ∷ length (now (spare .entry)) ∷ [])))
+        (now (out .entry)) (now (rerouters .entry)) (now («bus_wires» .entry)) (now (ports .entry)) (now (answers .entry)) (now (out .exit)) (now (rerouters .exit)) (now («bus_wires» .exit)) (now (ports .exit)) (now (answers .exit)) r ⌝ }
+{
+    if INPUT_MOST < text.len() {
+        return tell_refusal(out, 2, 0);
+    }
+    answer_within(
+        text,
+        program_most(),
+        out,
+        rerouters,
+        bus_wires,
+        ports,
+        answers,
+        records,
+        node_facts,
+        wire_facts,
+        taps,
+        groups,
+        page_facts,
+        demands,
+        keys,
+        spare,
+        marks,
+    )
+}
+
+// The same with as much of all else as the largest board that the program takes asks for: given PLAN_MOST bytes it never answers 7 (`program-fits`).
+pub fn respond(text: &[u8], out: &mut [u8]) -> Answer
+    ensures { λ r. ⌜ Told (programCall (now (text .entry)) (programLent (length (now (out .entry))))) (now (out .entry)) (now (out .exit)) r ⌝ }
+{
+    let mut rerouters = [[0u32; 10]; 280];
+    let mut bus_wires = [[0u32; 6]; 336];
+    let mut ports = [[0u32; 2]; 56];
+    let mut answers = [[0u32; 2]; 8];
+    let mut records = [[0u32; 16]; 168];
+    let mut node_facts = [[0u32; 8]; 168];
+    let mut wire_facts = [[0u32; 8]; 168];
+    let mut taps = [[0u32; 8]; 168];
+    let mut groups = [[0u32; 8]; 168];
+    let mut page_facts = [[0u32; 8]; 168];
+    let mut demands = [[0u32; 8]; 168];
+    let mut keys = [[0u32; 8]; 168];
+    let mut spare = [[0u32; 8]; 168];
+    let mut marks = [[0u32; 8]; 336];
+    answer_for_program(
+        text,
+        out,
+        &mut rerouters,
+        &mut bus_wires,
+        &mut ports,
+        &mut answers,
+        &mut records,
+        &mut node_facts,
+        &mut wire_facts,
+        &mut taps,
+        &mut groups,
+        &mut page_facts,
+        &mut demands,
+        &mut keys,
+        &mut spare,
+        &mut marks,
+    )
+}

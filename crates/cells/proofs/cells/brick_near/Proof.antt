@@ -1,0 +1,49 @@
+-- `brick_near` meets its contract: the two buckets, one after the other. Assumes nothing.
+use Rattle.cells.specs.Chains.{brickBucket, brickMeets}
+use Rattle.cells.proofs.RowTests.{either-yes, either-no}
+use borrow.Author.Needs.{needs}
+use Rattle.cells.proofs.cells.brick_near.Statement.{statement}
+use Rattle.cells.proofs.cells.brick_near.Tie as tie
+
+add-bucket : tie.Need-add-bucket
+add-bucket c = search needs
+
+bucket-requires : tie.Need-bucket-requires
+bucket-requires c κs = search needs
+
+brick-there-requires : tie.Need-brick-there-requires
+brick-there-requires c κs = search needs
+
+returns : tie.Need-returns
+returns c =
+    let l = c .before in
+    let a = l .before .before .before .before .args in
+    either-yes (brickBucket (a .rerouters .now)) (brickMeets (a .rerouters .now) (a .wanted)) (a .n) (a .page) (a .key) (a .c) _ _ (l .brick-there .ensures) (l .before .bucket .ensures) (c .if1 .taken)
+
+add-bucket-2 : tie.Need-add-bucket-2
+add-bucket-2 c = search needs
+
+bucket-requires-2 : tie.Need-bucket-requires-2
+bucket-requires-2 c κs = search needs
+
+brick-there-requires-2 : tie.Need-brick-there-requires-2
+brick-there-requires-2 c κs = search needs
+
+returns-2 : tie.Need-returns-2
+returns-2 c =
+    let l = c .before .before .before in
+    let a = l .before .before .before .before .args in
+    either-no (brickBucket (a .rerouters .now)) (brickMeets (a .rerouters .now) (a .wanted)) (a .n) (a .page) (a .key) (a .c) _ _ (l .brick-there .ensures) (l .before .bucket .ensures) _ _ (c .brick-there2 .ensures) (c .before .bucket2 .ensures) (c .before .before .if1 .left)
+
+pub brick-near-spec : {M : Type 1} → statement M
+brick-near-spec =
+    tie.close
+    (tie.spec
+    add-bucket
+    bucket-requires
+    brick-there-requires
+    returns
+    add-bucket-2
+    bucket-requires-2
+    brick-there-requires-2
+    returns-2)

@@ -1,0 +1,2 @@
+// Questions for claimed columns and booked cells.
+pub mod cells;

@@ -1,0 +1,5 @@
+pub mod Ends
+pub mod Filling
+pub mod KeyLaws
+pub mod RowLaws
+pub mod TapLaws

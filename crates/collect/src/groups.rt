@@ -1,0 +1,555 @@
+// `collect_bus_groups`: which wires a lane may carry, and which of them share one. First each wire's ends, then its target, then its tap.
+use crate::rows::MISSING;
+use board::ids::Found;
+use board::ids::NodeId;
+use board::ids::add_id;
+use board::ids::find_id;
+use board::ids::top_chip;
+ghost use mathlib.Core.Path.{_≡_};
+ghost use mathlib.Core.Bool.{not, _&&_, _||_};
+ghost use mathlib.Core.List.{List, [], _∷_};
+ghost use Prim.Native.Nat.{ℕ, _+_, _≤_, _<_};
+ghost use lib.Dec.{eqb};
+ghost use Rattle.sheet.specs.Table.{libraryMost};
+ghost use lib.ListN.{length, getD};
+ghost use Rattle.board.specs.Lists.{any, upto};
+ghost use Rattle.board.specs.Board.{Board, field, given, kindChip, kindInput, kindCoerce, classStorage, classInline, sourceNode, targetNode};
+ghost use Rattle.board.specs.Groups.{anchorOf, isBussable, wireOpen};
+ghost use Rattle.board.specs.Index.{Index, Ids, entryOf};
+ghost use Rattle.board.specs.Groups.{addWire, groupFor, tapsOf};
+ghost use Rattle.board.specs.Tables.{held, flag, view, tapIn, tapTarget, NodeFacts, WireFacts, TapTargets};
+ghost use Rattle.collect.specs.Collecting.{Indexes, tapBucket, Tapped};
+
+const KIND_CHIP: u32 = 2;
+
+const KIND_INPUT: u32 = 3;
+
+const KIND_COERCE: u32 = 5;
+
+const CLASS_STORAGE: u32 = 1;
+
+const CLASS_INLINE: u32 = 2;
+
+const PORT_LAYOUT: u32 = 0;
+
+const BUCKETS: u32 = 4096;
+
+const TAP_BUCKETS: u32 = 8192;
+
+// The entry that has the id, or MISSING.
+fn held_id(ids: &[u32], nexts: &[u32], heads: &[u32], n: usize, id: NodeId) -> u32
+    requires { ⌜ Index (now ids) (now nexts) (now heads) n ⌝ }
+    requires { ⌜ n ≤ libraryMost .nodes ⌝ }
+    ensures { λ r. ⌜ r ≡ held (entryOf (now (ids .entry)) n (id .0)) ⌝ }
+{
+    match find_id(ids, nexts, heads, n, id) {
+        Found::At(i) => i as u32,
+        Found::Nothing => MISSING,
+    }
+}
+
+// A wire's end: the anchor of its node, and whether the node itself may be on the bus.
+pub struct End {
+    pub anchor: u32,
+    pub open: bool,
+}
+
+// The end at a node: the body node itself, or for a node inside a chip the chip's top chip.
+fn find_end(
+    nodes: &[[u32; 16]],
+    chips: &[[u32; 16]],
+    inner: &[[u32; 16]],
+    body_ids: &[u32],
+    body_nexts: &[u32],
+    body_heads: &[u32],
+    inner_ids: &[u32],
+    inner_nexts: &[u32],
+    inner_heads: &[u32],
+    id: NodeId,
+) -> End
+    requires { ⌜ Indexes (now nodes) (now inner) (now «body_ids») (now «body_nexts») (now «body_heads») (now «inner_ids») (now «inner_nexts») (now «inner_heads») ⌝ }
+    ensures { λ r. ⌜ ((b : Board) → b .nodes ≡ now (nodes .entry) → b .chips ≡ now (chips .entry) → b .inner ≡ now (inner .entry)
+        → (r .anchor ≡ held (anchorOf b (id .0))) × (r .open ≡ isBussable b (id .0))) ⌝ }
+{
+    let anchor = held_id(body_ids, body_nexts, body_heads, nodes.len(), id);
+    let i = anchor as usize;
+    if i < nodes.len() {
+        let node = nodes[i];
+        return End {
+            anchor,
+            open: node[3] != CLASS_INLINE,
+        };
+    }
+    let f = held_id(inner_ids, inner_nexts, inner_heads, inner.len(), id) as usize;
+    if f < inner.len() {
+        let record = inner[f];
+        let top = top_chip(chips, chips.len(), NodeId(record[2]));
+        return End {
+            anchor: held_id(body_ids, body_nexts, body_heads, nodes.len(), top),
+            open: record[3] != CLASS_INLINE,
+        };
+    }
+    End {
+        anchor: MISSING,
+        open: false,
+    }
+}
+
+// The tests on a wire before any on its anchors.
+fn wire_open(wire: [u32; 16], source_open: bool, target_open: bool) -> bool
+    ensures { λ r. ⌜ r ≡ (not (eqb (getD wire 2 0) 0) && not (eqb (getD wire 4 0) 0) && not (eqb (getD wire 1 0) (getD wire 3 0)) && «source_open» && «target_open») ⌝ }
+{
+    if wire[2] == PORT_LAYOUT {
+        return false;
+    }
+    if wire[4] == PORT_LAYOUT {
+        return false;
+    }
+    if wire[1] == wire[3] {
+        return false;
+    }
+    if source_open { target_open } else { false }
+}
+
+// "Input, pin or storage"
+pub fn is_bus_worthy_source(node: [u32; 16]) -> bool
+    ensures { λ r. ⌜ r ≡ (eqb (getD node 2 0) kindInput || eqb (getD node 4 0) 1 || eqb (getD node 3 0) classStorage) ⌝ }
+{
+    if node[2] == KIND_INPUT {
+        return true;
+    }
+    if node[4] == 1 {
+        return true;
+    }
+    node[3] == CLASS_STORAGE
+}
+
+// Whether a wire at the id crosses a chip's wall at this anchor: `into_chip` of a target, `out_of_chip` of a source.
+pub fn crosses_at(anchor: [u32; 16], id: u32) -> bool
+    ensures { λ r. ⌜ r ≡ (not (eqb (getD anchor 1 0) id) || eqb (getD anchor 2 0) kindChip) ⌝ }
+{
+    if anchor[1] != id {
+        return true;
+    }
+    anchor[2] == KIND_CHIP
+}
+
+fn names(exec: [u32; 16], node: u32, port: u32) -> bool
+    ensures { λ r. ⌜ r ≡ (eqb (getD exec 1 0) node && eqb (getD exec 2 0) port) ⌝ }
+{
+    if exec[1] == node {
+        exec[2] == port
+    } else {
+        false
+    }
+}
+
+// Whether an X names the node and the port. X records are chained by node.
+fn targets_exec(
+    execs: &[[u32; 16]],
+    ids: &[u32],
+    nexts: &[u32],
+    heads: &[u32],
+    node: u32,
+    port: u32,
+) -> bool
+    requires { ⌜ Ids (now ids) (now nexts) (now heads) (length (now execs)) (λ e. field (now execs) e 1) ⌝ }
+    ensures { λ r. ⌜ r ≡ any (λ e. eqb (field (now (execs .entry)) e 1) node && eqb (field (now (execs .entry)) e 2) port) (upto (length (now (execs .entry)))) ⌝ }
+{
+    let mut link = heads[(node % BUCKETS) as usize];
+    while link != 0 {
+        let e = (link - 1) as usize;
+        if names(execs[e], node, port) {
+            return true;
+        }
+        link = nexts[e];
+    }
+    false
+}
+
+// Finds the ends of every wire: both anchors, and whether it passes the tests before any on them.
+fn find_ends(
+    nodes: &[[u32; 16]],
+    chips: &[[u32; 16]],
+    inner: &[[u32; 16]],
+    wires: &[[u32; 16]],
+    body_ids: &[u32],
+    body_nexts: &[u32],
+    body_heads: &[u32],
+    inner_ids: &[u32],
+    inner_nexts: &[u32],
+    inner_heads: &[u32],
+    facts: &mut [[u32; 8]],
+)
+    requires { ⌜ Indexes (now nodes) (now inner) (now «body_ids») (now «body_nexts») (now «body_heads») (now «inner_ids») (now «inner_nexts») (now «inner_heads») ⌝ }
+    requires { ⌜ length (now wires) ≤ length (now facts) ⌝ }
+    ensures { λ _. ⌜ ((b : Board) → b .nodes ≡ now (nodes .entry) → b .chips ≡ now (chips .entry) → b .inner ≡ now (inner .entry) → b .wires ≡ now (wires .entry)
+        → WireFacts b (now (facts .exit))) ⌝ }
+{
+    let mut w: usize = 0;
+    while w < wires.len() {
+        let wire = wires[w];
+        let source = find_end(
+            nodes,
+            chips,
+            inner,
+            body_ids,
+            body_nexts,
+            body_heads,
+            inner_ids,
+            inner_nexts,
+            inner_heads,
+            NodeId(wire[1]),
+        );
+        let target = find_end(
+            nodes,
+            chips,
+            inner,
+            body_ids,
+            body_nexts,
+            body_heads,
+            inner_ids,
+            inner_nexts,
+            inner_heads,
+            NodeId(wire[3]),
+        );
+        let open = wire_open(wire, source.open, target.open);
+        facts[w] = [source.anchor, target.anchor, open as u32, 0, 0, 0, 0, 0];
+        w += 1;
+    }
+}
+
+// Chains the X records by node.
+fn index_execs(execs: &[[u32; 16]], ids: &mut [u32], nexts: &mut [u32], heads: &mut [u32])
+    requires { ⌜ Index (now ids) (now nexts) (now heads) 0 ⌝ }
+    requires { ⌜ (length (now execs) ≤ libraryMost .execs) × (length (now execs) ≤ length (now ids)) × (length (now execs) ≤ length (now nexts)) ⌝ }
+    ensures { λ _. ⌜ Ids (now (ids .exit)) (now (nexts .exit)) (now (heads .exit)) (length (now (execs .entry))) (λ e. field (now (execs .entry)) e 1) ⌝ }
+{
+    let mut e: usize = 0;
+    while e < execs.len() {
+        let exec = execs[e];
+        add_id(ids, nexts, heads, e, NodeId(exec[1]));
+        e += 1;
+    }
+}
+
+// The tests on a wire's anchors.
+fn anchors_open(
+    execs: &[[u32; 16]],
+    ids: &[u32],
+    nexts: &[u32],
+    heads: &[u32],
+    source: [u32; 16],
+    target: [u32; 16],
+    wire: [u32; 16],
+) -> bool
+    requires { ⌜ Ids (now ids) (now nexts) (now heads) (length (now execs)) (λ e. field (now execs) e 1) ⌝ }
+    ensures { λ r. ⌜ r ≡ (
+        ((not (eqb (getD target 1 0) (getD wire 3 0)) || eqb (getD target 2 0) kindChip)
+        || (eqb (getD source 2 0) kindInput || eqb (getD source 4 0) 1 || eqb (getD source 3 0) classStorage)
+        || not (any (λ e. eqb (field (now (execs .entry)) e 1) (getD wire 3 0) && eqb (field (now (execs .entry)) e 2) (getD wire 4 0)) (upto (length (now (execs .entry))))))
+        && not (eqb (getD source 3 0) classInline) && not (eqb (getD target 3 0) classInline)
+        && not (eqb (getD source 2 0) kindCoerce)
+        && given (getD target 10 0)) ⌝ }
+{
+    if source[3] == CLASS_INLINE {
+        return false;
+    }
+    if target[3] == CLASS_INLINE {
+        return false;
+    }
+    if source[2] == KIND_COERCE {
+        return false;
+    }
+    if target[10] == MISSING {
+        return false;
+    }
+    if crosses_at(target, wire[3]) {
+        return true;
+    }
+    if is_bus_worthy_source(source) {
+        return true;
+    }
+    if targets_exec(execs, ids, nexts, heads, wire[3], wire[4]) {
+        false
+    } else {
+        true
+    }
+}
+
+// The target anchor of a wire that is not passed over, or MISSING.
+fn tap_target(
+    nodes: &[[u32; 16]],
+    execs: &[[u32; 16]],
+    ids: &[u32],
+    nexts: &[u32],
+    heads: &[u32],
+    wire: [u32; 16],
+    facts: [u32; 8],
+) -> u32
+    requires { ⌜ Ids (now ids) (now nexts) (now heads) (length (now execs)) (λ e. field (now execs) e 1) ⌝ }
+    requires { ⌜ length (now nodes) ≤ libraryMost .nodes ⌝ }
+    ensures { λ r. ⌜ ((b : Board) (w : ℕ) → b .nodes ≡ now (nodes .entry) → b .execs ≡ now (execs .entry) → getD (b .wires) w [] ≡ wire
+        → getD facts 0 0 ≡ held (anchorOf b (sourceNode b w)) → getD facts 1 0 ≡ held (anchorOf b (targetNode b w)) → getD facts 2 0 ≡ flag (wireOpen b w)
+        → r ≡ held (tapTarget b w)) ⌝ }
+{
+    if facts[2] == 0 {
+        return MISSING;
+    }
+    let s = facts[0] as usize;
+    if nodes.len() <= s {
+        return MISSING;
+    }
+    let t = facts[1] as usize;
+    if nodes.len() <= t {
+        return MISSING;
+    }
+    if anchors_open(execs, ids, nexts, heads, nodes[s], nodes[t], wire) {
+        facts[1]
+    } else {
+        MISSING
+    }
+}
+
+fn mark_wires(
+    nodes: &[[u32; 16]],
+    execs: &[[u32; 16]],
+    wires: &[[u32; 16]],
+    ids: &[u32],
+    nexts: &[u32],
+    heads: &[u32],
+    facts: &mut [[u32; 8]],
+)
+    requires { ⌜ Ids (now ids) (now nexts) (now heads) (length (now execs)) (λ e. field (now execs) e 1) ⌝ }
+    requires { ⌜ (length (now nodes) ≤ libraryMost .nodes) × (length (now wires) ≤ length (now facts)) ⌝ }
+    ensures { λ _. ⌜ ((b : Board) → b .nodes ≡ now (nodes .entry) → b .execs ≡ now (execs .entry) → b .wires ≡ now (wires .entry)
+        → WireFacts b (now (facts .entry)) → WireFacts b (now (facts .exit)) × TapTargets b (now (facts .exit))) ⌝ }
+{
+    let mut w: usize = 0;
+    while w < wires.len() {
+        let row = facts[w];
+        let target = tap_target(nodes, execs, ids, nexts, heads, wires[w], row);
+        facts[w] = [row[0], row[1], row[2], target, 0, 0, 0, 0];
+        w += 1;
+    }
+}
+
+// Finds the target anchor of every wire that is not passed over.
+fn mark_taps(nodes: &[[u32; 16]], execs: &[[u32; 16]], wires: &[[u32; 16]], facts: &mut [[u32; 8]])
+    requires { ⌜ (length (now execs) ≤ libraryMost .execs) × (length (now nodes) ≤ libraryMost .nodes) × (length (now wires) ≤ length (now facts)) ⌝ }
+    ensures { λ _. ⌜ ((b : Board) → b .nodes ≡ now (nodes .entry) → b .execs ≡ now (execs .entry) → b .wires ≡ now (wires .entry)
+        → WireFacts b (now (facts .entry)) → WireFacts b (now (facts .exit)) × TapTargets b (now (facts .exit))) ⌝ }
+{
+    let mut ids = [0u32; 4096];
+    let mut nexts = [0u32; 4096];
+    let mut heads = [0u32; 4096];
+    index_execs(execs, &mut ids, &mut nexts, &mut heads);
+    mark_wires(nodes, execs, wires, &ids, &nexts, &heads, facts);
+}
+
+fn tap_bucket(page: u32, node: u32, port: u32) -> usize
+    ensures { λ r. ⌜ r ≡ tapBucket page node port ⌝ }
+{
+    ((node % 8192 + port % 8192 * 1021 + page % 64 * 127) % TAP_BUCKETS) as usize
+}
+
+// Whether a tap is of the same page and its wire of the same source node and port.
+fn same_key(tap: [u32; 8], earlier: [u32; 16], page: u32, wire: [u32; 16]) -> bool
+    ensures { λ r. ⌜ r ≡ (eqb (getD tap 0 0) page && eqb (getD earlier 1 0) (getD wire 1 0) && eqb (getD earlier 2 0) (getD wire 2 0)) ⌝ }
+{
+    if tap[0] != page {
+        return false;
+    }
+    if earlier[1] != wire[1] {
+        return false;
+    }
+    earlier[2] == wire[2]
+}
+
+// The group of a wire to that page: that of the newest tap with the same key, else its own number.
+fn group_for(
+    wires: &[[u32; 16]],
+    taps: &[[u32; 8]],
+    nexts: &[u32],
+    heads: &[u32],
+    m: usize,
+    page: u32,
+    w: usize,
+) -> u32
+    requires { ⌜ Tapped (now wires) (now taps) (now nexts) (now heads) m ⌝ }
+    requires { ⌜ (w < length (now wires)) × (length (now wires) ≤ libraryMost .wires) ⌝ }
+    ensures { λ r. ⌜ ((b : Board) → b .wires ≡ now (wires .entry) → r ≡ groupFor b (view tapIn (now (taps .entry)) m) page w) ⌝ }
+{
+    let wire = wires[w];
+    let mut link = heads[tap_bucket(page, wire[1], wire[2])];
+    while link != 0 {
+        let k = (link - 1) as usize;
+        let tap = taps[k];
+        let earlier = wires[tap[7] as usize];
+        if same_key(tap, earlier, page, wire) {
+            return tap[1];
+        }
+        link = nexts[k];
+    }
+    w as u32
+}
+
+// One more tap, in front of its bucket's chain.
+fn push_tap(
+    wires: &[[u32; 16]],
+    taps: &mut [[u32; 8]],
+    nexts: &mut [u32],
+    heads: &mut [u32],
+    m: usize,
+    tap: [u32; 8],
+)
+    requires { ⌜ Tapped (now wires) (now taps) (now nexts) (now heads) m ⌝ }
+    requires { ⌜ (m < length (now taps)) × (m < length (now nexts)) × (m < libraryMost .wires) × (getD tap 7 0 < length (now wires)) ⌝ }
+    ensures { λ _. ⌜ Tapped (now (wires .entry)) (now (taps .exit)) (now (nexts .exit)) (now (heads .exit)) (m + 1) ⌝ }
+    ensures { λ _. ⌜ view tapIn (now (taps .exit)) (m + 1) ≡ _∷_ (tapIn tap) (view tapIn (now (taps .entry)) m) ⌝ }
+{
+    let wire = wires[tap[7] as usize];
+    let k = tap_bucket(tap[0], wire[1], wire[2]);
+    taps[m] = tap;
+    nexts[m] = heads[k];
+    heads[k] = (m + 1) as u32;
+}
+
+// The tap of a wire to its target anchor, unless it is passed over. The count of taps comes back.
+fn add_tap(
+    nodes: &[[u32; 16]],
+    wires: &[[u32; 16]],
+    node_facts: &[[u32; 8]],
+    taps: &mut [[u32; 8]],
+    nexts: &mut [u32],
+    heads: &mut [u32],
+    m: usize,
+    w: usize,
+    target: u32,
+) -> usize
+    requires { ⌜ Tapped (now wires) (now taps) (now nexts) (now heads) m ⌝ }
+    requires { ⌜ (m < length (now taps)) × (m < length (now nexts)) × (m ≤ w) × (w < length (now wires)) × (length (now wires) ≤ libraryMost .wires) × (length (now nodes) ≤ libraryMost .nodes) × (length (now nodes) ≤ length (now «node_facts»)) ⌝ }
+    ensures { λ r. ⌜ r ≤ m + 1 ⌝ }
+    ensures { λ r. ⌜ Tapped (now (wires .entry)) (now (taps .exit)) (now (nexts .exit)) (now (heads .exit)) r ⌝ }
+    ensures { λ r. ⌜ ((b : Board) → b .nodes ≡ now (nodes .entry) → b .wires ≡ now (wires .entry) → NodeFacts b (now («node_facts» .entry)) → target ≡ held (tapTarget b w)
+        → view tapIn (now (taps .exit)) r ≡ addWire b (view tapIn (now (taps .entry)) m) w) ⌝ }
+{
+    let t = target as usize;
+    if nodes.len() <= t {
+        return m;
+    }
+    let node = nodes[t];
+    let wire = wires[w];
+    let row = node_facts[t][0];
+    let group = group_for(wires, taps, nexts, heads, m, node[10], w);
+    push_tap(
+        wires,
+        taps,
+        nexts,
+        heads,
+        m,
+        [
+            node[10],
+            group,
+            row,
+            node[9],
+            node[8],
+            wire[3],
+            wire[4],
+            w as u32,
+        ],
+    );
+    m + 1
+}
+
+fn append_all(
+    nodes: &[[u32; 16]],
+    wires: &[[u32; 16]],
+    node_facts: &[[u32; 8]],
+    wire_facts: &[[u32; 8]],
+    taps: &mut [[u32; 8]],
+    nexts: &mut [u32],
+    heads: &mut [u32],
+) -> usize
+    requires { ⌜ Tapped (now wires) (now taps) (now nexts) (now heads) 0 ⌝ }
+    requires { ⌜ (length (now wires) ≤ length (now taps)) × (length (now wires) ≤ length (now nexts)) × (length (now wires) ≤ libraryMost .wires) × (length (now wires) ≤ length (now «wire_facts»)) × (length (now nodes) ≤ libraryMost .nodes) × (length (now nodes) ≤ length (now «node_facts»)) ⌝ }
+    ensures { λ r. ⌜ r ≤ length (now (wires .entry)) ⌝ }
+    ensures { λ r. ⌜ ((b : Board) → b .nodes ≡ now (nodes .entry) → b .wires ≡ now (wires .entry) → NodeFacts b (now («node_facts» .entry)) → TapTargets b (now («wire_facts» .entry))
+        → view tapIn (now (taps .exit)) r ≡ tapsOf b) ⌝ }
+{
+    let mut m: usize = 0;
+    let mut w: usize = 0;
+    while w < wires.len() {
+        let fact = wire_facts[w];
+        m = add_tap(nodes, wires, node_facts, taps, nexts, heads, m, w, fact[3]);
+        w += 1;
+    }
+    m
+}
+
+// The taps of all wires that are not passed over, in order. Their count comes back.
+fn append_taps(
+    nodes: &[[u32; 16]],
+    wires: &[[u32; 16]],
+    node_facts: &[[u32; 8]],
+    wire_facts: &[[u32; 8]],
+    taps: &mut [[u32; 8]],
+) -> usize
+    requires { ⌜ (length (now wires) ≤ length (now taps)) × (length (now wires) ≤ libraryMost .wires) × (length (now wires) ≤ length (now «wire_facts»)) × (length (now nodes) ≤ libraryMost .nodes) × (length (now nodes) ≤ length (now «node_facts»)) ⌝ }
+    ensures { λ r. ⌜ r ≤ length (now (wires .entry)) ⌝ }
+    ensures { λ r. ⌜ ((b : Board) → b .nodes ≡ now (nodes .entry) → b .wires ≡ now (wires .entry) → NodeFacts b (now («node_facts» .entry)) → TapTargets b (now («wire_facts» .entry))
+        → view tapIn (now (taps .exit)) r ≡ tapsOf b) ⌝ }
+{
+    let mut nexts = [0u32; 8192];
+    let mut heads = [0u32; 8192];
+    append_all(
+        nodes,
+        wires,
+        node_facts,
+        wire_facts,
+        taps,
+        &mut nexts,
+        &mut heads,
+    )
+}
+
+// `collect_bus_groups`: the ends of all wires, and the taps of those that a lane may carry, with their groups. The count of taps comes back.
+pub fn collect_bus_groups(
+    nodes: &[[u32; 16]],
+    chips: &[[u32; 16]],
+    inner: &[[u32; 16]],
+    execs: &[[u32; 16]],
+    wires: &[[u32; 16]],
+    body_ids: &[u32],
+    body_nexts: &[u32],
+    body_heads: &[u32],
+    inner_ids: &[u32],
+    inner_nexts: &[u32],
+    inner_heads: &[u32],
+    node_facts: &[[u32; 8]],
+    wire_facts: &mut [[u32; 8]],
+    taps: &mut [[u32; 8]],
+) -> usize
+    requires { ⌜ Indexes (now nodes) (now inner) (now «body_ids») (now «body_nexts») (now «body_heads») (now «inner_ids») (now «inner_nexts») (now «inner_heads») ⌝ }
+    requires { ⌜ (length (now execs) ≤ libraryMost .execs) × (length (now wires) ≤ libraryMost .wires) × (length (now nodes) ≤ length (now «node_facts»)) × (length (now wires) ≤ length (now «wire_facts»)) × (length (now wires) ≤ length (now taps)) ⌝ }
+    ensures { λ r. ⌜ r ≤ length (now (wires .entry)) ⌝ }
+    ensures { λ r. ⌜ ((b : Board) → b .nodes ≡ now (nodes .entry) → b .chips ≡ now (chips .entry) → b .inner ≡ now (inner .entry) → b .execs ≡ now (execs .entry)
+        → b .wires ≡ now (wires .entry) → NodeFacts b (now («node_facts» .entry))
+        → WireFacts b (now («wire_facts» .exit)) × (view tapIn (now (taps .exit)) r ≡ tapsOf b)) ⌝ }
+{
+    find_ends(
+        nodes,
+        chips,
+        inner,
+        wires,
+        body_ids,
+        body_nexts,
+        body_heads,
+        inner_ids,
+        inner_nexts,
+        inner_heads,
+        wire_facts,
+    );
+    mark_taps(nodes, execs, wires, wire_facts);
+    append_taps(nodes, wires, node_facts, wire_facts, taps)
+}

@@ -1,0 +1,3 @@
+// What is collected from a board: the rows of its pages, the ends of its wires, and the taps of its groups.
+pub mod groups;
+pub mod rows;

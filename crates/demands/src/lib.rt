@@ -1,0 +1,2 @@
+// The demands of a board's groups, and the lanes of its pages.
+pub mod demands;

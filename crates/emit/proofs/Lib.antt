@@ -1,0 +1,4 @@
+pub mod Emitting
+pub mod Lanes
+pub mod Next
+pub mod Steps

@@ -1,0 +1,325 @@
+-- What the steps of laying ask for, of a planned board of an accepted sheet.
+use Prim.Native.Nat.{ℕ, _-_, _≤_, _<_}
+use native.Mathlib.Omega.{arith}
+use native.Mathlib.Decide.{decLt}
+use mathlib.Core.Path.{_≡_, refl, sym, ap, subst, _∙_}
+use mathlib.Core.Bool.{Bool, true, false, not}
+use mathlib.Core.List.{List, [], _∷_, map, List·Memᴰ as Mem, List·Memᴰ·head as here, List·Memᴰ·tail as there}
+use lib.Dec.{eqb}
+use lib.ListN.{length, getD, List·getD-eq-default}
+use borrow.Author.Tests.{ne-eqb, eqb-true, not-true}
+use Rattle.sheet.specs.Table.{MISSING}
+use Rattle.sheet.proofs.Accepted.{MayBe, COORDINATE_LOW, COORDINATE_HIGH}
+use Rattle.board.specs.Lists.{Found, none, at, found, greatest}
+use Rattle.board.specs.Board.{Board, field, given, hasRow, pageOf, xOf, yOf, halfXOf, halfYOf, minYOf}
+use Rattle.board.specs.Rows.{rowTop, bricksIn, brickCell, turned}
+use Rattle.board.specs.Groups.{Tap, tapsOf, tapsIn, sourceAnchor}
+use Rattle.board.specs.Demands.{PageLanes, noLanes, laneOf}
+use Rattle.board.specs.Tables
+use Rattle.board.specs.Tables.{held, view, tapIn, groupRow}
+use Rattle.board.proofs.Lists.{never, and-left}
+use Rattle.board.proofs.Members.{map-in, map-from, keep-from}
+use Rattle.collect.proofs.RowLaws.{On, on-from, row-below}
+use Rattle.collect.proofs.KeyLaws.{half-within}
+use Rattle.collect.proofs.TapLaws.{carried-row, carried-below}
+use Rattle.demands.proofs.GroupLaws.{Known, known, known-row, source-held, source-below, target-held, target-below, least-any, in-group, length-view}
+use Rattle.board.proofs.LanesFit.{planned-fits}
+use Rattle.routes.specs.Stops.{isLaid, laidTaps}
+use Rattle.routes.specs.Levels.{Level, dropped, shared, own, keptAt, stopsOf}
+use Rattle.routes.specs.Tables.{GroupFacts, stopIn}
+use Rattle.stops.specs.Laying.{TapsFit, Tabled, LaidFits, LaidFacts}
+use Rattle.emit.specs.Emitting.{LowLevel, LaneInRange, LaidInRange, Tables, TapOn}
+use Rattle.routes.specs.Plan.{busOf, laidGroups, groupCount}
+use Rattle.routes.specs.Rerouters.{emit}
+use Rattle.routes.proofs.Views.{view-mem}
+use Rattle.stops.proofs.TapTables.{laid-facts}
+use Rattle.routes.proofs.Laid.{of-laid}
+use Rattle.emit.proofs.Next.{stops-count}
+use Rattle.gutter.specs.Lay.{LanesReady}
+use Rattle.gutter.proofs.Boards.{Sound, sheet-sound, Stands, tap-stands}
+use Rattle.gutter.proofs.Heights.{stops-low}
+
+-- A coordinate that is not missing, and one that may be.
+there-is : (v : ℕ) → given v ≡ true → MayBe COORDINATE_LOW COORDINATE_HIGH v → (COORDINATE_LOW ≤ v) × (v ≤ COORDINATE_HIGH)
+there-is v g r = r (not-true (eqb v MISSING) g)
+
+not-low : (v : ℕ) → MayBe COORDINATE_LOW COORDINATE_HIGH v → 5 ≤ v
+not-low v r = go (eqb v MISSING) refl
+  where
+    go : (t : Bool) → eqb v MISSING ≡ t → 5 ≤ v
+    go true e = let q = eqb-true v MISSING e in omega arith
+    go false e = let q = r e in omega arith
+
+greatest-most : (d k : ℕ) (l : List ℕ) → d ≤ k → ((x : ℕ) → Mem x l → x ≤ k) → greatest d l ≤ k
+greatest-most d k [] h f = h
+greatest-most d k (y ∷ l) h f = let u = greatest-most y k l (f y (here refl)) (λ x m. f x (there m)) in let v = f y (here refl) in omega arith
+
+-- Above every x of a board, and above every row top.
+abbrev HIGHEST : ℕ
+HIGHEST = 3002000
+
+module _ (b : Board) (s : Sound b) where
+  row-x : (i : ℕ) → i < length (b .nodes) → hasRow b i ≡ true → xOf b i ≤ COORDINATE_HIGH
+  row-x i h r = there-is (xOf b i) (s .rowPlaced i h r) (s .node i h .x) .1
+
+  end-low : (i : ℕ) → i < length (b .nodes) → hasRow b i ≡ true → brickCell b i .x1 ≤ HIGHEST
+  unfolding brickCell
+  end-low i h r =
+      let x = row-x i h r in
+      let half = half-within (turned b i) _ (halfXOf b i) (halfYOf b i) 1000 refl (s .node i h .halfX .1) (s .node i h .halfY .1) in
+      omega arith
+
+  tops-low : (p r : ℕ) → rowTop b p r ≤ HIGHEST
+  unfolding rowTop bricksIn
+  tops-low p r =
+      greatest-most 0 HIGHEST (map (λ i. brickCell b i .x1) (bricksIn b p r)) (omega arith)
+      (λ x m.
+      let q = map-from (λ i. brickCell b i .x1) (bricksIn b p r) m in
+      let o : On b p (q .0) = on-from b p (keep-from _ _ (q .1) .0) in
+      let e = q .2 in
+      let l = end-low (q .0) (o .there-is) (o .row) in
+      omega arith)
+
+-- The groups' rows in the words that laying has for them: a tap's group has a tap, so the least does not fall back.
+pub groups-are : (b : Board) (ps : List PageLanes) (groups : List (List ℕ)) → Tables.GroupFacts b ps groups → GroupFacts b (tapsOf b) ps groups
+unfolding groupRow
+groups-are b ps groups g =
+    record {
+      lanes = λ t m. ap (λ (r : List ℕ). getD r 4 0) (g t m);
+      lows = λ t m.
+          ap (λ (r : List ℕ). getD r 5 0) (g t m)
+          ∙ least-any MISSING 0 (map (λ u. u .x) (tapsIn b (tapsOf b) (t .group))) (t .x) (map-in (λ u. u .x) (tapsIn b (tapsOf b) (t .group)) (in-group b (tapsOf b) t m));
+      highs = λ t m. ap (λ (r : List ℕ). getD r 6 0) (g t m);
+    }
+
+-- A lane that is given is on a page that was planned.
+page-planned : (ps : List PageLanes) (p g lane : ℕ) → laneOf ps p g ≡ at lane → p < length ps
+page-planned ps p g lane e = go (decLt p (length ps))
+  where
+    go : Dec (p < length ps) → p < length ps
+    go (yes h) = h
+    go (no h) = let d : _≡_ {A = Found} none (at lane) = rw (List·getD-eq-default ps noLanes {n = p} (omega arith)) at e in never cc
+
+-- A level is low enough where kept levels are.
+level-range : (l : Level) → ((x : ℕ) → keptAt l ≡ at x → x ≤ HIGHEST) → LowLevel l
+level-range dropped h = tt
+level-range (shared x) h = tt
+level-range (own x) h = let l = h x refl in omega arith
+
+module _ {b : Board} {ps : List PageLanes} {pages nodes wires nodeFacts wireFacts groups pageFacts taps : List (List ℕ)} {m : ℕ} {laid spare stops marks rerouters busWires : List (List ℕ)}
+    (r : LanesReady b ps pages nodes wires nodeFacts wireFacts groups pageFacts taps m laid spare stops marks rerouters busWires) where
+  pub sound : Sound b
+  sound = sheet-sound (r .most) (r .text) b (r .within) (r .accepted)
+
+  wires-long : length (b .wires) ≡ length wires
+  wires-long = ap length (r .wires-are)
+
+  nodes-long : length (b .nodes) ≡ length nodes
+  nodes-long = ap length (r .nodes-are)
+
+  pages-long : length (b .pages) ≡ length pages
+  pages-long = ap length (r .pages-are)
+
+  pub few-nodes : length nodes ≤ 4096
+  few-nodes = let h = sound .fewNodes in let e = nodes-long in omega arith
+
+  pub few-wires : length wires ≤ 8192
+  few-wires = let h = sound .fewWires in let e = wires-long in omega arith
+
+  facts : GroupFacts b (tapsOf b) ps groups
+  facts = groups-are b ps groups (r .groups-known)
+
+  -- Where a tap's numbers point to, and their ranges.
+  module _ (t : Tap) (mem : Mem t (tapsOf b)) where
+    here′ : Stands b t
+    here′ = tap-stands b t mem
+
+    of : Known b (length (b .wires)) t
+    of = known b t mem
+
+    pub wire-in : t .wire < length wires
+    wire-in = let h = of .wire in let e = wires-long in omega arith
+
+    pub group-in : t .group < length wires
+    group-in = let h = of .group in let k = wire-in in omega arith
+
+    source-is′ : field wireFacts (t .group) 0 ≡ sourceAnchor b (t .group)
+    source-is′ = source-held b (t .group) (of .first) (of .leads) _ (r .wires-known .sources (t .group) (let h = group-in in let e = wires-long in omega arith))
+
+    pub source-in : field wireFacts (t .group) 0 < length nodes
+    source-in = let h = source-below b (t .group) (of .first) (of .leads) in let e = source-is′ in let l = nodes-long in omega arith
+
+    pub target-in : field wireFacts (t .wire) 1 < length nodes
+    target-in =
+        let h = target-below b (t .wire) (of .target) (of .carries) in
+        let e = target-held b (t .wire) (of .target) (of .carries) _ (r .wires-known .targets (t .wire) (of .wire)) in
+        let l = nodes-long in
+        omega arith
+
+    pub x-low : t .x ≤ HIGHEST
+    x-low =
+        let h = row-x b sound (here′ .target) (carried-below b (t .wire) (here′ .target) (here′ .carries)) (carried-row b (t .wire) (here′ .target) (here′ .carries)) in
+        let e = here′ .x in
+        omega arith
+
+    pub y-high : 5 ≤ t .y
+    y-high =
+        let h = not-low (yOf b (here′ .target)) (sound .node (here′ .target) (carried-below b (t .wire) (here′ .target) (here′ .carries)) .y) in
+        let e = here′ .y in
+        omega arith
+
+    pub row-in : t .row < length nodes
+    row-in = let h = known-row b (length (b .wires)) t of in let e = nodes-long in omega arith
+
+    -- The source of a group, as the tables hold it.
+    source-y : 5 ≤ field nodes (field wireFacts (t .group) 0) 9
+    source-y =
+        subst (λ (ns : List (List ℕ)). 5 ≤ field ns (field wireFacts (t .group) 0) 9) (r .nodes-are)
+        (not-low _ (sound .node (field wireFacts (t .group) 0) (let h = source-in in let e = nodes-long in omega arith) .y))
+
+    source-row : t .page < 64 → field nodes (field wireFacts (t .group) 0) 10 ≡ t .page → field nodeFacts (field wireFacts (t .group) 0) 0 < MISSING
+    source-row small e =
+        let s : ℕ = field wireFacts (t .group) 0 in
+        let on : pageOf b s ≡ t .page = ap (λ (ns : List (List ℕ)). field ns s 10) (r .nodes-are) ∙ e in
+        let inside : s < length (b .nodes) = let h = source-in in let l = nodes-long in omega arith in
+        let has : hasRow b s ≡ true = ap not (ne-eqb (pageOf b s) MISSING (λ z. omega arith)) in
+        let below = row-below b (pageOf b s) s (record { there-is = inside; row = has; page = refl }) in
+        let is = r .nodes-known .rows s inside has in
+        let few = sound .fewNodes in
+        omega arith
+
+  pub tabled : Tabled b (tapsOf b) ps nodes wireFacts groups
+  tabled =
+      record {
+        nodeRows = r .nodes-are;
+        wireEnds = r .wires-known;
+        groupRows = facts;
+        wired = λ t mem. let h = group-in t mem in let e = wires-long in omega arith;
+        lanesFew = λ p g l e. let f = planned-fits b ps (r .plan) p g l e .1 in let i = f .inside in let o = f .most in omega arith;
+      }
+
+  -- The taps laid, from what `lay_taps` says of them.
+  pub laid-are : {us : List Tap} → (Tabled b (view tapIn taps m) ps nodes wireFacts groups → us ≡ laidTaps b (view tapIn taps m) ps) → us ≡ laidTaps b (tapsOf b) ps
+  laid-are h = h (subst (λ (ts : List Tap). Tabled b ts ps nodes wireFacts groups) (sym (r .taps-are)) tabled) ∙ ap (λ (ts : List Tap). laidTaps b ts ps) (r .taps-are)
+
+  pub taps-fit : TapsFit nodes wireFacts groups taps m
+  taps-fit =
+      record {
+        room = let c = r .count in let w = r .wireRoom .2 in omega arith;
+        fits = λ k h.
+            let mem : Mem (tapIn (getD taps k [])) (tapsOf b) = subst (Mem (tapIn (getD taps k []))) (r .taps-are) (view-mem tapIn taps m k h) in
+            let g = group-in (tapIn (getD taps k [])) mem in
+            record {
+              nodesFew = let f = few-nodes in omega arith;
+              group = let w = r .wireRoom .1 in omega arith;
+              wire = let w = r .wireRoom .0 in omega arith;
+              source = source-in (tapIn (getD taps k [])) mem;
+            };
+      }
+
+  pub tables : Tables b (tapsOf b) ps pages nodes wires nodeFacts wireFacts groups pageFacts
+  tables =
+      record {
+        pages = r .pages-are;
+        nodes = r .nodes-are;
+        wires = r .wires-are;
+        facts = r .nodes-known;
+        ends = r .wires-known;
+        groups = facts;
+        pageFacts = record { counts = r .pages-known };
+      }
+
+  lane-range : (t : Tap) → Mem t (tapsOf b) → isLaid b (tapsOf b) ps t ≡ true → LaneInRange pages nodes wires nodeFacts wireFacts groups pageFacts (t .page) (t .group)
+  unfolding isLaid
+  lane-range t mem l = go (laneOf ps (t .page) (t .group)) refl (and-left _ _ l)
+    where
+      go : (f : Found) → laneOf ps (t .page) (t .group) ≡ f → found f ≡ true → LaneInRange pages nodes wires nodeFacts wireFacts groups pageFacts (t .page) (t .group)
+      go none e h = never cc
+      go (at lane) e h =
+          let fits = planned-fits b ps (r .plan) (t .page) (t .group) lane e in
+          let on = fits .0 in
+          let inside = fits .1 .inside in
+          let most = fits .1 .most in
+          let lane-is : field groups (t .group) 4 ≡ lane = facts .lanes t mem ∙ ap held e in
+          let count-is : field pageFacts (t .page) 0 ≡ getD ps (t .page) noLanes .count = r .pages-known (t .page) (page-planned ps (t .page) (t .group) lane e) in
+          let high : 1000000 ≤ minYOf b (t .page) = there-is (minYOf b (t .page)) (fits .1 .gutter) (sound .page (t .page) on .minY) .0 in
+          let high′ : minYOf b (t .page) ≡ field pages (t .page) 1 = ap (λ (q : List (List ℕ)). field q (t .page) 1) (r .pages-are) in
+          let few = sound .fewPages in
+          let few-n = few-nodes in
+          let long = pages-long in
+          let g = group-in t mem in
+          record {
+            onPages = omega arith;
+            onFacts = let p = r .pageRoom in omega arith;
+            pageSmall = omega arith;
+            onWires = g;
+            onEnds = let w = r .wireRoom .0 in omega arith;
+            onGroups = let w = r .wireRoom .1 in omega arith;
+            anchor = source-in t mem;
+            factsLong = r .nodeRoom;
+            nodesFew = omega arith;
+            laneSmall = omega arith;
+            laneOpen = omega arith;
+            laneRoom = omega arith;
+            sourceRoom = source-y t mem;
+            rowSmall = source-row t mem (omega arith);
+          }
+
+  -- The taps laid, and their stops.
+  module _ (rows : List (List ℕ)) (n : ℕ) (few : n ≤ m) (long : length rows ≡ length laid) (are : view tapIn rows n ≡ laidTaps b (tapsOf b) ps) where
+    abbrev tapAt : ℕ → Tap
+    tapAt k = tapIn (getD rows k [])
+
+    laid-at : (k : ℕ) → k < n → Mem (tapAt k) (tapsOf b) × (isLaid b (tapsOf b) ps (tapAt k) ≡ true)
+    laid-at k h = of-laid b (tapsOf b) ps (tapAt k) (subst (Mem (tapAt k)) are (view-mem tapIn rows n k h))
+
+    pub laid-fits : LaidFits wireFacts nodeFacts groups rows n
+    laid-fits =
+        let c = r .count in
+        let w = few-wires in
+        let ends = r .wireRoom .0 in
+        let sums = r .wireRoom .1 in
+        record {
+          rows = let l = r .laidRoom .0 in omega arith;
+          most = omega arith;
+          group = λ k h. let g = group-in (tapAt k) (laid-at k h .0) in omega arith;
+          first = λ k h. let g = group-in (tapAt k) (laid-at k h .0) in omega arith;
+          wire = λ k h. let g = wire-in (tapAt k) (laid-at k h .0) in omega arith;
+          target = λ k h. let g = target-in (tapAt k) (laid-at k h .0) in let l = r .nodeRoom in omega arith;
+          x = λ k h. let x = x-low (tapAt k) (laid-at k h .0) in omega arith;
+        }
+
+    pub laid-known : LaidFacts b ps wireFacts nodeFacts groups rows n
+    laid-known = laid-facts b ps nodes wireFacts nodeFacts groups rows n tabled (r .nodes-known) are
+
+    pub laid-on : (k : ℕ) → k < n → TapOn b (tapsOf b) (getD rows k [])
+    laid-on k h = let s = tap-stands b (tapAt k) (laid-at k h .0) in record { member = laid-at k h .0; node = s .node; port = s .port }
+
+    module _ (levels : List (List ℕ)) (claims : ℕ) (fewer : claims ≤ n) (wide : length levels ≡ length stops) (stops-are : view stopIn levels claims ≡ stopsOf b ps (view tapIn rows n)) where
+      level-at : (i : ℕ) → i < claims → LowLevel (stopIn (getD levels i []) .level)
+      level-at i h =
+          level-range (stopIn (getD levels i []) .level)
+          (stops-low HIGHEST b ps (tops-low b sound) (laidTaps b (tapsOf b) ps) (λ t q. x-low t (of-laid b (tapsOf b) ps t q .0)) (stopIn (getD levels i []))
+          (subst (Mem (stopIn (getD levels i []))) (stops-are ∙ ap (stopsOf b ps) are) (view-mem stopIn levels claims i h)) .level)
+
+      pub laid-range : LaidInRange pages nodes wires nodeFacts wireFacts groups pageFacts rows n levels claims
+      laid-range =
+          let c = r .count in
+          let few-n = few-nodes in
+          record {
+            onLaid = let l = r .laidRoom .0 in omega arith;
+            lanes = λ k h. lane-range (tapAt k) (laid-at k h .0) (laid-at k h .1);
+            tapRoom = λ k h. y-high (tapAt k) (laid-at k h .0);
+            tapRow = λ k h. let w = row-in (tapAt k) (laid-at k h .0) in omega arith;
+            onStops = let l = r .stopRoom .0 in omega arith;
+            levels = level-at;
+            aStopEach = sym (stops-count b ps (view tapIn rows n)) ∙ ap length (sym stops-are) ∙ length-view stopIn levels claims;
+          }
+
+      pub bus-is : emit b (tapsOf b) ps (view stopIn levels claims) (view tapIn rows n) (view stopIn levels claims) .bus ≡ busOf b ps
+      unfolding busOf
+      bus-is = let e = stops-are ∙ ap (stopsOf b ps) are in λ i. emit b (tapsOf b) ps (e i) (are i) (e i) .bus
+
+    pub groups-laid : groupCount (view tapIn rows n) ≡ laidGroups b ps
+    unfolding laidGroups
+    groups-laid = ap groupCount are

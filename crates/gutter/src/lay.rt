@@ -1,0 +1,186 @@
+// Lays the lanes of a planned board: its taps in the order of laying, their stops with levels, and then rerouters and bus wires.
+use cells::cells::book_claims;
+use cells::cells::book_nodes;
+use emit::emit::emit_lanes;
+use routes::bus::BusCount;
+use stops::levels::lay_stops;
+use stops::stops::lay_taps;
+ghost use mathlib.Core.Path.{_≡_};
+ghost use mathlib.Core.List.{List, []};
+ghost use Prim.Native.Nat.{ℕ, _*_, _<_, _≤_};
+ghost use lib.ListN.{length, getD};
+ghost use Rattle.board.specs.Board.{Board};
+ghost use Rattle.board.specs.Groups.{Tap};
+ghost use Rattle.board.specs.Demands.{PageLanes};
+ghost use Rattle.board.specs.Tables.{view, tapIn};
+ghost use Rattle.routes.specs.Stops.{newGroup};
+ghost use Rattle.routes.specs.Levels.{stopsOf};
+ghost use Rattle.routes.specs.Rerouters.{emit};
+ghost use Rattle.routes.specs.Plan.{busOf, groupCount, laidGroups};
+ghost use Rattle.routes.specs.Tables.{stopIn};
+ghost use Rattle.stops.specs.Laying.{LaidFits, LaidFacts};
+ghost use Rattle.routes.specs.Holding.{BusHeld};
+ghost use Rattle.emit.specs.Emitting.{LaidInRange, Tables, TapOn};
+ghost use Rattle.gutter.specs.Lay.{LanesReady};
+
+// How many rows of the buffers are written, and how many groups are laid.
+pub struct LanesLaid {
+    pub count: BusCount,
+    pub groups: usize,
+}
+
+// The stops of the laid taps, with their levels: how many there are.
+fn lay_levels(
+    wire_facts: &[[u32; 8]],
+    node_facts: &[[u32; 8]],
+    groups: &[[u32; 8]],
+    laid: &[[u32; 8]],
+    n: usize,
+    stops: &mut [[u32; 8]],
+    marks: &mut [[u32; 8]],
+) -> usize
+    requires { ⌜ LaidFits (now «wire_facts») (now «node_facts») (now groups) (now laid) n ⌝ }
+    requires { ⌜ (n ≤ length (now stops)) × (2 * n ≤ length (now marks)) ⌝ }
+    ensures { λ r. ⌜ r ≤ n ⌝ }
+    ensures { λ r. ⌜ ((b : Board) (ps : List PageLanes)
+        → LaidFacts b ps (now («wire_facts» .entry)) (now («node_facts» .entry)) (now (groups .entry)) (now (laid .entry)) n
+        → view stopIn (now (stops .exit)) r ≡ stopsOf b ps (view tapIn (now (laid .entry)) n)) ⌝ }
+{
+    let mut heads = [0u32; 16384];
+    let counts = lay_stops(
+        wire_facts,
+        node_facts,
+        groups,
+        laid,
+        n,
+        stops,
+        marks,
+        &mut heads,
+    );
+    counts.stops
+}
+
+// The rerouters and bus wires of the laid taps, with the board's bricks and the stops' claims chained.
+fn emit_laid(
+    pages: &[[u32; 16]],
+    nodes: &[[u32; 16]],
+    wires: &[[u32; 16]],
+    node_facts: &[[u32; 8]],
+    wire_facts: &[[u32; 8]],
+    groups: &[[u32; 8]],
+    page_facts: &[[u32; 8]],
+    laid: &[[u32; 8]],
+    n: usize,
+    stops: &[[u32; 8]],
+    claims: usize,
+    rerouters: &mut [[u32; 10]],
+    bus_wires: &mut [[u32; 6]],
+) -> BusCount
+    requires { ⌜ LaidInRange (now pages) (now nodes) (now wires) (now «node_facts») (now «wire_facts») (now groups) (now «page_facts») (now laid) n (now stops) claims ⌝ }
+    requires { ⌜ (length (now nodes) ≤ 4096) × (length (now nodes) ≤ length (now «node_facts»)) × (claims ≤ n) × (n ≤ 8192) × (5 * n ≤ length (now rerouters)) × (6 * n ≤ length (now «bus_wires»)) ⌝ }
+    ensures { λ r. ⌜ ((b : Board) (ts : List Tap) (ps : List PageLanes) → Tables b ts ps (now (pages .entry)) (now (nodes .entry)) (now (wires .entry)) (now («node_facts» .entry)) (now («wire_facts» .entry)) (now (groups .entry)) (now («page_facts» .entry)) → ((k : ℕ) → k < n → TapOn b ts (getD (now (laid .entry)) k []))
+        → BusHeld (emit b ts ps (view stopIn (now (stops .entry)) claims) (view tapIn (now (laid .entry)) n) (view stopIn (now (stops .entry)) claims) .bus) (now (rerouters .entry)) (now («bus_wires» .entry)) (now (rerouters .exit)) (now («bus_wires» .exit)) r) ⌝ }
+{
+    let mut node_nexts = [0u32; 4096];
+    let mut node_heads = [0u32; 8192];
+    book_nodes(nodes, node_facts, &mut node_nexts, &mut node_heads);
+    let mut claim_nexts = [0u32; 8192];
+    let mut claim_heads = [0u32; 8192];
+    book_claims(stops, claims, &mut claim_nexts, &mut claim_heads);
+    let mut nexts = [0u32; 40960];
+    let mut heads = [0u32; 8192];
+    emit_lanes(
+        pages,
+        nodes,
+        wires,
+        node_facts,
+        wire_facts,
+        groups,
+        page_facts,
+        laid,
+        n,
+        stops,
+        claims,
+        &node_nexts,
+        &node_heads,
+        &claim_nexts,
+        &claim_heads,
+        rerouters,
+        bus_wires,
+        &mut nexts,
+        &mut heads,
+    )
+}
+
+// Whether the tap in row `k` is the first of its group.
+fn is_new_group(laid: &[[u32; 8]], k: usize) -> bool
+    requires { ⌜ k < length (now laid) ⌝ }
+    ensures { λ r. ⌜ r ≡ newGroup (view tapIn (now (laid .entry)) k) (tapIn (getD (now (laid .entry)) k [])) ⌝ }
+{
+    if k == 0 {
+        return true;
+    }
+    laid[k - 1][1] != laid[k][1]
+}
+
+// How many groups the laid taps are of: a group's taps follow one another.
+fn count_groups(laid: &[[u32; 8]], n: usize) -> usize
+    requires { ⌜ n ≤ length (now laid) ⌝ }
+    ensures { λ r. ⌜ r ≡ groupCount (view tapIn (now (laid .entry)) n) ⌝ }
+{
+    let mut count: usize = 0;
+    let mut k: usize = 0;
+    while k < n {
+        let fresh = is_new_group(laid, k);
+        k += 1;
+        if fresh {
+            count += 1;
+        }
+    }
+    count
+}
+
+// What `lay_bus` lays for the lanes of a planned board.
+pub fn lay_lanes(
+    pages: &[[u32; 16]],
+    nodes: &[[u32; 16]],
+    wires: &[[u32; 16]],
+    node_facts: &[[u32; 8]],
+    wire_facts: &[[u32; 8]],
+    groups: &[[u32; 8]],
+    page_facts: &[[u32; 8]],
+    taps: &[[u32; 8]],
+    m: usize,
+    laid: &mut [[u32; 8]],
+    spare: &mut [[u32; 8]],
+    stops: &mut [[u32; 8]],
+    marks: &mut [[u32; 8]],
+    rerouters: &mut [[u32; 10]],
+    bus_wires: &mut [[u32; 6]],
+) -> LanesLaid
+    requires { ⌜ ((b : Board) × (ps : List PageLanes) × LanesReady b ps (now pages) (now nodes) (now wires) (now «node_facts») (now «wire_facts») (now groups) (now «page_facts») (now taps) m (now laid) (now spare) (now stops) (now marks) (now rerouters) (now «bus_wires»)) ⌝ }
+    ensures { λ r. ⌜ ((b : Board) (ps : List PageLanes) → LanesReady b ps (now (pages .entry)) (now (nodes .entry)) (now (wires .entry)) (now («node_facts» .entry)) (now («wire_facts» .entry)) (now (groups .entry)) (now («page_facts» .entry)) (now (taps .entry)) m (now (laid .entry)) (now (spare .entry)) (now (stops .entry)) (now (marks .entry)) (now (rerouters .entry)) (now («bus_wires» .entry))
+        → BusHeld (busOf b ps) (now (rerouters .entry)) (now («bus_wires» .entry)) (now (rerouters .exit)) (now («bus_wires» .exit)) (r .count) × (r .groups ≡ laidGroups b ps)) ⌝ }
+{
+    let n = lay_taps(nodes, wire_facts, groups, taps, m, laid, spare);
+    let claims = lay_levels(wire_facts, node_facts, groups, laid, n, stops, marks);
+    let count = emit_laid(
+        pages,
+        nodes,
+        wires,
+        node_facts,
+        wire_facts,
+        groups,
+        page_facts,
+        laid,
+        n,
+        stops,
+        claims,
+        rerouters,
+        bus_wires,
+    );
+    LanesLaid {
+        count: count,
+        groups: count_groups(laid, n),
+    }
+}

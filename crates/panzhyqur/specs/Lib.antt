@@ -1,0 +1,5 @@
+pub mod SheetCalls
+pub mod BusCalls
+pub mod MiniCall
+pub mod PlanCall
+pub mod AnswerCall

@@ -1,0 +1,4 @@
+// The stops of a lane and their levels.
+pub mod levels;
+pub mod marks;
+pub mod stops;

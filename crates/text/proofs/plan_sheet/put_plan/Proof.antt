@@ -1,0 +1,44 @@
+use native.Mathlib.Omega.{arith}
+use borrow.Author.Needs.{needs}
+use Rattle.text.proofs.Lines.{wrote-join}
+use Rattle.text.proofs.plan_sheet.put_plan.Statement.{statement}
+use Rattle.text.proofs.plan_sheet.put_plan.Tie as tie
+use Rattle.text.proofs.plan_sheet.put_plan.Reads as reads
+use Rattle.text.proofs.plan_sheet.put_plan.Lts as lts
+use Rattle.text.proofs.plan_sheet.put_bus.Reads as put-bus-reads
+use Rattle.text.proofs.plan_sheet.put_end.Reads as put-end-reads
+use Rattle.text.proofs.plan_sheet.put_lane_lines.Reads as put-lane-lines-reads
+
+-- src/plan_sheet.rt:263:9
+put-lane-lines-requires : tie.Need-put-lane-lines-requires
+put-lane-lines-requires c κs = search needs
+
+-- src/plan_sheet.rt:264:9
+put-bus-requires : tie.Need-put-bus-requires
+put-bus-requires c κs = search needs
+
+-- src/plan_sheet.rt:265:5
+put-end-requires : tie.Need-put-end-requires
+put-end-requires c κs = search needs
+
+-- src/plan_sheet.rt:248:1
+same-length : tie.Need-same-length
+same-length c = search needs
+
+-- src/plan_sheet.rt:248:1
+returns : tie.Need-returns
+returns c =
+    let lanes = c .before .before .before .before .before .before .before .before .before .before .put-lane-lines .ensures in
+    let bus = c .before .before .before .before .before .before .put-bus .ensures in
+    let end = c .before .before .put-end .ensures in
+    let kept = c .before .before .before .before .before .before .before .before .before .before .put-lane-lines .kept .0 in
+    let a = lanes .most in
+    let b = bus .1 in
+    let d = end .1 in
+    let room = c .before .before .before .before .before .before .before .before .before .before .before .before .before .pre .room in
+    wrote-join _ _ _ _ _ _ _ _ (omega arith) (lanes .wrote) (wrote-join _ _ _ _ _ _ _ _ (omega arith) (bus .0) (end .0))
+
+pub put-plan-spec : {M : Type 1} → statement M
+put-plan-spec =
+    tie.close
+    (tie.spec put-lane-lines-requires put-bus-requires put-end-requires same-length returns)

@@ -1,0 +1,11 @@
+//! The library beside the original: the same sheets through both, with every
+//! length and poison in every buffer.
+
+pub mod differ;
+pub mod lists;
+pub mod plain;
+pub mod reading;
+pub mod room;
+pub mod sheets;
+pub mod truth;
+pub mod typed;

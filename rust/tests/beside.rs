@@ -1,0 +1,89 @@
+//! A quick run of the library beside the original, and what finds and shrinks
+//! a difference.
+
+use oracle::shrink;
+use panzhyqur::beside::differ::{Difference, Memory, run};
+use panzhyqur::route_sheet;
+use panzhyqur::{Part, Plan};
+
+fn quick(seed: u64, count: u64, size: &str, memory: Memory) -> [usize; 9] {
+    let mut tell = |d: &Difference| panic!("{size} {}: {}\n{}", d.item, d.told, d.small);
+    let tally = run(seed, count, size, memory, &mut tell).expect("the size is known");
+    assert_eq!(tally.different, 0);
+    tally.outcomes
+}
+
+#[test]
+fn tiny_boards() {
+    let outcomes = quick(11, 4_000, "tiny", Memory::Reused);
+    assert!(outcomes[0] > 2_000 && outcomes[7] > 100);
+}
+
+#[test]
+fn larger_boards() {
+    quick(11, 200, "program", Memory::Reused);
+    quick(11, 2, "full", Memory::Reused);
+    quick(11, 2, "many-lanes", Memory::Anew);
+    quick(11, 1, "full-typical", Memory::Reused);
+}
+
+#[test]
+fn sheets_with_something_wrong() {
+    let outcomes = quick(11, 2_000, "damaged", Memory::Reused);
+    for number in [1, 3, 4, 5, 6, 7] {
+        assert!(outcomes[number] > 0, "none is refused with {number}");
+    }
+    quick(11, 1_000, "scratched", Memory::Anew);
+    let outcomes = quick(11, 12, "to-the-most", Memory::Reused);
+    assert!(outcomes[2] > 0);
+}
+
+#[test]
+fn demand_lists() {
+    let outcomes = quick(11, 1_000, "lanes", Memory::Reused);
+    for number in [0, 1, 2, 3, 7, 8] {
+        assert!(outcomes[number] > 0, "none is refused with {number}");
+    }
+}
+
+#[test]
+fn no_such_size() {
+    let none = run(1, 1, "huge", Memory::Reused, &mut |_| ());
+    assert!(none.is_none());
+}
+
+/// Stands for a difference: a plan that has a corner and a delivery through a
+/// lane.
+fn fake_difference(sheet: &[u8]) -> bool {
+    let has = |plan: &Plan, part| plan.nodes.iter().any(|r| r.part == part);
+    route_sheet(sheet).is_ok_and(|plan| has(&plan, Part::Corner) && has(&plan, Part::Tap))
+}
+
+/// Records are dropped while the difference stays: two bricks and a wire for
+/// the corner, an input and a wire for the lane, and the page are left.
+#[test]
+fn a_fake_difference_is_shrunk() {
+    let mut tried = 0;
+    for i in 0..400 {
+        let sheet = oracle::r#gen::sheet(5, i, "program").expect("a size of the generator");
+        if !fake_difference(&sheet) {
+            continue;
+        }
+        let small = shrink::sheet(&sheet, fake_difference);
+        assert!(fake_difference(&small));
+        let lines = |text: &[u8]| text.iter().filter(|b| **b == b'\n').count();
+        let text = String::from_utf8_lossy(&small).into_owned();
+        assert!(lines(&small) <= 7 && lines(&sheet) > 30, "{text}");
+        // No record can be spared.
+        let records: Vec<&str> = text.split_inclusive('\n').collect();
+        for k in 0..records.len() {
+            let rest = [&records[..k], &records[k + 1..]].concat().concat();
+            assert!(!fake_difference(rest.as_bytes()), "{text}");
+        }
+        tried += 1;
+        if tried == 3 {
+            return;
+        }
+    }
+    panic!("few boards have a corner and a tap");
+}
