@@ -170,6 +170,18 @@ macro_rules! call {
     };
 }
 
+/// One with the slices of work space behind the others; `plan_bus` does without
+/// the marks.
+macro_rules! call_with {
+    ($work:ident $(+ $marks:ident)?; $name:ident($read:expr $(, @ $value:expr)? $(, &mut $slice:expr)*)) => {
+        call!($name(
+            $read $(, @ $value)? $(, &mut $slice)*, &mut $work.records, &mut $work.node_facts, &mut $work.wire_facts,
+            &mut $work.taps, &mut $work.groups, &mut $work.page_facts, &mut $work.demands, &mut $work.keys,
+            &mut $work.spare $(, &mut $work.$marks)?
+        ))
+    };
+}
+
 /// Lanes for demands of four numbers each: first row, last row, consumers,
 /// order. `work` and `spare` need a row for each demand.
 pub fn allocate_lanes(
@@ -195,96 +207,37 @@ pub fn read_sheet(text: &[u8], most: Counts, rows: &mut [RecordRow]) -> SheetNum
 
 /// The lanes and the band of every page. It does without `work.marks`.
 pub fn plan_bus(text: &[u8], pages: &mut [PageRow], work: Work) -> PagesNumbers {
-    let w = work;
-    call!(pz_plan_bus(
-        text,
-        &mut pages,
-        &mut w.records,
-        &mut w.node_facts,
-        &mut w.wire_facts,
-        &mut w.taps,
-        &mut w.groups,
-        &mut w.page_facts,
-        &mut w.demands,
-        &mut w.keys,
-        &mut w.spare
-    ))
+    call_with!(work; pz_plan_bus(text, &mut pages))
 }
 
 /// The gutter's lanes laid as rerouters and bus wires.
 pub fn lay_bus(text: &[u8], out: Output, work: Work) -> PlanNumbers {
-    let (o, w) = (out, work);
-    call!(pz_lay_bus(
-        text,
-        &mut o.rerouters,
-        &mut o.bus_wires,
-        &mut o.ports,
-        &mut w.records,
-        &mut w.node_facts,
-        &mut w.wire_facts,
-        &mut w.taps,
-        &mut w.groups,
-        &mut w.page_facts,
-        &mut w.demands,
-        &mut w.keys,
-        &mut w.spare,
-        &mut w.marks
-    ))
+    let o = out;
+    call_with!(work + marks; pz_lay_bus(text, &mut o.rerouters, &mut o.bus_wires, &mut o.ports))
 }
 
 /// Corners on top of what the slices hold.
 pub fn lay_mini_bus(text: &[u8], held: BusCounts, out: Output, work: Work) -> MiniNumbers {
-    let (o, w) = (out, work);
-    call!(pz_lay_mini_bus(
-        text, @held, &mut o.rerouters, &mut o.bus_wires, &mut o.ports, &mut w.records, &mut w.node_facts,
-        &mut w.wire_facts, &mut w.taps, &mut w.groups, &mut w.page_facts, &mut w.demands, &mut w.keys, &mut w.spare,
-        &mut w.marks
-    ))
+    let o = out;
+    call_with!(work + marks; pz_lay_mini_bus(text, @held, &mut o.rerouters, &mut o.bus_wires, &mut o.ports))
 }
 
 /// The three calls in order, over one reading of the sheet.
 pub fn route(text: &[u8], out: Output, pages: &mut [PageRow], work: Work) -> PlanNumbers {
-    let (o, w) = (out, work);
-    call!(pz_route(
-        text,
-        &mut o.rerouters,
-        &mut o.bus_wires,
-        &mut o.ports,
-        &mut pages,
-        &mut w.records,
-        &mut w.node_facts,
-        &mut w.wire_facts,
-        &mut w.taps,
-        &mut w.groups,
-        &mut w.page_facts,
-        &mut w.demands,
-        &mut w.keys,
-        &mut w.spare,
-        &mut w.marks
-    ))
+    let o = out;
+    call_with!(work + marks; pz_route(text, &mut o.rerouters, &mut o.bus_wires, &mut o.ports, &mut pages))
 }
 
 /// `route`, and its plan sheet or the E line in front of `said`: how many bytes
 /// were written there, 0 where not even an E line fits. A plan sheet has at
 /// most P + 12 W + 1 lines and is asked for 128 bytes for each, else it is a 7.
-pub fn answer(text: &[u8], said: &mut [u8], out: Output, pages: &mut [PageRow], work: Work) -> usize {
-    let (o, w) = (out, work);
-    call!(pz_answer(
-        text,
-        &mut said,
-        &mut o.rerouters,
-        &mut o.bus_wires,
-        &mut o.ports,
-        &mut pages,
-        &mut w.records,
-        &mut w.node_facts,
-        &mut w.wire_facts,
-        &mut w.taps,
-        &mut w.groups,
-        &mut w.page_facts,
-        &mut w.demands,
-        &mut w.keys,
-        &mut w.spare,
-        &mut w.marks
-    ))
+pub fn answer(
+    text: &[u8],
+    said: &mut [u8],
+    out: Output,
+    pages: &mut [PageRow],
+    work: Work,
+) -> usize {
+    let o = out;
+    call_with!(work + marks; pz_answer(text, &mut said, &mut o.rerouters, &mut o.bus_wires, &mut o.ports, &mut pages))
 }

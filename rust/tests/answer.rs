@@ -30,7 +30,10 @@ fn too_few_bytes() {
     let mut said = vec![7; room];
     assert_eq!(buffers.answer(&sheet(A), &mut said[..127]), None);
     assert!(said.iter().all(|b| *b == 7));
-    assert_eq!(buffers.answer(&sheet(A), &mut said[..room - 1]), Some("E\t7\t0\n".as_bytes()));
+    assert_eq!(
+        buffers.answer(&sheet(A), &mut said[..room - 1]),
+        Some("E\t7\t0\n".as_bytes())
+    );
     assert!(said[6..].iter().all(|b| *b == 7));
     let whole = buffers.answer(&sheet(A), &mut said).map(<[u8]>::len);
     assert!(whole.is_some_and(|n| n > 6 && n < room));

@@ -68,7 +68,7 @@ module _ (b : Board) (ts : List Tap) where
       go true q = q
       go false q = let r : _≡_ {A = Found} none (at lane) = rw (q, groupsOn) at e in never cc
 
-  rising : (gs : List ℕ) → Rising (map (demandOf b ts) gs)
+  pub rising : (gs : List ℕ) → Rising (map (demandOf b ts) gs)
   unfolding demandOf firstRow lastRow
   rising [] i h = absurd (omega arith)
   rising (g ∷ gs) zero h = least-greatest 0 (map (λ t. t .row) (tapsIn b ts g))

@@ -1,7 +1,6 @@
 -- What is known of the board of an accepted sheet, and of its taps.
 use Prim.Native.Nat.{ℕ, zero, suc, _≤_, _<_}
 use native.Mathlib.Omega.{arith}
-use native.Mathlib.Decide.{decLt}
 use mathlib.Core.Path.{_≡_, refl, sym, subst}
 use mathlib.Core.Logic.{⊎-elim}
 use mathlib.Core.Bool.{Bool, true, false, not, _&&_}
@@ -23,6 +22,7 @@ use Rattle.board.specs.Tables.{tapTarget}
 use Rattle.board.proofs.Lists.{never}
 use Rattle.board.proofs.Sections.{Sections, sections}
 use Rattle.collect.proofs.TapLaws.{add-none, add-some}
+use Rattle.plan.proofs.Fine.{oldest-none}
 
 -- At most so many records, each within its ranges; a row implies a page and a placement.
 pub record Sound (b : Board) : Type 0 where
@@ -33,16 +33,6 @@ pub record Sound (b : Board) : Type 0 where
   pub node : (i : ℕ) → i < length (b .nodes) → NodeRow (getD (b .nodes) i [])
   pub pageThere : (i : ℕ) → i < length (b .nodes) → hasRow b i ≡ true → pageOf b i < length (b .pages)
   pub rowPlaced : (i : ℕ) → i < length (b .nodes) → hasRow b i ≡ true → placed b i ≡ true
-
--- Where none is the oldest, none is there.
-none-below : (p : ℕ → Bool) (n i : ℕ) → oldest p n ≡ none → i < n → p i ≡ false
-none-below p zero i e h = absurd (omega arith)
-none-below p (suc n) i e h = go (oldest p n) refl (p n) refl (none-below p n i)
-  where
-    go : (f : Found) → oldest p n ≡ f → (t : Bool) → p n ≡ t → (oldest p n ≡ none → i < n → p i ≡ false) → p i ≡ false
-    go (at k) ef t et ih = let d : at k ≡ none = rw ef at e in never cc
-    go none ef true et ih = let d : at n ≡ none = rw (ef, et) at e in never cc
-    go none ef false et ih = elim (decLt i n) [ yes l ↦ ih ef l | no o ↦ let q : i ≡ n = omega arith in rw q et ]
 
 no-line : (b : Board) (line : ℕ → ℕ) (p : ℕ → Bool) (n : ℕ) → firstLine b line p n ≡ none → oldest p n ≡ none
 no-line b line p n = go (oldest p n)
@@ -69,7 +59,7 @@ unfolding notThere pageMissing
 page-there b e i h r =
     leb-false (length (b .pages)) (pageOf b i)
     (second (hasRow b i) (leb (length (b .pages)) (pageOf b i)) r
-    (none-below (pageMissing b) (length (b .nodes)) i (no-line b (nodeLine b) (pageMissing b) (length (b .nodes)) (first _ _ e)) h))
+    (oldest-none (pageMissing b) (length (b .nodes)) (no-line b (nodeLine b) (pageMissing b) (length (b .nodes)) (first _ _ e)) i h))
   where
     first : (f g : Found) → orElse f g ≡ none → f ≡ none
     first none g q = refl
@@ -81,7 +71,7 @@ page-there b e i h r =
 
 row-placed : (b : Board) → unplaced b ≡ none → (i : ℕ) → i < length (b .nodes) → hasRow b i ≡ true → placed b i ≡ true
 unfolding unplaced rowUnplaced
-row-placed b e i h r = go (hasRow b i) (placed b i) r (none-below (rowUnplaced b) (length (b .nodes)) i (no-line b (nodeLine b) (rowUnplaced b) (length (b .nodes)) e) h)
+row-placed b e i h r = go (hasRow b i) (placed b i) r (oldest-none (rowUnplaced b) (length (b .nodes)) (no-line b (nodeLine b) (rowUnplaced b) (length (b .nodes)) e) i h)
   where
     go : (s t : Bool) → s ≡ true → (s && not t) ≡ false → t ≡ true
     go true true q n = refl

@@ -1,3 +1,4 @@
+pub mod InNumbers
 pub mod SheetCalls
 pub mod BusCalls
 pub mod MiniCall

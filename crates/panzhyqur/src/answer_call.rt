@@ -5,8 +5,9 @@ ghost use mathlib.Core.List.{[], _∷_};
 ghost use Prim.Native.Nat.{_/_};
 ghost use lib.ListN.{length};
 ghost use Rattle.sheet.specs.Table.{libraryMost};
-ghost use Rattle.answer.specs.Answering.{answerLent, answerCall};
-ghost use Rattle.panzhyqur.specs.AnswerCall.{AnswerNumbered};
+ghost use Rattle.answer.specs.Answering.{Answered, answerLent, answerCall};
+ghost use Rattle.panzhyqur.specs.AnswerCall.{answerNumber};
+ghost use Rattle.panzhyqur.specs.InNumbers.{InNumbers};
 
 // How many bytes were written, 0 for none: every plan sheet and every E line has some.
 #[no_mangle]
@@ -28,8 +29,8 @@ pub extern "C" fn pz_answer(
     spare: &mut [[u32; 8]],
     marks: &mut [[u32; 8]],
 ) -> usize
-    ensures { λ r. ⌜ AnswerNumbered (answerCall libraryMost (now (text .entry)) (answerLent (length (now (rerouters .entry))) (length (now («bus_wires» .entry))) (length (now (ports .entry))) (length (now (answers .entry))) (length (now (out .entry))) (length (now (marks .entry)) / 2 ∷ length (now (records .entry)) ∷ length (now («node_facts» .entry)) ∷ length (now («wire_facts» .entry)) ∷ length (now (taps .entry)) ∷ length (now (groups .entry)) ∷ length (now («page_facts» .entry)) ∷ length (now (demands .entry)) ∷ length (now (keys .entry)) ∷ length (now (spare .entry)) ∷ [])))
-        (now (out .entry)) (now (rerouters .entry)) (now («bus_wires» .entry)) (now (ports .entry)) (now (answers .entry)) (now (out .exit)) (now (rerouters .exit)) (now («bus_wires» .exit)) (now (ports .exit)) (now (answers .exit)) r ⌝ }
+    ensures { λ r. ⌜ InNumbers answerNumber (Answered (answerCall libraryMost (now (text .entry)) (answerLent (length (now (rerouters .entry))) (length (now («bus_wires» .entry))) (length (now (ports .entry))) (length (now (answers .entry))) (length (now (out .entry))) (length (now (marks .entry)) / 2 ∷ length (now (records .entry)) ∷ length (now («node_facts» .entry)) ∷ length (now («wire_facts» .entry)) ∷ length (now (taps .entry)) ∷ length (now (groups .entry)) ∷ length (now («page_facts» .entry)) ∷ length (now (demands .entry)) ∷ length (now (keys .entry)) ∷ length (now (spare .entry)) ∷ [])))
+        (now (out .entry)) (now (rerouters .entry)) (now («bus_wires» .entry)) (now (ports .entry)) (now (answers .entry)) (now (out .exit)) (now (rerouters .exit)) (now («bus_wires» .exit)) (now (ports .exit)) (now (answers .exit))) r ⌝ }
 {
     match answer(
         text,

@@ -5,9 +5,10 @@ use router::route::route;
 ghost use mathlib.Core.List.{[], _∷_};
 ghost use Prim.Native.Nat.{_/_};
 ghost use lib.ListN.{length};
-ghost use Rattle.gutter.specs.Calls.{busFits, layCall};
-ghost use Rattle.panzhyqur.specs.BusCalls.{BusNumbered, PlanNumbered};
-ghost use Rattle.router.specs.Route.{planFits, routeCall};
+ghost use Rattle.gutter.specs.Calls.{busFits, layCall, BusCalled};
+ghost use Rattle.panzhyqur.specs.BusCalls.{planNumbers};
+ghost use Rattle.panzhyqur.specs.InNumbers.{InNumbers};
+ghost use Rattle.router.specs.Route.{planFits, routeCall, PlanCalled};
 
 // A refusal and its place, 0 for none; and how many rerouters, bus wires and suppressed ports stand in the buffers, and how many groups were laid.
 #[repr(C)]
@@ -37,8 +38,8 @@ pub extern "C" fn pz_lay_bus(
     spare: &mut [[u32; 8]],
     marks: &mut [[u32; 8]],
 ) -> PlanNumbers
-    ensures { λ r. ⌜ BusNumbered (layCall (now (text .entry)) (busFits (length (now (rerouters .entry))) (length (now («bus_wires» .entry))) (length (now (ports .entry))) (length (now (marks .entry)) / 2 ∷ length (now (records .entry)) ∷ length (now («node_facts» .entry)) ∷ length (now («wire_facts» .entry)) ∷ length (now (taps .entry)) ∷ length (now (groups .entry)) ∷ length (now («page_facts» .entry)) ∷ length (now (demands .entry)) ∷ length (now (keys .entry)) ∷ length (now (spare .entry)) ∷ [])))
-        (now (rerouters .entry)) (now («bus_wires» .entry)) (now (ports .entry)) (now (rerouters .exit)) (now («bus_wires» .exit)) (now (ports .exit)) r ⌝ }
+    ensures { λ r. ⌜ InNumbers planNumbers (BusCalled (layCall (now (text .entry)) (busFits (length (now (rerouters .entry))) (length (now («bus_wires» .entry))) (length (now (ports .entry))) (length (now (marks .entry)) / 2 ∷ length (now (records .entry)) ∷ length (now («node_facts» .entry)) ∷ length (now («wire_facts» .entry)) ∷ length (now (taps .entry)) ∷ length (now (groups .entry)) ∷ length (now («page_facts» .entry)) ∷ length (now (demands .entry)) ∷ length (now (keys .entry)) ∷ length (now (spare .entry)) ∷ [])))
+        (now (rerouters .entry)) (now («bus_wires» .entry)) (now (ports .entry)) (now (rerouters .exit)) (now («bus_wires» .exit)) (now (ports .exit))) r ⌝ }
 {
     match lay_bus(
         text,
@@ -98,8 +99,8 @@ pub extern "C" fn pz_route(
     spare: &mut [[u32; 8]],
     marks: &mut [[u32; 8]],
 ) -> PlanNumbers
-    ensures { λ r. ⌜ PlanNumbered (routeCall (now (text .entry)) (planFits (length (now (rerouters .entry))) (length (now («bus_wires» .entry))) (length (now (ports .entry))) (length (now (answers .entry))) (length (now (marks .entry)) / 2 ∷ length (now (records .entry)) ∷ length (now («node_facts» .entry)) ∷ length (now («wire_facts» .entry)) ∷ length (now (taps .entry)) ∷ length (now (groups .entry)) ∷ length (now («page_facts» .entry)) ∷ length (now (demands .entry)) ∷ length (now (keys .entry)) ∷ length (now (spare .entry)) ∷ [])))
-        (now (rerouters .entry)) (now («bus_wires» .entry)) (now (ports .entry)) (now (answers .entry)) (now (rerouters .exit)) (now («bus_wires» .exit)) (now (ports .exit)) (now (answers .exit)) r ⌝ }
+    ensures { λ r. ⌜ InNumbers planNumbers (PlanCalled (routeCall (now (text .entry)) (planFits (length (now (rerouters .entry))) (length (now («bus_wires» .entry))) (length (now (ports .entry))) (length (now (answers .entry))) (length (now (marks .entry)) / 2 ∷ length (now (records .entry)) ∷ length (now («node_facts» .entry)) ∷ length (now («wire_facts» .entry)) ∷ length (now (taps .entry)) ∷ length (now (groups .entry)) ∷ length (now («page_facts» .entry)) ∷ length (now (demands .entry)) ∷ length (now (keys .entry)) ∷ length (now (spare .entry)) ∷ [])))
+        (now (rerouters .entry)) (now («bus_wires» .entry)) (now (ports .entry)) (now (answers .entry)) (now (rerouters .exit)) (now («bus_wires» .exit)) (now (ports .exit)) (now (answers .exit))) r ⌝ }
 {
     match route(
         text,

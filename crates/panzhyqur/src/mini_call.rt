@@ -5,9 +5,10 @@ use router::mini::lay_mini_bus;
 ghost use mathlib.Core.List.{[], _∷_};
 ghost use Prim.Native.Nat.{_/_};
 ghost use lib.ListN.{length};
-ghost use Rattle.gutter.specs.Calls.{busFits};
+ghost use Rattle.gutter.specs.Calls.{busFits, BusCalled};
 ghost use Rattle.router.specs.Mini.{miniCall};
-ghost use Rattle.panzhyqur.specs.MiniCall.{MiniNumbered};
+ghost use Rattle.panzhyqur.specs.MiniCall.{miniNumbers};
+ghost use Rattle.panzhyqur.specs.InNumbers.{InNumbers};
 
 // A refusal and its place, 0 for none; and how many rerouters, bus wires and suppressed ports stand in the buffers.
 #[repr(C)]
@@ -37,9 +38,9 @@ pub extern "C" fn pz_lay_mini_bus(
     spare: &mut [[u32; 8]],
     marks: &mut [[u32; 8]],
 ) -> MiniNumbers
-    ensures { λ r. ⌜ MiniNumbered (miniCall (now (text .entry)) (busFits (length (now (rerouters .entry))) (length (now («bus_wires» .entry))) (length (now (ports .entry))) (length (now (marks .entry)) / 2 ∷ length (now (records .entry)) ∷ length (now («node_facts» .entry)) ∷ length (now («wire_facts» .entry)) ∷ length (now (taps .entry)) ∷ length (now (groups .entry)) ∷ length (now («page_facts» .entry)) ∷ length (now (demands .entry)) ∷ length (now (keys .entry)) ∷ length (now (spare .entry)) ∷ []))
+    ensures { λ r. ⌜ InNumbers miniNumbers (BusCalled (miniCall (now (text .entry)) (busFits (length (now (rerouters .entry))) (length (now («bus_wires» .entry))) (length (now (ports .entry))) (length (now (marks .entry)) / 2 ∷ length (now (records .entry)) ∷ length (now («node_facts» .entry)) ∷ length (now («wire_facts» .entry)) ∷ length (now (taps .entry)) ∷ length (now (groups .entry)) ∷ length (now («page_facts» .entry)) ∷ length (now (demands .entry)) ∷ length (now (keys .entry)) ∷ length (now (spare .entry)) ∷ []))
         (now (rerouters .entry)) (now («bus_wires» .entry)) (now (ports .entry)) held)
-        (now (rerouters .entry)) (now («bus_wires» .entry)) (now (ports .entry)) (now (rerouters .exit)) (now («bus_wires» .exit)) (now (ports .exit)) r ⌝ }
+        (now (rerouters .entry)) (now («bus_wires» .entry)) (now (ports .entry)) (now (rerouters .exit)) (now («bus_wires» .exit)) (now (ports .exit))) r ⌝ }
 {
     match lay_mini_bus(
         text,

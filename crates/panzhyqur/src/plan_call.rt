@@ -6,8 +6,9 @@ ghost use mathlib.Core.List.{[], _∷_};
 ghost use lib.ListN.{length};
 ghost use Rattle.sheet.specs.Table.{libraryMost};
 ghost use Rattle.board.specs.Planning.{planning, fitsPages, pagesAfter};
-ghost use Rattle.plan.specs.PagesPlan.{planCall};
-ghost use Rattle.panzhyqur.specs.PlanCall.{PagesNumbered};
+ghost use Rattle.plan.specs.PagesPlan.{planCall, PagesPlanned};
+ghost use Rattle.panzhyqur.specs.PlanCall.{pagesNumbers};
+ghost use Rattle.panzhyqur.specs.InNumbers.{InNumbers};
 
 // A refusal and its place, 0 for none; and how many pages have their answer.
 #[repr(C)]
@@ -31,8 +32,8 @@ pub extern "C" fn pz_plan_bus(
     keys: &mut [[u32; 8]],
     spare: &mut [[u32; 8]],
 ) -> PagesNumbers
-    ensures { λ r. ⌜ PagesNumbered (planCall (now (text .entry)) (length (now (answers .entry))) (length (now (records .entry)) ∷ length (now («node_facts» .entry)) ∷ length (now («wire_facts» .entry)) ∷ length (now (taps .entry)) ∷ length (now (groups .entry)) ∷ length (now («page_facts» .entry)) ∷ length (now (demands .entry)) ∷ length (now (keys .entry)) ∷ length (now (spare .entry)) ∷ []))
-        (now (answers .entry)) (now (answers .exit)) r ⌝ }
+    ensures { λ r. ⌜ InNumbers pagesNumbers (PagesPlanned (planCall (now (text .entry)) (length (now (answers .entry))) (length (now (records .entry)) ∷ length (now («node_facts» .entry)) ∷ length (now («wire_facts» .entry)) ∷ length (now (taps .entry)) ∷ length (now (groups .entry)) ∷ length (now («page_facts» .entry)) ∷ length (now (demands .entry)) ∷ length (now (keys .entry)) ∷ length (now (spare .entry)) ∷ []))
+        (now (answers .entry)) (now (answers .exit))) r ⌝ }
 {
     match plan_bus(
         text,

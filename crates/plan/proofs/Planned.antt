@@ -9,20 +9,19 @@ use Rattle.sheet.specs.declared.Counts.{Counts}
 use Rattle.sheet.specs.Table.{libraryMost}
 use Rattle.lanes.specs.Lanes
 use Rattle.lanes.specs.Lanes.{Packed, laneMost}
-use Rattle.lanes.specs.Apart.{Rising}
 use Rattle.lanes.proofs.Promise.{lanes-apart}
 use Rattle.demands.specs.declared.demands.BoardPlan.{BoardPlan}
 use Rattle.demands.specs.declared.demands.Plan.{Plan}
 use Rattle.demands.specs.declared.demands.Plan.the-variants.{Crowded, Laned}
-use Rattle.board.specs.Lists.{least, greatest}
 use Rattle.board.specs.Board.{Board}
-use Rattle.board.specs.Groups.{Tap, tapsOf, tapsIn}
-use Rattle.board.specs.Demands.{PageLanes, Planned, crowded, planned, noLanes, planUpto, planLanes, packedOn, groupsOn, demandOf, firstRow, lastRow}
+use Rattle.board.specs.Groups.{Tap, tapsOf}
+use Rattle.board.specs.Demands.{PageLanes, Planned, crowded, planned, noLanes, planUpto, planLanes, packedOn, groupsOn, demandOf}
 use Rattle.board.specs.Planning.{Planning, crowding}
 use Rattle.demands.specs.PagePlan.{PlanHeld}
 use Rattle.board.specs.Walk.{countsIn}
 use Rattle.demands.specs.PagePlan.{BoardPlanned}
 use Rattle.board.proofs.Lists.{never}
+use Rattle.board.proofs.LanesFit.{rising}
 use Rattle.plan.specs.declared.TextPlan
 use Rattle.plan.specs.declared.TextPlan.the-variants as answers
 use Rattle.plan.specs.TextPlan.{SectionsIn, Few, TextPlanned}
@@ -49,16 +48,6 @@ unfolding planLanes
 crowded-page b q e = crowded-among b (tapsOf b) (length (b .pages)) q e
 
 -- Every page has its count of lanes, and no more than the most.
-least-greatest : (d : ℕ) (l : List ℕ) → least d l ≤ greatest d l
-least-greatest d [] = omega arith
-least-greatest d (x ∷ l) = omega arith
-
-rising : (b : Board) (ts : List Tap) (gs : List ℕ) → Rising (map (demandOf b ts) gs)
-unfolding demandOf firstRow lastRow
-rising b ts [] i h = absurd (omega arith)
-rising b ts (g ∷ gs) zero h = least-greatest 0 (map (λ t. t .row) (tapsIn b ts g))
-rising b ts (g ∷ gs) (suc i) h = rising b ts gs i (omega arith)
-
 Counted : ℕ → List PageLanes → Type 0
 Counted n ps = (length ps ≡ n) × ((p : ℕ) → getD ps p noLanes .count ≤ laneMost)
 

@@ -4,6 +4,8 @@ use answer::Answer;
 use answer::calls::PLAN_MOST;
 use answer::calls::respond;
 use libc::STDOUT_FILENO;
+use walker::behind_line;
+use walker::first_line;
 ghost use mathlib.Core.Path.{_≡_};
 ghost use mathlib.Core.Bool.{true};
 ghost use Prim.Native.Nat.{_+_, _≤_, _<_};
@@ -43,15 +45,7 @@ fn next_line(text: &[u8], from: usize) -> usize
     requires { ⌜ from < length (now text) ⌝ }
     ensures { λ r. ⌜ (from < r) × (r ≤ length (now (text .entry))) ⌝ }
 {
-    let mut i = from;
-    while i < text.len() {
-        let byte = text[i];
-        i += 1;
-        if byte == NEWLINE {
-            return i;
-        }
-    }
-    i
+    behind_line(text, from)
 }
 
 // Whether a line that starts here starts with two percent signs.
@@ -174,7 +168,7 @@ fn print_number(n: usize) {
     io::print_decimal(STDOUT_FILENO, n as u64);
 }
 
-// What came of a file: how many cases agree of how many, and the line of the first that does not.
+// What came of a file: how many cases agree of how many, and the first line of the first that does not.
 fn report(name: &[u8], text: &[u8]) {
     let tally = replay(text);
     io::write_all(STDOUT_FILENO, name);
@@ -187,6 +181,8 @@ fn report(name: &[u8], text: &[u8]) {
     if first < text.len() {
         io::write_all(STDOUT_FILENO, b"the first that does not is on line ");
         print_number(line_number(text, first));
+        io::write_all(STDOUT_FILENO, b": ");
+        io::write_all(STDOUT_FILENO, first_line(&text[first..]));
         io::write_all(STDOUT_FILENO, b"\n");
     }
 }

@@ -5,19 +5,15 @@ use Rattle.plan.proofs.band.Tie as tie
 use Rattle.plan.proofs.band.Reads as reads
 use Rattle.plan.proofs.band.Lts as lts
 
--- src/lib.rt:304:9
 mul-result : tie.Need-mul-result
 mul-result c = search needs
 
--- src/lib.rt:304:9
 add-result : tie.Need-add-result
 add-result c = search needs
 
--- src/lib.rt:297:1
 returns : tie.Need-returns
 returns c = band-none (c .before .args .lanes) (c .if1 .taken)
 
--- src/lib.rt:297:1
 returns-2 : tie.Need-returns-2
 returns-2 c = band-some (c .before .args .lanes) (c .if1 .left)
 

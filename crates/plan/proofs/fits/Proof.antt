@@ -9,15 +9,12 @@ use Rattle.plan.proofs.fits.Lts as lts
 use Rattle.plan.proofs.has_room.Reads as has-room-reads
 use Rattle.plan.proofs.total.Reads as total-reads
 
--- src/lib.rt:100:9
 total-requires : tie.Need-total-requires
 total-requires c κs = search needs
 
--- src/lib.rt:101:5
 has-room-requires : tie.Need-has-room-requires
 has-room-requires c κs = search needs
 
--- src/lib.rt:96:1
 returns : tie.Need-returns
 unfolding fitsCounts
 returns c = c .has-room .ensures ∙ ap (λ (r : ℕ). hasRoom (c .before .before .args .lent) (c .before .before .args .c .wires) (c .before .before .args .c .pages) r) (c .before .total .ensures)

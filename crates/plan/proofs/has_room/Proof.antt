@@ -5,51 +5,39 @@ use Rattle.plan.proofs.has_room.Tie as tie
 use Rattle.plan.proofs.has_room.Reads as reads
 use Rattle.plan.proofs.has_room.Lts as lts
 
--- src/lib.rt:99:25
 mul-if1 : tie.Need-mul-if1
 mul-if1 c = search needs
 
--- src/lib.rt:100:9
 returns : tie.Need-returns
 returns c = let a = c .before .before .args in few-rerouters (a .lent) (a .wires) (a .pages) (a .records) (c .if1 .taken)
 
--- src/lib.rt:102:25
 mul-if2 : tie.Need-mul-if2
 mul-if2 c = search needs
 
--- src/lib.rt:103:9
 returns-2 : tie.Need-returns-2
 returns-2 c = let a = c .before .before .before .before .args in few-bus-wires (a .lent) (a .wires) (a .pages) (a .records) (c .before .before .if1 .left) (c .if2 .taken)
 
--- src/lib.rt:106:9
 returns-3 : tie.Need-returns-3
 returns-3 c = let a = c .before .before .before .before .before .before .args in few-ports (a .lent) (a .wires) (a .pages) (a .records) (c .before .before .before .before .if1 .left) (c .before .before .if2 .left) (c .if3 .taken)
 
--- src/lib.rt:109:9
 returns-4 : tie.Need-returns-4
 returns-4 c = let a = c .before .before .before .before .before .before .before .before .args in few-answers (a .lent) (a .wires) (a .pages) (a .records) (c .before .before .before .before .before .before .if1 .left) (c .before .before .before .before .if2 .left) (c .before .before .if3 .left) (c .if4 .taken)
 
--- src/lib.rt:111:34
 mul-if5 : tie.Need-mul-if5
 mul-if5 c = search needs
 
--- src/lib.rt:111:26
 add-if5 : tie.Need-add-if5
 add-if5 c = search needs
 
--- src/lib.rt:111:26
 add-if5-2 : tie.Need-add-if5-2
 add-if5-2 c = search needs
 
--- src/lib.rt:111:19
 mul-if5-2 : tie.Need-mul-if5-2
 mul-if5-2 c = search needs
 
--- src/lib.rt:112:9
 returns-5 : tie.Need-returns-5
 returns-5 c = let a = c .before .before .before .before .before .before .before .before .before .before .args in few-bytes (a .lent) (a .wires) (a .pages) (a .records) (c .before .before .before .before .before .before .before .before .if1 .left) (c .before .before .before .before .before .before .if2 .left) (c .before .before .before .before .if3 .left) (c .before .before .if4 .left) (c .if5 .taken)
 
--- src/lib.rt:95:1
 returns-6 : tie.Need-returns-6
 returns-6 c = let a = c .before .before .before .before .before .before .before .before .before .before .before .args in enough-but-work (a .lent) (a .wires) (a .pages) (a .records) (c .before .before .before .before .before .before .before .before .before .if1 .left) (c .before .before .before .before .before .before .before .if2 .left) (c .before .before .before .before .before .if3 .left) (c .before .before .before .if4 .left) (c .before .if5 .left)
 

@@ -43,21 +43,17 @@ planned c =
 shortest-of-requires : tie.Need-shortest-of-requires
 shortest-of-requires c κs = search needs
 
--- src/lib.rt:358:9
 library-most-requires : tie.Need-library-most-requires
 library-most-requires c κs = search needs
 
--- src/lib.rt:356:11
 plan-text-requires : tie.Need-plan-text-requires
 plan-text-requires c κs =
     let a = c .before .before .before .before .before .before .before .before .before .before .before .before .args in
     (work-lent (c .before .before .before .before .before .before .before .before .before .before .shortest-of .result) (length (a .records .now)) (a .node-facts .now) (a .wire-facts .now) (a .taps .now) (a .groups .now) (a .page-facts .now) (a .demands .now) (a .keys .now) (a .spare .now) (c .before .before .before .before .before .before .before .before .before .before .shortest-of .ensures), subst (λ (m : Counts). WithinLibrary m) (sym (c .before .before .before .before .before .before .before .before .before .library-most .ensures)) within-library)
 
--- src/lib.rt:370:29
 enum-known-number : tie.Need-enum-known-number
 enum-known-number c = search needs
 
--- src/lib.rt:371:27
 enum-known-counts : tie.Need-enum-known-counts
 enum-known-counts c = search needs
 
@@ -67,7 +63,6 @@ text-planned c = c .before .before .before .before .before .before .before .befo
 told : (c : tie.After-write-pages-arg2) → LanesTold (text-planned c .plan-text .last .1 .1 .1 .0) (text-planned c .plan-text .last .1 .1 .1 .1 .0) (text-planned c .plan-text .last .1 .1 .1 .1 .1 .0) (text-planned c .plan-text .last .1 .1 .1 .1 .1 .1 .0) (text-planned c .plan-text .last .1 .1 .1 .1 .1 .1 .1 .0) (text-planned c .plan-text .last .1 .1 .1 .1 .1 .1 .1 .1 .0) (plan-of (text-planned c)) (c .before .before .before .counts .given .0 .0) (c .before .before .before .counts .given .0 .1 .0)
 told c = let d = text-planned c in text-lanes (d .plan-text .last .1 .1 .1 .0) (d .plan-text .last .1 .1 .1 .1 .0) (d .plan-text .last .1 .1 .1 .1 .1 .0) (d .plan-text .last .1 .1 .1 .1 .1 .1 .0) (d .plan-text .last .1 .1 .1 .1 .1 .1 .1 .0) (d .plan-text .last .1 .1 .1 .1 .1 .1 .1 .1 .0) (plan-of d) (d .plan-text .result) _ _ (planned d) (c .before .before .before .counts .given .1)
 
--- src/lib.rt:373:13
 write-pages-requires : tie.Need-write-pages-requires
 write-pages-requires c κs =
     let d = text-planned c in
@@ -77,43 +72,33 @@ write-pages-requires c κs =
     let kept = d .plan-text .kept .1 .1 .1 .1 .1 .1 .1 .1 .0 in
     pages-ready (d .plan-text .last .1 .1 .1 .0) (d .plan-text .last .1 .1 .1 .1 .0) (d .plan-text .last .1 .1 .1 .1 .1 .0) (d .plan-text .last .1 .1 .1 .1 .1 .1 .0) (d .plan-text .last .1 .1 .1 .1 .1 .1 .1 .0) (d .plan-text .last .1 .1 .1 .1 .1 .1 .1 .1 .0) libraryMost (a .text .now) (pagesLent (length (a .answers .now)) (d .before .before .before .before .before .before .before .before .before .before .before .shortest-of .result)) _ _ _ (told c) (omega arith) refl
 
--- src/lib.rt:323:1
 same-length : tie.Need-same-length
 same-length c = search needs
 
--- src/lib.rt:323:1
 same-length-2 : tie.Need-same-length-2
 same-length-2 c = search needs
 
--- src/lib.rt:323:1
 same-length-3 : tie.Need-same-length-3
 same-length-3 c = search needs
 
--- src/lib.rt:323:1
 same-length-4 : tie.Need-same-length-4
 same-length-4 c = search needs
 
--- src/lib.rt:323:1
 same-length-5 : tie.Need-same-length-5
 same-length-5 c = search needs
 
--- src/lib.rt:323:1
 same-length-6 : tie.Need-same-length-6
 same-length-6 c = search needs
 
--- src/lib.rt:323:1
 same-length-7 : tie.Need-same-length-7
 same-length-7 c = search needs
 
--- src/lib.rt:323:1
 same-length-8 : tie.Need-same-length-8
 same-length-8 c = search needs
 
--- src/lib.rt:323:1
 same-length-9 : tie.Need-same-length-9
 same-length-9 c = search needs
 
--- src/lib.rt:323:1
 returns : tie.Need-returns
 returns c =
     let d = c .before .before .before .before .before .before .before .before .before .before .before .before in
@@ -121,47 +106,36 @@ returns c =
     let is = text-refusal (d .plan-text .last .1 .1 .1 .0) (d .plan-text .last .1 .1 .1 .1 .0) (d .plan-text .last .1 .1 .1 .1 .1 .0) (d .plan-text .last .1 .1 .1 .1 .1 .1 .0) (d .plan-text .last .1 .1 .1 .1 .1 .1 .1 .0) (d .plan-text .last .1 .1 .1 .1 .1 .1 .1 .1 .0) (plan-of d) (d .plan-text .result) _ _ (planned d) (c .before .number .given .1) in
     pages-refused (a .text .now) (work-of d) (a .answers .now) (a .answers .now) (d .before .before .before .before .before .before .before .before .before .before .before .shortest-of .result) (d .before .before .before .before .before .before .before .before .before .before .before .shortest-of .ensures) _ _ is
 
--- src/lib.rt:323:1
 same-length-10 : tie.Need-same-length-10
 same-length-10 c = search needs
 
--- src/lib.rt:323:1
 same-length-11 : tie.Need-same-length-11
 same-length-11 c = search needs
 
--- src/lib.rt:323:1
 same-length-12 : tie.Need-same-length-12
 same-length-12 c = search needs
 
--- src/lib.rt:323:1
 same-length-13 : tie.Need-same-length-13
 same-length-13 c = search needs
 
--- src/lib.rt:323:1
 same-length-14 : tie.Need-same-length-14
 same-length-14 c = search needs
 
--- src/lib.rt:323:1
 same-length-15 : tie.Need-same-length-15
 same-length-15 c = search needs
 
--- src/lib.rt:323:1
 same-length-16 : tie.Need-same-length-16
 same-length-16 c = search needs
 
--- src/lib.rt:323:1
 same-length-17 : tie.Need-same-length-17
 same-length-17 c = search needs
 
--- src/lib.rt:323:1
 same-length-18 : tie.Need-same-length-18
 same-length-18 c = search needs
 
--- src/lib.rt:323:1
 same-length-19 : tie.Need-same-length-19
 same-length-19 c = search needs
 
--- src/lib.rt:323:1
 returns-2 : tie.Need-returns-2
 returns-2 c =
     let w = c .before .before in

@@ -24,7 +24,6 @@ fits-requires c κs =
     let p = c .before .before .before .before .before .before .before .pre .1 in
     counts-few (p .1 .0) (c .before .before .before .before .before .before .before .args .counts) (p .1 .1 .counted) (checked-few (p .0) (p .1 .1))
 
--- src/lib.rt:199:9
 returns : tie.Need-returns
 returns c =
     let s = c .before .before .before .before .before .before .before .before .before in
@@ -42,50 +41,39 @@ fill-rows-requires c κs =
     let s = start c in
     fill-asks (s .pre .1 .0) (s .pre .1 .1 .1) (s .args .lent) (fitting c) (s .args .records .now) (s .pre .0) (c .before .total .result) (c .before .total .ensures)
 
--- src/lib.rt:205:5
 plan-rows-requires : tie.Need-plan-rows-requires
 plan-rows-requires c κs =
     let f = c .before .before .before .before .before .before .before .before .before .before .before in
     let s = start f in
     (s .pre .1 .1 .0, board-read (s .pre .1 .0) (s .pre .1 .1 .1) (s .args .lent) (fitting f) (s .args .records .now) (s .pre .0) (f .before .total .result) (c .before .before .before .before .before .before .before .before .before .before .fill-rows .last .1 .0) (c .before .before .before .before .before .before .before .before .before .before .fill-rows .ensures))
 
--- src/lib.rt:172:1
 same-length : tie.Need-same-length
 same-length c = search needs
 
--- src/lib.rt:172:1
 same-length-2 : tie.Need-same-length-2
 same-length-2 c = search needs
 
--- src/lib.rt:172:1
 same-length-3 : tie.Need-same-length-3
 same-length-3 c = search needs
 
--- src/lib.rt:172:1
 same-length-4 : tie.Need-same-length-4
 same-length-4 c = search needs
 
--- src/lib.rt:172:1
 same-length-5 : tie.Need-same-length-5
 same-length-5 c = search needs
 
--- src/lib.rt:172:1
 same-length-6 : tie.Need-same-length-6
 same-length-6 c = search needs
 
--- src/lib.rt:172:1
 same-length-7 : tie.Need-same-length-7
 same-length-7 c = search needs
 
--- src/lib.rt:172:1
 same-length-8 : tie.Need-same-length-8
 same-length-8 c = search needs
 
--- src/lib.rt:172:1
 same-length-9 : tie.Need-same-length-9
 same-length-9 c = search needs
 
--- src/lib.rt:172:1
 returns-2 : tie.Need-returns-2
 returns-2 c =
     let d = c .before .before .before .before .before .before .before .before .before in

@@ -18,107 +18,81 @@ known s = slices (s .pre .0) (s .args .records .now) (s .args .counts) (s .pre .
 add-chips : tie.Need-add-chips
 add-chips c = let k = known (c .before .before .before .before .before .before .before) in omega (arith, k .few, k .below)
 
--- src/lib.rt:131:17
 add-inner : tie.Need-add-inner
 add-inner c = let k = known (c .before .before .before .before .before .before .before .before) in omega (arith, k .few, k .below)
 
--- src/lib.rt:132:17
 add-execs : tie.Need-add-execs
 add-execs c = let k = known (c .before .before .before .before .before .before .before .before .before) in omega (arith, k .few, k .below)
 
--- src/lib.rt:133:17
 add-wires : tie.Need-add-wires
 add-wires c = let k = known (c .before .before .before .before .before .before .before .before .before .before) in omega (arith, k .few, k .below)
 
--- src/lib.rt:134:15
 add-end : tie.Need-add-end
 add-end c = let k = known (c .before .before .before .before .before .before .before .before .before .before .before) in omega (arith, k .few, k .below)
 
--- src/lib.rt:136:9
 slice-aggregate-plan-board : tie.Need-slice-aggregate-plan-board
 slice-aggregate-plan-board c = let k = known (c .before .before .before .before .before .before .before .before .before .before .before .before) in sym (length-take-le (c .before .before .before .before .before .before .before .before .before .before .before .before .args .counts .pages) (c .before .before .before .before .before .before .before .before .before .before .before .before .args .records .now) (omega (arith, k .below)))
 
--- src/lib.rt:137:9
 mul-plan-board : tie.Need-mul-plan-board
 mul-plan-board c = let k = known (c .before .before .before .before .before .before .before .before .before .before .before .before) in omega (arith, k .few, k .below)
 
--- src/lib.rt:137:9
 sub-plan-board : tie.Need-sub-plan-board
 sub-plan-board c = search needs
 
--- src/lib.rt:137:9
 part-plan-board-start : tie.Need-part-plan-board-start
 part-plan-board-start c = search needs
 
--- src/lib.rt:137:9
 part-plan-board-end : tie.Need-part-plan-board-end
 part-plan-board-end c = let k = known (c .before .before .before .before .before .before .before .before .before .before .before .before) in omega (arith, k .few, k .below)
 
--- src/lib.rt:138:9
 mul-plan-board-2 : tie.Need-mul-plan-board-2
 mul-plan-board-2 c = let k = known (c .before .before .before .before .before .before .before .before .before .before .before .before .before) in omega (arith, k .few, k .below)
 
--- src/lib.rt:138:9
 sub-plan-board-2 : tie.Need-sub-plan-board-2
 sub-plan-board-2 c = search needs
 
--- src/lib.rt:138:9
 part-plan-board-start-2 : tie.Need-part-plan-board-start-2
 part-plan-board-start-2 c = search needs
 
--- src/lib.rt:138:9
 part-plan-board-end-2 : tie.Need-part-plan-board-end-2
 part-plan-board-end-2 c = let k = known (c .before .before .before .before .before .before .before .before .before .before .before .before .before) in omega (arith, k .few, k .below)
 
--- src/lib.rt:139:9
 mul-plan-board-3 : tie.Need-mul-plan-board-3
 mul-plan-board-3 c = let k = known (c .before .before .before .before .before .before .before .before .before .before .before .before .before .before) in omega (arith, k .few, k .below)
 
--- src/lib.rt:139:9
 sub-plan-board-3 : tie.Need-sub-plan-board-3
 sub-plan-board-3 c = search needs
 
--- src/lib.rt:139:9
 part-plan-board-start-3 : tie.Need-part-plan-board-start-3
 part-plan-board-start-3 c = search needs
 
--- src/lib.rt:139:9
 part-plan-board-end-3 : tie.Need-part-plan-board-end-3
 part-plan-board-end-3 c = let k = known (c .before .before .before .before .before .before .before .before .before .before .before .before .before .before) in omega (arith, k .few, k .below)
 
--- src/lib.rt:140:9
 mul-plan-board-4 : tie.Need-mul-plan-board-4
 mul-plan-board-4 c = let k = known (c .before .before .before .before .before .before .before .before .before .before .before .before .before .before .before) in omega (arith, k .few, k .below)
 
--- src/lib.rt:140:9
 sub-plan-board-4 : tie.Need-sub-plan-board-4
 sub-plan-board-4 c = search needs
 
--- src/lib.rt:140:9
 part-plan-board-start-4 : tie.Need-part-plan-board-start-4
 part-plan-board-start-4 c = search needs
 
--- src/lib.rt:140:9
 part-plan-board-end-4 : tie.Need-part-plan-board-end-4
 part-plan-board-end-4 c = let k = known (c .before .before .before .before .before .before .before .before .before .before .before .before .before .before .before) in omega (arith, k .few, k .below)
 
--- src/lib.rt:141:9
 mul-plan-board-5 : tie.Need-mul-plan-board-5
 mul-plan-board-5 c = let k = known (c .before .before .before .before .before .before .before .before .before .before .before .before .before .before .before .before) in omega (arith, k .few, k .below)
 
--- src/lib.rt:141:9
 sub-plan-board-5 : tie.Need-sub-plan-board-5
 sub-plan-board-5 c = search needs
 
--- src/lib.rt:141:9
 part-plan-board-start-5 : tie.Need-part-plan-board-start-5
 part-plan-board-start-5 c = search needs
 
--- src/lib.rt:141:9
 part-plan-board-end-5 : tie.Need-part-plan-board-end-5
 part-plan-board-end-5 c = let k = known (c .before .before .before .before .before .before .before .before .before .before .before .before .before .before .before .before) in omega (arith, k .few, k .below)
 
--- src/lib.rt:135:9
 plan-board-requires : tie.Need-plan-board-requires
 plan-board-requires c κs =
     let s = c .before .before .before .before .before .before .before .before .before .before .before .before .before .before .before .before .before .before .before .before .before .before .before .before .before in
@@ -126,11 +100,9 @@ plan-board-requires c κs =
     let r = s .pre .1 in
     rw (k .pages, k .nodes, k .inner, k .execs, k .wires) (r .ranged, (r .indexes, r .room))
 
--- src/lib.rt:160:23
 enum-known-plan : tie.Need-enum-known-plan
 enum-known-plan c = search needs
 
--- src/lib.rt:162:20
 add-t71 : tie.Need-add-t71
 add-t71 c =
     let s = c .before .before .before .before .before .before .before .before .before .before .before .before .before .before .before .before .before .before .before .before .before .before .before .before .before .before .before .before .before .before .before .before .before .before .before .before .before in
@@ -140,82 +112,63 @@ add-t71 c =
     let f = s .pre .1 .few .0 in
     omega arith
 
--- src/lib.rt:164:24
 enum-told : tie.Need-enum-told
 enum-told c = search needs
 
--- src/lib.rt:105:1
 same-length : tie.Need-same-length
 same-length c = search needs
 
--- src/lib.rt:105:1
 same-length-2 : tie.Need-same-length-2
 same-length-2 c = search needs
 
--- src/lib.rt:105:1
 same-length-3 : tie.Need-same-length-3
 same-length-3 c = search needs
 
--- src/lib.rt:105:1
 same-length-4 : tie.Need-same-length-4
 same-length-4 c = search needs
 
--- src/lib.rt:105:1
 same-length-5 : tie.Need-same-length-5
 same-length-5 c = search needs
 
--- src/lib.rt:105:1
 same-length-6 : tie.Need-same-length-6
 same-length-6 c = search needs
 
--- src/lib.rt:105:1
 same-length-7 : tie.Need-same-length-7
 same-length-7 c = search needs
 
--- src/lib.rt:105:1
 same-length-8 : tie.Need-same-length-8
 same-length-8 c = search needs
 
--- src/lib.rt:105:1
 returns : tie.Need-returns
 returns c =
     let s = c .before .before .before .before .before .before .before .before .before .before .before .before .before .before .before .before .before .before .before .before .before .before .before .before .before .before .before .before .before .before .before .before .before .before .before .before .before in
     let r = c .before .before .before .before .before .before .before .before .before .before .before .plan-board in
     λ b rd. text-crowded (slices b (s .args .records .now) (s .args .counts) (rd .sections) (rd .counted) (rd .few)) (r .result) (r .ensures) (c .before .plan .given .0 .0) (c .before .plan .given .1)
 
--- src/lib.rt:105:1
 same-length-9 : tie.Need-same-length-9
 same-length-9 c = search needs
 
--- src/lib.rt:105:1
 same-length-10 : tie.Need-same-length-10
 same-length-10 c = search needs
 
--- src/lib.rt:105:1
 same-length-11 : tie.Need-same-length-11
 same-length-11 c = search needs
 
--- src/lib.rt:105:1
 same-length-12 : tie.Need-same-length-12
 same-length-12 c = search needs
 
--- src/lib.rt:105:1
 same-length-13 : tie.Need-same-length-13
 same-length-13 c = search needs
 
--- src/lib.rt:105:1
 same-length-14 : tie.Need-same-length-14
 same-length-14 c = search needs
 
--- src/lib.rt:105:1
 same-length-15 : tie.Need-same-length-15
 same-length-15 c = search needs
 
--- src/lib.rt:105:1
 same-length-16 : tie.Need-same-length-16
 same-length-16 c = search needs
 
--- src/lib.rt:105:1
 returns-2 : tie.Need-returns-2
 returns-2 c =
     let s = c .before .before .before .before .before .before .before .before .before .before .before .before .before .before .before .before .before .before .before .before .before .before .before .before .before .before .before .before .before .before .before .before .before .before .before .before in

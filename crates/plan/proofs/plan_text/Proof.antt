@@ -25,122 +25,93 @@ checked c =
 slice-aggregate-check-board : tie.Need-slice-aggregate-check-board
 slice-aggregate-check-board c = search needs
 
--- src/lib.rt:257:9
 slice-aggregate-check-board-2 : tie.Need-slice-aggregate-check-board-2
 slice-aggregate-check-board-2 c = search needs
 
--- src/lib.rt:258:9
 slice-aggregate-check-board-3 : tie.Need-slice-aggregate-check-board-3
 slice-aggregate-check-board-3 c = search needs
 
--- src/lib.rt:259:9
 slice-aggregate-check-board-4 : tie.Need-slice-aggregate-check-board-4
 slice-aggregate-check-board-4 c = search needs
 
--- src/lib.rt:260:9
 slice-aggregate-check-board-5 : tie.Need-slice-aggregate-check-board-5
 slice-aggregate-check-board-5 c = search needs
 
--- src/lib.rt:261:9
 slice-aggregate-check-board-6 : tie.Need-slice-aggregate-check-board-6
 slice-aggregate-check-board-6 c = search needs
 
--- src/lib.rt:262:9
 slice-aggregate-check-board-7 : tie.Need-slice-aggregate-check-board-7
 slice-aggregate-check-board-7 c = search needs
 
--- src/lib.rt:263:9
 slice-aggregate-check-board-8 : tie.Need-slice-aggregate-check-board-8
 slice-aggregate-check-board-8 c = search needs
 
--- src/lib.rt:264:9
 slice-aggregate-check-board-9 : tie.Need-slice-aggregate-check-board-9
 slice-aggregate-check-board-9 c = search needs
 
--- src/lib.rt:253:11
 check-board-requires : tie.Need-check-board-requires
 check-board-requires c κs =
     (c .before .before .before .before .before .before .before .before .before .before .pre .1, (fresh-zeros 4096 4096 4096 4096 (omega arith) (omega arith) (omega arith), (fresh-zeros 256 256 4096 256 (omega arith) (omega arith) (omega arith), fresh-zeros 4096 4096 4096 4096 (omega arith) (omega arith) (omega arith))))
 
--- src/lib.rt:266:28
 enum-known-number : tie.Need-enum-known-number
 enum-known-number c = search needs
 
--- src/lib.rt:270:23
 enum-known-counts : tie.Need-enum-known-counts
 enum-known-counts c = search needs
 
--- src/lib.rt:275:13
 slice-aggregate-plan-fitting : tie.Need-slice-aggregate-plan-fitting
 slice-aggregate-plan-fitting c = search needs
 
--- src/lib.rt:276:13
 slice-aggregate-plan-fitting-2 : tie.Need-slice-aggregate-plan-fitting-2
 slice-aggregate-plan-fitting-2 c = search needs
 
--- src/lib.rt:277:13
 slice-aggregate-plan-fitting-3 : tie.Need-slice-aggregate-plan-fitting-3
 slice-aggregate-plan-fitting-3 c = search needs
 
--- src/lib.rt:278:13
 slice-aggregate-plan-fitting-4 : tie.Need-slice-aggregate-plan-fitting-4
 slice-aggregate-plan-fitting-4 c = search needs
 
--- src/lib.rt:279:13
 slice-aggregate-plan-fitting-5 : tie.Need-slice-aggregate-plan-fitting-5
 slice-aggregate-plan-fitting-5 c = search needs
 
--- src/lib.rt:280:13
 slice-aggregate-plan-fitting-6 : tie.Need-slice-aggregate-plan-fitting-6
 slice-aggregate-plan-fitting-6 c = search needs
 
--- src/lib.rt:270:34
 plan-fitting-requires : tie.Need-plan-fitting-requires
 plan-fitting-requires c κs = (start c .pre .0, (start c .pre .1, checked c))
 
--- src/lib.rt:226:1
 returns : tie.Need-returns
 returns c =
     let s = c .before .before .before .before .before .before .before .before .before .before .before .before .before .before .before .before .before .before .before .before .before .before .before in
     rw (planning-refused (s .args .most) (s .args .text .now) (fitsLent (s .args .lent)) _ _ (board-refused (s .args .most) (s .args .text .now) _ _ (sym (c .before .number .given .1) ∙ c .before .before .before .before .before .before .before .before .before .before .before .before .check-board .ensures .0))) refl
 
--- src/lib.rt:226:1
 same-length : tie.Need-same-length
 same-length c = search needs
 
--- src/lib.rt:226:1
 same-length-2 : tie.Need-same-length-2
 same-length-2 c = c .before .before .before .before .before .before .before .before .before .plan-fitting .kept .1 .1 .1 .1 .1 .1 .1 .1 .1 .1 .1 .0
 
--- src/lib.rt:226:1
 same-length-3 : tie.Need-same-length-3
 same-length-3 c = search needs
 
--- src/lib.rt:226:1
 same-length-4 : tie.Need-same-length-4
 same-length-4 c = search needs
 
--- src/lib.rt:226:1
 same-length-5 : tie.Need-same-length-5
 same-length-5 c = search needs
 
--- src/lib.rt:226:1
 same-length-6 : tie.Need-same-length-6
 same-length-6 c = search needs
 
--- src/lib.rt:226:1
 same-length-7 : tie.Need-same-length-7
 same-length-7 c = search needs
 
--- src/lib.rt:226:1
 same-length-8 : tie.Need-same-length-8
 same-length-8 c = search needs
 
--- src/lib.rt:226:1
 same-length-9 : tie.Need-same-length-9
 same-length-9 c = search needs
 
--- src/lib.rt:226:1
 returns-2 : tie.Need-returns-2
 returns-2 c =
     let d = c .before .before .before .before .before .before .before .before .before .before in

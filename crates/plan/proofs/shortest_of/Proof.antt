@@ -18,35 +18,27 @@ Inv-loop lengths least₀ k₀ least k = (k ≤ 8) × (least ≡ shortest (drop 
 abbrev μ-loop : tie.MeasureT-loop
 μ-loop lengths least₀ k₀ least k = k
 
--- src/lib.rt:59:21
 array-read-least : tie.Need-array-read-least Inv-loop μ-loop
 array-read-least c = search needs
 
--- src/lib.rt:61:5
 loop-holds : tie.Need-loop-holds Inv-loop μ-loop
 loop-holds c = (omega arith, shortest-last (c .args .t1) (search needs))
 
--- src/lib.rt:62:9
 sub-k : tie.Need-sub-k Inv-loop μ-loop
 sub-k c = search needs
 
--- src/lib.rt:63:24
 mul-lesser : tie.Need-mul-lesser Inv-loop μ-loop
 mul-lesser c = search needs
 
--- src/lib.rt:63:24
 array-read-lesser : tie.Need-array-read-lesser Inv-loop μ-loop
 array-read-lesser c = search needs
 
--- src/lib.rt:63:9
 lesser-requires : tie.Need-lesser-requires Inv-loop μ-loop
 lesser-requires c κs = search needs
 
--- src/lib.rt:61:5
 loop-less : tie.Need-loop-less Inv-loop μ-loop
 loop-less c = search needs
 
--- src/lib.rt:61:5
 loop-again : tie.Need-loop-again Inv-loop μ-loop
 loop-again c =
     let l = c .before .before .before .args .t1 in
@@ -57,7 +49,6 @@ loop-again c =
     let low = inv .0 in
     (omega arith, c .lesser .ensures ∙ shortest-turn l (k - 1) (c .before .before .loop .least) (omega arith) (inv .1 ∙ ap (λ (j : ℕ). shortest (drop j l)) (sym one)))
 
--- src/lib.rt:56:1
 returns : tie.Need-returns Inv-loop μ-loop
 returns c = let h = c .loop-test .left in let z : c .before .loop .k ≡ 0 = omega arith in c .before .loop .inv .1 ∙ ap (λ (j : ℕ). shortest (drop j (c .before .before .args .t1))) z
 

@@ -16,43 +16,33 @@ Inv-loop page-facts n answers₀ p₀ answers p = (p ≤ n) × (length answers �
 abbrev μ-loop : tie.MeasureT-loop
 μ-loop page-facts n answers₀ p₀ answers p = n - p
 
--- src/lib.rt:315:5
 loop-holds : tie.Need-loop-holds Inv-loop μ-loop
 loop-holds c = (omega arith, refl, λ ps size facts. refl)
 
--- src/lib.rt:316:21
 mul-lanes : tie.Need-mul-lanes Inv-loop μ-loop
 mul-lanes c = search needs
 
--- src/lib.rt:316:21
 index-1-lanes : tie.Need-index-1-lanes Inv-loop μ-loop
 index-1-lanes c = search needs
 
--- src/lib.rt:316:21
 index-2-lanes : tie.Need-index-2-lanes Inv-loop μ-loop
 index-2-lanes c = search needs
 
--- src/lib.rt:317:30
 band-requires : tie.Need-band-requires Inv-loop μ-loop
 band-requires c κs = c .before .before .before .pre .1 (c .before .before .loop .p) (c .before .loop-test .taken)
 
--- src/lib.rt:317:9
 mul-t7 : tie.Need-mul-t7 Inv-loop μ-loop
 mul-t7 c = search needs
 
--- src/lib.rt:317:9
 slice-set-from-answers : tie.Need-slice-set-from-answers Inv-loop μ-loop
 slice-set-from-answers c = search needs
 
--- src/lib.rt:318:9
 add-p : tie.Need-add-p Inv-loop μ-loop
 add-p c = search needs
 
--- src/lib.rt:315:5
 loop-less : tie.Need-loop-less Inv-loop μ-loop
 loop-less c = search needs
 
--- src/lib.rt:315:5
 loop-again : tie.Need-loop-again Inv-loop μ-loop
 loop-again c =
     let l = c .before .before .before in
@@ -61,11 +51,9 @@ loop-again c =
     let room = s .pre .0 .1 in
     (search needs, simp length-set (inv .1), pages-more (s .args .page-facts .now) (s .args .n) (s .args .answers .now) (l .loop .p) (l .loop .answers) (c .band .result) (c .before .before .loop-test .taken) (let t = c .before .before .loop-test .taken in omega arith) (c .band .ensures) (inv .2))
 
--- src/lib.rt:309:1
 same-length : tie.Need-same-length Inv-loop μ-loop
 same-length c = search needs
 
--- src/lib.rt:309:1
 returns : tie.Need-returns Inv-loop μ-loop
 returns c =
     let l = c .before in

@@ -15,53 +15,42 @@ Inv-loop bus-wires k count₀ i₀ count i = (i ≤ k) × (count ≤ i) × (coun
 abbrev μ-loop : tie.MeasureT-loop
 μ-loop bus-wires k count₀ i₀ count i = k - i
 
--- src/lib.rt:26:5
 loop-holds : tie.Need-loop-holds Inv-loop μ-loop
 loop-holds c = (omega arith, omega arith, refl)
 
--- src/lib.rt:27:20
 mul-wire : tie.Need-mul-wire Inv-loop μ-loop
 mul-wire c = search needs
 
--- src/lib.rt:27:20
 index-1-wire : tie.Need-index-1-wire Inv-loop μ-loop
 index-1-wire c = search needs
 
--- src/lib.rt:27:20
 index-2-wire : tie.Need-index-2-wire Inv-loop μ-loop
 index-2-wire c = search needs
 
--- src/lib.rt:28:9
 add-i : tie.Need-add-i Inv-loop μ-loop
 add-i c = search needs
 
--- src/lib.rt:30:13
 add-count : tie.Need-add-count Inv-loop μ-loop
 add-count c = search needs
 
--- src/lib.rt:26:5
 loop-less : tie.Need-loop-less Inv-loop μ-loop
 loop-less c = search needs
 
--- src/lib.rt:26:5
 loop-again : tie.Need-loop-again Inv-loop μ-loop
 loop-again c =
     let l = c .before .before .before .loop in
     let a = c .before .before .before .before .args in
     (omega arith, omega arith, one-delivers (a .bus-wires .now) (l .i) (l .count) (l .inv .2) (c .if1 .taken))
 
--- src/lib.rt:26:5
 loop-less-2 : tie.Need-loop-less-2 Inv-loop μ-loop
 loop-less-2 c = search needs
 
--- src/lib.rt:26:5
 loop-again-2 : tie.Need-loop-again-2 Inv-loop μ-loop
 loop-again-2 c =
     let l = c .before .before .before .loop in
     let a = c .before .before .before .before .args in
     (omega arith, omega arith, one-passed (a .bus-wires .now) (l .i) (l .count) (l .inv .2) (c .if1 .left))
 
--- src/lib.rt:20:1
 returns : tie.Need-returns Inv-loop μ-loop
 returns c =
     let inv = c .before .loop .inv in

@@ -7,31 +7,24 @@ use Rattle.text.proofs.totals.Reads as reads
 use Rattle.text.proofs.totals.Lts as lts
 use Rattle.text.proofs.less.Reads as less-reads
 
--- src/lib.rt:48:9
 less-requires : tie.Need-less-requires
 less-requires c κs = search needs
 
--- src/lib.rt:50:20
 cast-t7 : tie.Need-cast-t7
 cast-t7 c = search needs
 
--- src/lib.rt:51:20
 cast-t8 : tie.Need-cast-t8
 cast-t8 c = search needs
 
--- src/lib.rt:52:21
 cast-t9 : tie.Need-cast-t9
 cast-t9 c = search needs
 
--- src/lib.rt:53:17
 cast-t10 : tie.Need-cast-t10
 cast-t10 c = search needs
 
--- src/lib.rt:54:15
 cast-t11 : tie.Need-cast-t11
 cast-t11 c = search needs
 
--- src/lib.rt:44:1
 returns : tie.Need-returns
 returns c = ap (λ d. record { rerouters = c .before .args .n; «bus_wires» = c .before .args .k; deliveries = c .before .args .deliveries; direct = d; laid = c .before .args .groups }) (c .less .ensures)
 

@@ -8,23 +8,18 @@ use Rattle.text.proofs.plan_sheet.put_plan.Reads as put-plan-reads
 use Rattle.text.proofs.count_deliveries.Reads as count-deliveries-reads
 use Rattle.text.proofs.totals.Reads as totals-reads
 
--- src/lib.rt:78:9
 count-deliveries-requires : tie.Need-count-deliveries-requires
 count-deliveries-requires c κs = search needs
 
--- src/lib.rt:79:9
 totals-requires : tie.Need-totals-requires
 totals-requires c κs = search needs
 
--- src/lib.rt:80:5
 put-plan-requires : tie.Need-put-plan-requires
 put-plan-requires c κs = search needs
 
--- src/lib.rt:59:1
 same-length : tie.Need-same-length
 same-length c = search needs
 
--- src/lib.rt:59:1
 returns : tie.Need-returns
 returns c b ps h =
     let fits = c .before .before .before .before .before .before .before .pre .0 in

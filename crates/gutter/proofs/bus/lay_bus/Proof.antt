@@ -41,19 +41,15 @@ called d =
     (work-of-all (length (a .records .now)) (a .node-facts .now) (a .wire-facts .now) (a .taps .now) (a .groups .now) (a .page-facts .now) (a .demands .now) (a .keys .now) (a .spare .now) (a .marks .now) (l .result) (w .result) (l .ensures) (w .ensures))
     (lay-called (d .lay-within .last .1 .1 .1 .1 .1 .1 .0) (d .lay-within .last .1 .1 .1 .1 .1 .1 .1 .0) (d .lay-within .last .1 .1 .1 .1 .1 .1 .1 .1 .0) (d .lay-within .last .1 .1 .1 .1 .1 .1 .1 .1 .1 .0) (d .lay-within .last .1 .1 .1 .1 .1 .1 .1 .1 .1 .1 .0) (d .lay-within .last .1 .1 .1 .1 .1 .1 .1 .1 .1 .1 .1 .0) (a .rerouters .now) (a .bus-wires .now) (a .ports .now) (d .lay-within .last .1 .1 .1 .0) (d .lay-within .last .1 .1 .1 .1 .0) (d .lay-within .last .1 .1 .1 .1 .1 .0) (a .text .now) (length (a .rerouters .now)) (length (a .bus-wires .now)) (length (a .ports .now)) (w .result) _ (d .before .before .before .before .before .before .before .before .before .before .before .before .before .before .library-most .ensures) (d .lay-within .result) (d .lay-within .ensures))
 
--- src/bus.rt:102:9
 shortest-of-requires : tie.Need-shortest-of-requires
 shortest-of-requires c κs = search needs
 
--- src/bus.rt:118:15
 lesser-requires : tie.Need-lesser-requires
 lesser-requires c κs = search needs
 
--- src/bus.rt:123:9
 library-most-requires : tie.Need-library-most-requires
 library-most-requires c κs = search needs
 
--- src/bus.rt:121:11
 lay-within-requires : tie.Need-lay-within-requires
 lay-within-requires c κs =
     let a = c .before .before .before .before .before .before .before .before .before .before .before .before .before .before .before .before .before .args in
@@ -63,123 +59,93 @@ lay-within-requires c κs =
       (subst (λ (m : Counts). WithinLibrary m) (sym (c .before .before .before .before .before .before .before .before .before .before .before .before .before .library-most .ensures)) within-library, all-lent (length (a .records .now)) (a .node-facts .now) (a .wire-facts .now) (a .taps .now) (a .groups .now) (a .page-facts .now) (a .demands .now) (a .keys .now) (a .spare .now) (a .marks .now) (l .result) (w .result) (l .ensures) (w .ensures) (a .rerouters .now) (a .bus-wires .now) (length (a .ports .now)), omega arith),
     )
 
--- src/bus.rt:139:28
 enum-known-number : tie.Need-enum-known-number
 enum-known-number c = search needs
 
--- src/bus.rt:142:24
 enum-known-n : tie.Need-enum-known-n
 enum-known-n c = search needs
 
--- src/bus.rt:83:1
 same-length : tie.Need-same-length
 same-length c = c .before .before .before .before .before .before .before .before .before .before .before .before .before .before .before .before .lay-within .kept .1 .1 .1 .0
 
--- src/bus.rt:83:1
 same-length-2 : tie.Need-same-length-2
 same-length-2 c = c .before .before .before .before .before .before .before .before .before .before .before .before .before .before .before .before .lay-within .kept .1 .1 .1 .1 .0
 
--- src/bus.rt:83:1
 same-length-3 : tie.Need-same-length-3
 same-length-3 c = c .before .before .before .before .before .before .before .before .before .before .before .before .before .before .before .before .lay-within .kept .1 .1 .1 .1 .1 .0
 
--- src/bus.rt:83:1
 same-length-4 : tie.Need-same-length-4
 same-length-4 c = c .before .before .before .before .before .before .before .before .before .before .before .before .before .before .before .before .lay-within .kept .1 .1 .1 .1 .1 .1 .0
 
--- src/bus.rt:83:1
 same-length-5 : tie.Need-same-length-5
 same-length-5 c = c .before .before .before .before .before .before .before .before .before .before .before .before .before .before .before .before .lay-within .kept .1 .1 .1 .1 .1 .1 .1 .0
 
--- src/bus.rt:83:1
 same-length-6 : tie.Need-same-length-6
 same-length-6 c = c .before .before .before .before .before .before .before .before .before .before .before .before .before .before .before .before .lay-within .kept .1 .1 .1 .1 .1 .1 .1 .1 .0
 
--- src/bus.rt:83:1
 same-length-7 : tie.Need-same-length-7
 same-length-7 c = c .before .before .before .before .before .before .before .before .before .before .before .before .before .before .before .before .lay-within .kept .1 .1 .1 .1 .1 .1 .1 .1 .1 .0
 
--- src/bus.rt:83:1
 same-length-8 : tie.Need-same-length-8
 same-length-8 c = c .before .before .before .before .before .before .before .before .before .before .before .before .before .before .before .before .lay-within .kept .1 .1 .1 .1 .1 .1 .1 .1 .1 .1 .0
 
--- src/bus.rt:83:1
 same-length-9 : tie.Need-same-length-9
 same-length-9 c = c .before .before .before .before .before .before .before .before .before .before .before .before .before .before .before .before .lay-within .kept .1 .1 .1 .1 .1 .1 .1 .1 .1 .1 .1 .0
 
--- src/bus.rt:83:1
 same-length-10 : tie.Need-same-length-10
 same-length-10 c = c .before .before .before .before .before .before .before .before .before .before .before .before .before .before .before .before .lay-within .kept .1 .1 .1 .1 .1 .1 .1 .1 .1 .1 .1 .1 .0
 
--- src/bus.rt:83:1
 same-length-11 : tie.Need-same-length-11
 same-length-11 c = c .before .before .before .before .before .before .before .before .before .before .before .before .before .before .before .before .lay-within .kept .1 .1 .1 .1 .1 .1 .1 .1 .1 .1 .1 .1 .1 .0
 
--- src/bus.rt:83:1
 same-length-12 : tie.Need-same-length-12
 same-length-12 c = c .before .before .before .before .before .before .before .before .before .before .before .before .before .before .before .before .lay-within .kept .1 .1 .1 .1 .1 .1 .1 .1 .1 .1 .1 .1 .1 .1 .0
 
--- src/bus.rt:83:1
 same-length-13 : tie.Need-same-length-13
 same-length-13 c = c .before .before .before .before .before .before .before .before .before .before .before .before .before .before .before .before .lay-within .kept .1 .1 .1 .1 .1 .1 .1 .1 .1 .1 .1 .1 .1 .1 .1 .0
 
--- src/bus.rt:83:1
 returns : tie.Need-returns
 returns c = let d = c .before .before .before .before .before .before .before .before .before .before .before .before .before .before .before .before in subst (λ (r : BusText). Called d (withoutCounts r)) (c .before .number .given .1) (called d)
 
--- src/bus.rt:83:1
 same-length-14 : tie.Need-same-length-14
 same-length-14 c = c .before .before .before .before .before .before .before .before .before .before .before .before .before .before .before .before .lay-within .kept .1 .1 .1 .0
 
--- src/bus.rt:83:1
 same-length-15 : tie.Need-same-length-15
 same-length-15 c = c .before .before .before .before .before .before .before .before .before .before .before .before .before .before .before .before .lay-within .kept .1 .1 .1 .1 .0
 
--- src/bus.rt:83:1
 same-length-16 : tie.Need-same-length-16
 same-length-16 c = c .before .before .before .before .before .before .before .before .before .before .before .before .before .before .before .before .lay-within .kept .1 .1 .1 .1 .1 .0
 
--- src/bus.rt:83:1
 same-length-17 : tie.Need-same-length-17
 same-length-17 c = c .before .before .before .before .before .before .before .before .before .before .before .before .before .before .before .before .lay-within .kept .1 .1 .1 .1 .1 .1 .0
 
--- src/bus.rt:83:1
 same-length-18 : tie.Need-same-length-18
 same-length-18 c = c .before .before .before .before .before .before .before .before .before .before .before .before .before .before .before .before .lay-within .kept .1 .1 .1 .1 .1 .1 .1 .0
 
--- src/bus.rt:83:1
 same-length-19 : tie.Need-same-length-19
 same-length-19 c = c .before .before .before .before .before .before .before .before .before .before .before .before .before .before .before .before .lay-within .kept .1 .1 .1 .1 .1 .1 .1 .1 .0
 
--- src/bus.rt:83:1
 same-length-20 : tie.Need-same-length-20
 same-length-20 c = c .before .before .before .before .before .before .before .before .before .before .before .before .before .before .before .before .lay-within .kept .1 .1 .1 .1 .1 .1 .1 .1 .1 .0
 
--- src/bus.rt:83:1
 same-length-21 : tie.Need-same-length-21
 same-length-21 c = c .before .before .before .before .before .before .before .before .before .before .before .before .before .before .before .before .lay-within .kept .1 .1 .1 .1 .1 .1 .1 .1 .1 .1 .0
 
--- src/bus.rt:83:1
 same-length-22 : tie.Need-same-length-22
 same-length-22 c = c .before .before .before .before .before .before .before .before .before .before .before .before .before .before .before .before .lay-within .kept .1 .1 .1 .1 .1 .1 .1 .1 .1 .1 .1 .0
 
--- src/bus.rt:83:1
 same-length-23 : tie.Need-same-length-23
 same-length-23 c = c .before .before .before .before .before .before .before .before .before .before .before .before .before .before .before .before .lay-within .kept .1 .1 .1 .1 .1 .1 .1 .1 .1 .1 .1 .1 .0
 
--- src/bus.rt:83:1
 same-length-24 : tie.Need-same-length-24
 same-length-24 c = c .before .before .before .before .before .before .before .before .before .before .before .before .before .before .before .before .lay-within .kept .1 .1 .1 .1 .1 .1 .1 .1 .1 .1 .1 .1 .1 .0
 
--- src/bus.rt:83:1
 same-length-25 : tie.Need-same-length-25
 same-length-25 c = c .before .before .before .before .before .before .before .before .before .before .before .before .before .before .before .before .lay-within .kept .1 .1 .1 .1 .1 .1 .1 .1 .1 .1 .1 .1 .1 .1 .0
 
--- src/bus.rt:83:1
 same-length-26 : tie.Need-same-length-26
 same-length-26 c = c .before .before .before .before .before .before .before .before .before .before .before .before .before .before .before .before .lay-within .kept .1 .1 .1 .1 .1 .1 .1 .1 .1 .1 .1 .1 .1 .1 .1 .0
 
--- src/bus.rt:83:1
 returns-2 : tie.Need-returns-2
 returns-2 c = let d = c .before .before .before .before .before .before .before .before .before .before .before .before .before .before .before .before in subst (λ (r : BusText). Called d (withoutCounts r)) (c .before .n .given .1) (called d)
 

@@ -12,94 +12,72 @@ use Rattle.gutter.proofs.lay.lay_lanes.Reads as lay-lanes-reads
 known : (s : tie.Start) → Slices (s .pre .0) (s .args .records .now) (s .args .counts)
 known s = slices (s .pre .0) (s .args .records .now) (s .args .counts) (s .pre .2 .sections) (s .pre .2 .counted) (s .pre .2 .few)
 
--- src/text.rt:50:17
 add-chips : tie.Need-add-chips
 add-chips c = let k = known (c .before) in omega (arith, k .few, k .below)
 
--- src/text.rt:51:17
 add-inner : tie.Need-add-inner
 add-inner c = let k = known (c .before .before) in omega (arith, k .few, k .below)
 
--- src/text.rt:52:17
 add-execs : tie.Need-add-execs
 add-execs c = let k = known (c .before .before .before) in omega (arith, k .few, k .below)
 
--- src/text.rt:53:17
 add-wires : tie.Need-add-wires
 add-wires c = let k = known (c .before .before .before .before) in omega (arith, k .few, k .below)
 
--- src/text.rt:54:15
 add-end : tie.Need-add-end
 add-end c = let k = known (c .before .before .before .before .before) in omega (arith, k .few, k .below)
 
--- src/text.rt:56:9
 slice-aggregate-lay-lanes : tie.Need-slice-aggregate-lay-lanes
 slice-aggregate-lay-lanes c = let k = known (c .before .before .before .before .before .before) in sym (length-take-le (c .before .before .before .before .before .before .args .counts .pages) (c .before .before .before .before .before .before .args .records .now) (omega (arith, k .below)))
 
--- src/text.rt:57:9
 mul-lay-lanes : tie.Need-mul-lay-lanes
 mul-lay-lanes c = let k = known (c .before .before .before .before .before .before) in omega (arith, k .few, k .below)
 
--- src/text.rt:57:9
 sub-lay-lanes : tie.Need-sub-lay-lanes
 sub-lay-lanes c = search needs
 
--- src/text.rt:57:9
 part-lay-lanes-start : tie.Need-part-lay-lanes-start
 part-lay-lanes-start c = search needs
 
--- src/text.rt:57:9
 part-lay-lanes-end : tie.Need-part-lay-lanes-end
 part-lay-lanes-end c = let k = known (c .before .before .before .before .before .before) in omega (arith, k .few, k .below)
 
--- src/text.rt:58:9
 mul-lay-lanes-2 : tie.Need-mul-lay-lanes-2
 mul-lay-lanes-2 c = let k = known (c .before .before .before .before .before .before .before) in omega (arith, k .few, k .below)
 
--- src/text.rt:58:9
 sub-lay-lanes-2 : tie.Need-sub-lay-lanes-2
 sub-lay-lanes-2 c = search needs
 
--- src/text.rt:58:9
 part-lay-lanes-start-2 : tie.Need-part-lay-lanes-start-2
 part-lay-lanes-start-2 c = search needs
 
--- src/text.rt:58:9
 part-lay-lanes-end-2 : tie.Need-part-lay-lanes-end-2
 part-lay-lanes-end-2 c = let k = known (c .before .before .before .before .before .before .before) in omega (arith, k .few, k .below)
 
--- src/text.rt:55:5
 lay-lanes-requires : tie.Need-lay-lanes-requires
 lay-lanes-requires c κs =
     let s = c .before .before .before .before .before .before .before .before .before .before .before .before .before .before in
     let k = known s in
     (s .pre .0, s .pre .1, rw (k .pages, k .nodes, k .wires) (s .pre .2 .ready))
 
--- src/text.rt:29:1
 same-length : tie.Need-same-length
 same-length c = search needs
 
--- src/text.rt:29:1
 same-length-2 : tie.Need-same-length-2
 same-length-2 c = search needs
 
--- src/text.rt:29:1
 same-length-3 : tie.Need-same-length-3
 same-length-3 c = search needs
 
--- src/text.rt:29:1
 same-length-4 : tie.Need-same-length-4
 same-length-4 c = search needs
 
--- src/text.rt:29:1
 same-length-5 : tie.Need-same-length-5
 same-length-5 c = search needs
 
--- src/text.rt:29:1
 same-length-6 : tie.Need-same-length-6
 same-length-6 c = search needs
 
--- src/text.rt:29:1
 returns : tie.Need-returns
 returns c =
     let s = c .before .before .before .before .before .before .before .before .before .before .before .before .before .before .before .before .before .before .before .before .before in

@@ -1,4 +1,5 @@
-use Rattle.panzhyqur.proofs.Numbered.{numbered}
+use mathlib.Core.Path.{sym, ap}
+use Rattle.panzhyqur.specs.AnswerCall.{answerNumber}
 use borrow.Author.Needs.{needs}
 use Rattle.panzhyqur.proofs.answer_call.pz_answer.Statement.{statement}
 use Rattle.panzhyqur.proofs.answer_call.pz_answer.Tie as tie
@@ -58,7 +59,9 @@ same-length-15 : tie.Need-same-length-15
 same-length-15 c = c .before .before .before .before .before .before .before .before .before .before .before .before .before .before .before .before .before .before .answer .kept .1 .1 .1 .1 .1 .1 .1 .1 .1 .1 .1 .1 .1 .1 .1 .0
 
 returns : tie.Need-returns
-returns c = numbered (c .before .before .before .before .before .before .before .before .before .before .before .before .before .before .before .before .before .before .answer .ensures) (c .enum-told .given .1)
+returns c =
+    let r = c .before .before .before .before .before .before .before .before .before .before .before .before .before .before .before .before .before .before .answer in
+    (r .result, ap answerNumber (sym (c .enum-told .given .1)), r .ensures)
 
 same-length-16 : tie.Need-same-length-16
 same-length-16 c = c .before .before .before .before .before .before .before .before .before .before .before .before .before .before .before .before .before .before .before .answer .kept .1 .0
@@ -106,7 +109,9 @@ same-length-30 : tie.Need-same-length-30
 same-length-30 c = c .before .before .before .before .before .before .before .before .before .before .before .before .before .before .before .before .before .before .before .answer .kept .1 .1 .1 .1 .1 .1 .1 .1 .1 .1 .1 .1 .1 .1 .1 .0
 
 returns-2 : tie.Need-returns-2
-returns-2 c = numbered (c .before .before .before .before .before .before .before .before .before .before .before .before .before .before .before .before .before .before .before .answer .ensures) (c .before .n .given .1)
+returns-2 c =
+    let r = c .before .before .before .before .before .before .before .before .before .before .before .before .before .before .before .before .before .before .before .answer in
+    (r .result, ap answerNumber (sym (c .before .n .given .1)), r .ensures)
 
 pub pz-answer-spec : {M : Type 1} → statement M
 pz-answer-spec =

@@ -7,133 +7,102 @@ use Rattle.panzhyqur.proofs.bus_calls.pz_lay_bus.Reads as reads
 use Rattle.panzhyqur.proofs.bus_calls.pz_lay_bus.Lts as lts
 use Rattle.gutter.proofs.bus.lay_bus.Reads as lay-bus-reads
 
--- src/export.rt:41:11
 lay-bus-requires : tie.Need-lay-bus-requires
 lay-bus-requires c κs = search needs
 
--- src/export.rt:45:28
 enum-known-number : tie.Need-enum-known-number
 enum-known-number c = search needs
 
--- src/export.rt:54:24
 enum-known-n : tie.Need-enum-known-n
 enum-known-n c = search needs
 
--- src/export.rt:21:1
 same-length : tie.Need-same-length
 same-length c = c .before .before .before .before .before .before .before .before .before .before .before .before .before .before .before .before .lay-bus .kept .1 .0
 
--- src/export.rt:21:1
 same-length-2 : tie.Need-same-length-2
 same-length-2 c = c .before .before .before .before .before .before .before .before .before .before .before .before .before .before .before .before .lay-bus .kept .1 .1 .0
 
--- src/export.rt:21:1
 same-length-3 : tie.Need-same-length-3
 same-length-3 c = c .before .before .before .before .before .before .before .before .before .before .before .before .before .before .before .before .lay-bus .kept .1 .1 .1 .0
 
--- src/export.rt:21:1
 same-length-4 : tie.Need-same-length-4
 same-length-4 c = c .before .before .before .before .before .before .before .before .before .before .before .before .before .before .before .before .lay-bus .kept .1 .1 .1 .1 .0
 
--- src/export.rt:21:1
 same-length-5 : tie.Need-same-length-5
 same-length-5 c = c .before .before .before .before .before .before .before .before .before .before .before .before .before .before .before .before .lay-bus .kept .1 .1 .1 .1 .1 .0
 
--- src/export.rt:21:1
 same-length-6 : tie.Need-same-length-6
 same-length-6 c = c .before .before .before .before .before .before .before .before .before .before .before .before .before .before .before .before .lay-bus .kept .1 .1 .1 .1 .1 .1 .0
 
--- src/export.rt:21:1
 same-length-7 : tie.Need-same-length-7
 same-length-7 c = c .before .before .before .before .before .before .before .before .before .before .before .before .before .before .before .before .lay-bus .kept .1 .1 .1 .1 .1 .1 .1 .0
 
--- src/export.rt:21:1
 same-length-8 : tie.Need-same-length-8
 same-length-8 c = c .before .before .before .before .before .before .before .before .before .before .before .before .before .before .before .before .lay-bus .kept .1 .1 .1 .1 .1 .1 .1 .1 .0
 
--- src/export.rt:21:1
 same-length-9 : tie.Need-same-length-9
 same-length-9 c = c .before .before .before .before .before .before .before .before .before .before .before .before .before .before .before .before .lay-bus .kept .1 .1 .1 .1 .1 .1 .1 .1 .1 .0
 
--- src/export.rt:21:1
 same-length-10 : tie.Need-same-length-10
 same-length-10 c = c .before .before .before .before .before .before .before .before .before .before .before .before .before .before .before .before .lay-bus .kept .1 .1 .1 .1 .1 .1 .1 .1 .1 .1 .0
 
--- src/export.rt:21:1
 same-length-11 : tie.Need-same-length-11
 same-length-11 c = c .before .before .before .before .before .before .before .before .before .before .before .before .before .before .before .before .lay-bus .kept .1 .1 .1 .1 .1 .1 .1 .1 .1 .1 .1 .0
 
--- src/export.rt:21:1
 same-length-12 : tie.Need-same-length-12
 same-length-12 c = c .before .before .before .before .before .before .before .before .before .before .before .before .before .before .before .before .lay-bus .kept .1 .1 .1 .1 .1 .1 .1 .1 .1 .1 .1 .1 .0
 
--- src/export.rt:21:1
 same-length-13 : tie.Need-same-length-13
 same-length-13 c = c .before .before .before .before .before .before .before .before .before .before .before .before .before .before .before .before .lay-bus .kept .1 .1 .1 .1 .1 .1 .1 .1 .1 .1 .1 .1 .1 .0
 
--- src/export.rt:21:1
 returns : tie.Need-returns
 returns c =
-    let r = c .before .before .before .before .before .before .before .before .before .before .before .before .before .before .before .before .lay-bus .ensures in
-    record { answer = ap planNumbers (sym (c .before .number .given .1) ∙ r .answer); rerouters-are = r .rerouters-are; wires-are = r .wires-are; ports-are = r .ports-are }
+    let r = c .before .before .before .before .before .before .before .before .before .before .before .before .before .before .before .before .lay-bus in
+    (r .result, ap planNumbers (sym (c .before .number .given .1)), r .ensures)
 
--- src/export.rt:21:1
 same-length-14 : tie.Need-same-length-14
 same-length-14 c = c .before .before .before .before .before .before .before .before .before .before .before .before .before .before .before .before .lay-bus .kept .1 .0
 
--- src/export.rt:21:1
 same-length-15 : tie.Need-same-length-15
 same-length-15 c = c .before .before .before .before .before .before .before .before .before .before .before .before .before .before .before .before .lay-bus .kept .1 .1 .0
 
--- src/export.rt:21:1
 same-length-16 : tie.Need-same-length-16
 same-length-16 c = c .before .before .before .before .before .before .before .before .before .before .before .before .before .before .before .before .lay-bus .kept .1 .1 .1 .0
 
--- src/export.rt:21:1
 same-length-17 : tie.Need-same-length-17
 same-length-17 c = c .before .before .before .before .before .before .before .before .before .before .before .before .before .before .before .before .lay-bus .kept .1 .1 .1 .1 .0
 
--- src/export.rt:21:1
 same-length-18 : tie.Need-same-length-18
 same-length-18 c = c .before .before .before .before .before .before .before .before .before .before .before .before .before .before .before .before .lay-bus .kept .1 .1 .1 .1 .1 .0
 
--- src/export.rt:21:1
 same-length-19 : tie.Need-same-length-19
 same-length-19 c = c .before .before .before .before .before .before .before .before .before .before .before .before .before .before .before .before .lay-bus .kept .1 .1 .1 .1 .1 .1 .0
 
--- src/export.rt:21:1
 same-length-20 : tie.Need-same-length-20
 same-length-20 c = c .before .before .before .before .before .before .before .before .before .before .before .before .before .before .before .before .lay-bus .kept .1 .1 .1 .1 .1 .1 .1 .0
 
--- src/export.rt:21:1
 same-length-21 : tie.Need-same-length-21
 same-length-21 c = c .before .before .before .before .before .before .before .before .before .before .before .before .before .before .before .before .lay-bus .kept .1 .1 .1 .1 .1 .1 .1 .1 .0
 
--- src/export.rt:21:1
 same-length-22 : tie.Need-same-length-22
 same-length-22 c = c .before .before .before .before .before .before .before .before .before .before .before .before .before .before .before .before .lay-bus .kept .1 .1 .1 .1 .1 .1 .1 .1 .1 .0
 
--- src/export.rt:21:1
 same-length-23 : tie.Need-same-length-23
 same-length-23 c = c .before .before .before .before .before .before .before .before .before .before .before .before .before .before .before .before .lay-bus .kept .1 .1 .1 .1 .1 .1 .1 .1 .1 .1 .0
 
--- src/export.rt:21:1
 same-length-24 : tie.Need-same-length-24
 same-length-24 c = c .before .before .before .before .before .before .before .before .before .before .before .before .before .before .before .before .lay-bus .kept .1 .1 .1 .1 .1 .1 .1 .1 .1 .1 .1 .0
 
--- src/export.rt:21:1
 same-length-25 : tie.Need-same-length-25
 same-length-25 c = c .before .before .before .before .before .before .before .before .before .before .before .before .before .before .before .before .lay-bus .kept .1 .1 .1 .1 .1 .1 .1 .1 .1 .1 .1 .1 .0
 
--- src/export.rt:21:1
 same-length-26 : tie.Need-same-length-26
 same-length-26 c = c .before .before .before .before .before .before .before .before .before .before .before .before .before .before .before .before .lay-bus .kept .1 .1 .1 .1 .1 .1 .1 .1 .1 .1 .1 .1 .1 .0
 
--- src/export.rt:21:1
 returns-2 : tie.Need-returns-2
 returns-2 c =
-    let r = c .before .before .before .before .before .before .before .before .before .before .before .before .before .before .before .before .lay-bus .ensures in
-    record { answer = ap planNumbers (sym (c .before .n .given .1) ∙ r .answer); rerouters-are = r .rerouters-are; wires-are = r .wires-are; ports-are = r .ports-are }
+    let r = c .before .before .before .before .before .before .before .before .before .before .before .before .before .before .before .before .lay-bus in
+    (r .result, ap planNumbers (sym (c .before .n .given .1)), r .ensures)
 
 pub pz-lay-bus-spec : {M : Type 1} → statement M
 pz-lay-bus-spec =

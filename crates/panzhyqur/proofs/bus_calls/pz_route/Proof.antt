@@ -60,8 +60,8 @@ same-length-14 c = c .before .before .before .before .before .before .before .be
 
 returns : tie.Need-returns
 returns c =
-    let r = c .before .before .before .before .before .before .before .before .before .before .before .before .before .before .before .before .before .route .ensures in
-    record { answer = ap planNumbers (sym (c .before .number .given .1) ∙ r .answer); rerouters-are = r .rerouters-are; wires-are = r .wires-are; ports-are = r .ports-are; answers-are = r .answers-are }
+    let r = c .before .before .before .before .before .before .before .before .before .before .before .before .before .before .before .before .before .route in
+    (r .result, ap planNumbers (sym (c .before .number .given .1)), r .ensures)
 
 same-length-15 : tie.Need-same-length-15
 same-length-15 c = c .before .before .before .before .before .before .before .before .before .before .before .before .before .before .before .before .before .route .kept .1 .0
@@ -107,8 +107,8 @@ same-length-28 c = c .before .before .before .before .before .before .before .be
 
 returns-2 : tie.Need-returns-2
 returns-2 c =
-    let r = c .before .before .before .before .before .before .before .before .before .before .before .before .before .before .before .before .before .route .ensures in
-    record { answer = ap planNumbers (sym (c .before .n .given .1) ∙ r .answer); rerouters-are = r .rerouters-are; wires-are = r .wires-are; ports-are = r .ports-are; answers-are = r .answers-are }
+    let r = c .before .before .before .before .before .before .before .before .before .before .before .before .before .before .before .before .before .route in
+    (r .result, ap planNumbers (sym (c .before .n .given .1)), r .ensures)
 
 pub pz-route-spec : {M : Type 1} → statement M
 pz-route-spec =

@@ -54,8 +54,8 @@ same-length-13 c = search needs
 
 returns : tie.Need-returns
 returns c =
-    let r = c .before .before .before .before .before .before .before .before .before .before .before .before .before .before .before .before .lay-mini-bus .ensures in
-    record { answer = ap miniNumbers (sym (c .before .number .given .1) ∙ r .answer); rerouters-are = r .rerouters-are; wires-are = r .wires-are; ports-are = r .ports-are }
+    let r = c .before .before .before .before .before .before .before .before .before .before .before .before .before .before .before .before .lay-mini-bus in
+    (r .result, ap miniNumbers (sym (c .before .number .given .1)), r .ensures)
 
 same-length-14 : tie.Need-same-length-14
 same-length-14 c = search needs
@@ -98,8 +98,8 @@ same-length-26 c = search needs
 
 returns-2 : tie.Need-returns-2
 returns-2 c =
-    let r = c .before .before .before .before .before .before .before .before .before .before .before .before .before .before .before .before .lay-mini-bus .ensures in
-    record { answer = ap miniNumbers (sym (c .before .n .given .1) ∙ r .answer); rerouters-are = r .rerouters-are; wires-are = r .wires-are; ports-are = r .ports-are }
+    let r = c .before .before .before .before .before .before .before .before .before .before .before .before .before .before .before .before .lay-mini-bus in
+    (r .result, ap miniNumbers (sym (c .before .n .given .1)), r .ensures)
 
 pub pz-lay-mini-bus-spec : {M : Type 1} → statement M
 pz-lay-mini-bus-spec =

@@ -7,109 +7,84 @@ use Rattle.panzhyqur.proofs.plan_call.pz_plan_bus.Reads as reads
 use Rattle.panzhyqur.proofs.plan_call.pz_plan_bus.Lts as lts
 use Rattle.plan.proofs.plan_bus.Reads as plan-bus-reads
 
--- src/export.rt:36:11
 plan-bus-requires : tie.Need-plan-bus-requires
 plan-bus-requires c κs = search needs
 
--- src/export.rt:39:30
 enum-known-number : tie.Need-enum-known-number
 enum-known-number c = search needs
 
--- src/export.rt:44:28
 enum-known-pages : tie.Need-enum-known-pages
 enum-known-pages c = search needs
 
--- src/export.rt:19:1
 same-length : tie.Need-same-length
 same-length c = search needs
 
--- src/export.rt:19:1
 same-length-2 : tie.Need-same-length-2
 same-length-2 c = search needs
 
--- src/export.rt:19:1
 same-length-3 : tie.Need-same-length-3
 same-length-3 c = search needs
 
--- src/export.rt:19:1
 same-length-4 : tie.Need-same-length-4
 same-length-4 c = search needs
 
--- src/export.rt:19:1
 same-length-5 : tie.Need-same-length-5
 same-length-5 c = search needs
 
--- src/export.rt:19:1
 same-length-6 : tie.Need-same-length-6
 same-length-6 c = search needs
 
--- src/export.rt:19:1
 same-length-7 : tie.Need-same-length-7
 same-length-7 c = search needs
 
--- src/export.rt:19:1
 same-length-8 : tie.Need-same-length-8
 same-length-8 c = search needs
 
--- src/export.rt:19:1
 same-length-9 : tie.Need-same-length-9
 same-length-9 c = search needs
 
--- src/export.rt:19:1
 same-length-10 : tie.Need-same-length-10
 same-length-10 c = search needs
 
--- src/export.rt:19:1
 returns : tie.Need-returns
 returns c =
-    let r = c .before .before .before .before .before .before .before .before .before .before .before .before .before .plan-bus .ensures in
-    record { answer = ap pagesNumbers (sym (c .before .number .given .1) ∙ r .answer); answers = r .answers }
+    let r = c .before .before .before .before .before .before .before .before .before .before .before .before .before .plan-bus in
+    (r .result, ap pagesNumbers (sym (c .before .number .given .1)), r .ensures)
 
--- src/export.rt:19:1
 same-length-11 : tie.Need-same-length-11
 same-length-11 c = search needs
 
--- src/export.rt:19:1
 same-length-12 : tie.Need-same-length-12
 same-length-12 c = search needs
 
--- src/export.rt:19:1
 same-length-13 : tie.Need-same-length-13
 same-length-13 c = search needs
 
--- src/export.rt:19:1
 same-length-14 : tie.Need-same-length-14
 same-length-14 c = search needs
 
--- src/export.rt:19:1
 same-length-15 : tie.Need-same-length-15
 same-length-15 c = search needs
 
--- src/export.rt:19:1
 same-length-16 : tie.Need-same-length-16
 same-length-16 c = search needs
 
--- src/export.rt:19:1
 same-length-17 : tie.Need-same-length-17
 same-length-17 c = search needs
 
--- src/export.rt:19:1
 same-length-18 : tie.Need-same-length-18
 same-length-18 c = search needs
 
--- src/export.rt:19:1
 same-length-19 : tie.Need-same-length-19
 same-length-19 c = search needs
 
--- src/export.rt:19:1
 same-length-20 : tie.Need-same-length-20
 same-length-20 c = search needs
 
--- src/export.rt:19:1
 returns-2 : tie.Need-returns-2
 returns-2 c =
-    let r = c .before .before .before .before .before .before .before .before .before .before .before .before .before .plan-bus .ensures in
-    record { answer = ap pagesNumbers (sym (c .before .pages .given .1) ∙ r .answer); answers = r .answers }
+    let r = c .before .before .before .before .before .before .before .before .before .before .before .before .before .plan-bus in
+    (r .result, ap pagesNumbers (sym (c .before .pages .given .1)), r .ensures)
 
 pub pz-plan-bus-spec : {M : Type 1} → statement M
 pz-plan-bus-spec =

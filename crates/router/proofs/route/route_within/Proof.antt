@@ -30,19 +30,15 @@ text-laid c = c .before .before .before .before .before .before .before .before 
 told : (c : tie.After-add-corners-arg9) → BusTold (text-laid c .lay-within .last .1 .1 .1 .1 .1 .1 .0) (text-laid c .lay-within .last .1 .1 .1 .1 .1 .1 .1 .0) (text-laid c .lay-within .last .1 .1 .1 .1 .1 .1 .1 .1 .0) (text-laid c .lay-within .last .1 .1 .1 .1 .1 .1 .1 .1 .1 .0) (text-laid c .lay-within .last .1 .1 .1 .1 .1 .1 .1 .1 .1 .1 .0) (text-laid c .lay-within .last .1 .1 .1 .1 .1 .1 .1 .1 .1 .1 .1 .0) (start (text-laid c) .args .rerouters .now) (start (text-laid c) .args .bus-wires .now) (start (text-laid c) .args .ports .now) (text-laid c .lay-within .last .1 .1 .1 .0) (text-laid c .lay-within .last .1 .1 .1 .1 .0) (text-laid c .lay-within .last .1 .1 .1 .1 .1 .0) (plan-of (text-laid c)) (c .before .before .before .before .before .before .before .before .before .before .counts .given .0 .0) (c .before .before .before .before .before .before .before .before .before .before .counts .given .0 .1 .0) (c .before .before .before .before .before .before .before .before .before .before .counts .given .0 .1 .1 .0) (c .before .before .before .before .before .before .before .before .before .before .counts .given .0 .1 .1 .1 .0) (c .before .before .before .before .before .before .before .before .before .before .counts .given .0 .1 .1 .1 .1 .0)
 told c = let d = text-laid c in bus-told (d .lay-within .last .1 .1 .1 .1 .1 .1 .0) (d .lay-within .last .1 .1 .1 .1 .1 .1 .1 .0) (d .lay-within .last .1 .1 .1 .1 .1 .1 .1 .1 .0) (d .lay-within .last .1 .1 .1 .1 .1 .1 .1 .1 .1 .0) (d .lay-within .last .1 .1 .1 .1 .1 .1 .1 .1 .1 .1 .0) (d .lay-within .last .1 .1 .1 .1 .1 .1 .1 .1 .1 .1 .1 .0) (start (d) .args .rerouters .now) (start (d) .args .bus-wires .now) (start (d) .args .ports .now) (d .lay-within .last .1 .1 .1 .0) (d .lay-within .last .1 .1 .1 .1 .0) (d .lay-within .last .1 .1 .1 .1 .1 .0) (plan-of d) (d .lay-within .result) _ _ _ _ _ (d .lay-within .ensures) (c .before .before .before .before .before .before .before .before .before .before .counts .given .1)
 
--- src/route.rt:95:11
 lay-within-requires : tie.Need-lay-within-requires
 lay-within-requires c κs = let q = c .before .before .before .before .before .before .before .before .before .before .before .before .before .before .pre in (q .0, (q .1 .0, q .1 .1, q .1 .2))
 
--- src/route.rt:99:28
 enum-known-number : tie.Need-enum-known-number
 enum-known-number c = search needs
 
--- src/route.rt:101:13
 enum-known-counts : tie.Need-enum-known-counts
 enum-known-counts c = search needs
 
--- src/route.rt:107:17
 add-corners-requires : tie.Need-add-corners-requires
 add-corners-requires c κs =
     let d = text-laid c in
@@ -63,7 +59,6 @@ add-corners-requires c κs =
           (record { marks-lent = omega arith; rerouters-lent = omega arith; wires-lent = omega arith }) (omega arith) (omega arith) (omega arith) (omega arith) (omega arith) kr kw kp,
     )
 
--- src/route.rt:112:13
 write-pages-requires : tie.Need-write-pages-requires
 write-pages-requires c κs =
     let e = c .before .before .before .before .before .before .before .before .before in
@@ -77,59 +72,45 @@ write-pages-requires c κs =
     let few = ready .0 .1 in
     ((ready .0 .0, omega arith), ready .1)
 
--- src/route.rt:72:1
 same-length : tie.Need-same-length
 same-length c = c .before .before .before .before .before .before .before .before .before .before .before .before .before .before .before .before .lay-within .kept .1 .1 .1 .0
 
--- src/route.rt:72:1
 same-length-2 : tie.Need-same-length-2
 same-length-2 c = c .before .before .before .before .before .before .before .before .before .before .before .before .before .before .before .before .lay-within .kept .1 .1 .1 .1 .0
 
--- src/route.rt:72:1
 same-length-3 : tie.Need-same-length-3
 same-length-3 c = c .before .before .before .before .before .before .before .before .before .before .before .before .before .before .before .before .lay-within .kept .1 .1 .1 .1 .1 .0
 
--- src/route.rt:72:1
 same-length-4 : tie.Need-same-length-4
 same-length-4 c = c .before .before .before .before .before .before .before .before .before .before .before .before .before .before .before .before .lay-within .kept .1 .1 .1 .1 .1 .1 .0
 
--- src/route.rt:72:1
 same-length-5 : tie.Need-same-length-5
 same-length-5 c = c .before .before .before .before .before .before .before .before .before .before .before .before .before .before .before .before .lay-within .kept .1 .1 .1 .1 .1 .1 .1 .0
 
--- src/route.rt:72:1
 same-length-6 : tie.Need-same-length-6
 same-length-6 c = c .before .before .before .before .before .before .before .before .before .before .before .before .before .before .before .before .lay-within .kept .1 .1 .1 .1 .1 .1 .1 .1 .0
 
--- src/route.rt:72:1
 same-length-7 : tie.Need-same-length-7
 same-length-7 c = c .before .before .before .before .before .before .before .before .before .before .before .before .before .before .before .before .lay-within .kept .1 .1 .1 .1 .1 .1 .1 .1 .1 .0
 
--- src/route.rt:72:1
 same-length-8 : tie.Need-same-length-8
 same-length-8 c = c .before .before .before .before .before .before .before .before .before .before .before .before .before .before .before .before .lay-within .kept .1 .1 .1 .1 .1 .1 .1 .1 .1 .1 .0
 
--- src/route.rt:72:1
 same-length-9 : tie.Need-same-length-9
 same-length-9 c = c .before .before .before .before .before .before .before .before .before .before .before .before .before .before .before .before .lay-within .kept .1 .1 .1 .1 .1 .1 .1 .1 .1 .1 .1 .0
 
--- src/route.rt:72:1
 same-length-10 : tie.Need-same-length-10
 same-length-10 c = c .before .before .before .before .before .before .before .before .before .before .before .before .before .before .before .before .lay-within .kept .1 .1 .1 .1 .1 .1 .1 .1 .1 .1 .1 .1 .0
 
--- src/route.rt:72:1
 same-length-11 : tie.Need-same-length-11
 same-length-11 c = c .before .before .before .before .before .before .before .before .before .before .before .before .before .before .before .before .lay-within .kept .1 .1 .1 .1 .1 .1 .1 .1 .1 .1 .1 .1 .1 .0
 
--- src/route.rt:72:1
 same-length-12 : tie.Need-same-length-12
 same-length-12 c = c .before .before .before .before .before .before .before .before .before .before .before .before .before .before .before .before .lay-within .kept .1 .1 .1 .1 .1 .1 .1 .1 .1 .1 .1 .1 .1 .1 .0
 
--- src/route.rt:72:1
 same-length-13 : tie.Need-same-length-13
 same-length-13 c = c .before .before .before .before .before .before .before .before .before .before .before .before .before .before .before .before .lay-within .kept .1 .1 .1 .1 .1 .1 .1 .1 .1 .1 .1 .1 .1 .1 .1 .0
 
--- src/route.rt:72:1
 returns : tie.Need-returns
 returns c =
     let d = c .before .before .before .before .before .before .before .before .before .before .before .before .before .before .before .before in
@@ -137,63 +118,48 @@ returns c =
     plan-refused (plan-of d) (a .rerouters .now) (a .bus-wires .now) (a .ports .now) (a .answers .now) (d .lay-within .last .1 .1 .1 .0) (d .lay-within .last .1 .1 .1 .1 .0) (d .lay-within .last .1 .1 .1 .1 .1 .0) _ _
     (bus-refusal (d .lay-within .last .1 .1 .1 .1 .1 .1 .0) (d .lay-within .last .1 .1 .1 .1 .1 .1 .1 .0) (d .lay-within .last .1 .1 .1 .1 .1 .1 .1 .1 .0) (d .lay-within .last .1 .1 .1 .1 .1 .1 .1 .1 .1 .0) (d .lay-within .last .1 .1 .1 .1 .1 .1 .1 .1 .1 .1 .0) (d .lay-within .last .1 .1 .1 .1 .1 .1 .1 .1 .1 .1 .1 .0) (start (d) .args .rerouters .now) (start (d) .args .bus-wires .now) (start (d) .args .ports .now) (d .lay-within .last .1 .1 .1 .0) (d .lay-within .last .1 .1 .1 .1 .0) (d .lay-within .last .1 .1 .1 .1 .1 .0) (plan-of d) (d .lay-within .result) _ _ (d .lay-within .ensures) (c .before .number .given .1))
 
--- src/route.rt:72:1
 same-length-14 : tie.Need-same-length-14
 same-length-14 c = c .before .before .before .before .before .before .before .before .before .before .add-corners .kept .1 .1 .1 .1 .0 ∙ c .before .before .before .before .before .before .before .before .before .before .before .before .before .before .before .before .before .before .before .before .before .before .before .before .before .before .before .before .before .before .before .before .before .before .before .before .lay-within .kept .1 .1 .1 .0
 
--- src/route.rt:72:1
 same-length-15 : tie.Need-same-length-15
 same-length-15 c = c .before .before .before .before .before .before .before .before .before .before .add-corners .kept .1 .1 .1 .1 .1 .1 .0 ∙ c .before .before .before .before .before .before .before .before .before .before .before .before .before .before .before .before .before .before .before .before .before .before .before .before .before .before .before .before .before .before .before .before .before .before .before .before .lay-within .kept .1 .1 .1 .1 .0
 
--- src/route.rt:72:1
 same-length-16 : tie.Need-same-length-16
 same-length-16 c = c .before .before .before .before .before .before .before .before .before .before .add-corners .kept .1 .1 .1 .1 .1 .1 .1 .1 .0 ∙ c .before .before .before .before .before .before .before .before .before .before .before .before .before .before .before .before .before .before .before .before .before .before .before .before .before .before .before .before .before .before .before .before .before .before .before .before .lay-within .kept .1 .1 .1 .1 .1 .0
 
--- src/route.rt:72:1
 same-length-17 : tie.Need-same-length-17
 same-length-17 c = c .before .write-pages .kept .1 .1 .0
 
--- src/route.rt:72:1
 same-length-18 : tie.Need-same-length-18
 same-length-18 c = c .before .before .before .before .before .before .before .before .before .before .before .before .before .before .before .before .before .before .before .before .before .before .before .before .before .before .before .before .before .before .before .before .before .before .before .before .lay-within .kept .1 .1 .1 .1 .1 .1 .0
 
--- src/route.rt:72:1
 same-length-19 : tie.Need-same-length-19
 same-length-19 c = c .before .before .before .before .before .before .before .before .before .before .before .before .before .before .before .before .before .before .before .before .before .before .before .before .before .before .before .before .before .before .before .before .before .before .before .before .lay-within .kept .1 .1 .1 .1 .1 .1 .1 .0
 
--- src/route.rt:72:1
 same-length-20 : tie.Need-same-length-20
 same-length-20 c = c .before .before .before .before .before .before .before .before .before .before .before .before .before .before .before .before .before .before .before .before .before .before .before .before .before .before .before .before .before .before .before .before .before .before .before .before .lay-within .kept .1 .1 .1 .1 .1 .1 .1 .1 .0
 
--- src/route.rt:72:1
 same-length-21 : tie.Need-same-length-21
 same-length-21 c = c .before .before .before .before .before .before .before .before .before .before .before .before .before .before .before .before .before .before .before .before .before .before .before .before .before .before .before .before .before .before .before .before .before .before .before .before .lay-within .kept .1 .1 .1 .1 .1 .1 .1 .1 .1 .0
 
--- src/route.rt:72:1
 same-length-22 : tie.Need-same-length-22
 same-length-22 c = c .before .before .before .before .before .before .before .before .before .before .before .before .before .before .before .before .before .before .before .before .before .before .before .before .before .before .before .before .before .before .before .before .before .before .before .before .lay-within .kept .1 .1 .1 .1 .1 .1 .1 .1 .1 .1 .0
 
--- src/route.rt:72:1
 same-length-23 : tie.Need-same-length-23
 same-length-23 c = c .before .before .before .before .before .before .before .before .before .before .before .before .before .before .before .before .before .before .before .before .before .before .before .before .before .before .before .before .before .before .before .before .before .before .before .before .lay-within .kept .1 .1 .1 .1 .1 .1 .1 .1 .1 .1 .1 .0
 
--- src/route.rt:72:1
 same-length-24 : tie.Need-same-length-24
 same-length-24 c = c .before .before .before .before .before .before .before .before .before .before .add-corners .kept .1 .1 .1 .1 .1 .1 .1 .1 .1 .1 .1 .0 ∙ c .before .before .before .before .before .before .before .before .before .before .before .before .before .before .before .before .before .before .before .before .before .before .before .before .before .before .before .before .before .before .before .before .before .before .before .before .lay-within .kept .1 .1 .1 .1 .1 .1 .1 .1 .1 .1 .1 .1 .0
 
--- src/route.rt:72:1
 same-length-25 : tie.Need-same-length-25
 same-length-25 c = c .before .before .before .before .before .before .before .before .before .before .before .before .before .before .before .before .before .before .before .before .before .before .before .before .before .before .before .before .before .before .before .before .before .before .before .before .lay-within .kept .1 .1 .1 .1 .1 .1 .1 .1 .1 .1 .1 .1 .1 .0
 
--- src/route.rt:72:1
 same-length-26 : tie.Need-same-length-26
 same-length-26 c = c .before .before .before .before .before .before .before .before .before .before .add-corners .kept .1 .1 .1 .1 .1 .1 .1 .1 .1 .1 .1 .1 .0 ∙ c .before .before .before .before .before .before .before .before .before .before .before .before .before .before .before .before .before .before .before .before .before .before .before .before .before .before .before .before .before .before .before .before .before .before .before .before .lay-within .kept .1 .1 .1 .1 .1 .1 .1 .1 .1 .1 .1 .1 .1 .1 .0
 
--- src/route.rt:72:1
 same-length-27 : tie.Need-same-length-27
 same-length-27 c = c .before .before .before .before .before .before .before .before .before .before .add-corners .kept .1 .1 .1 .1 .1 .1 .1 .1 .1 .1 .0 ∙ c .before .before .before .before .before .before .before .before .before .before .before .before .before .before .before .before .before .before .before .before .before .before .before .before .before .before .before .before .before .before .before .before .before .before .before .before .lay-within .kept .1 .1 .1 .1 .1 .1 .1 .1 .1 .1 .1 .1 .1 .1 .1 .0
 
--- src/route.rt:72:1
 returns-2 : tie.Need-returns-2
 unfolding told add-corners-requires
 returns-2 c =

@@ -22,7 +22,6 @@ abbrev put-digits-below : ℕ → In 1 put-digits-kinds.ps
 put-digits-below t =
     and 1 put-digits-kinds.ps (falls 1 put-digits-kinds.ps _<_ μ-put-digits t) put-digits.Pre
 
--- src/write.rt:29:9
 put-digits-returns : (t : ℕ) → put-digits-lts.Need-returns (
   put-byte-reads.Asked,
   put-byte-reads.Learnt,
@@ -31,7 +30,6 @@ put-digits-returns : (t : ℕ) → put-digits-lts.Need-returns (
 ) (put-digits-at t) put-digits.Post
 put-digits-returns t c = wrote-none _ _ _ _ (c .if1 .taken)
 
--- src/write.rt:32:41
 put-digits-cast-put-byte : (t : ℕ) → put-digits-lts.Need-cast-put-byte (
   put-byte-reads.Asked,
   put-byte-reads.Learnt,
@@ -40,7 +38,6 @@ put-digits-cast-put-byte : (t : ℕ) → put-digits-lts.Need-cast-put-byte (
 ) (put-digits-at t) put-digits.Post
 put-digits-cast-put-byte t c = search needs
 
--- src/write.rt:32:34
 put-digits-add-put-byte : (t : ℕ) → put-digits-lts.Need-add-put-byte (
   put-byte-reads.Asked,
   put-byte-reads.Learnt,
@@ -49,7 +46,6 @@ put-digits-add-put-byte : (t : ℕ) → put-digits-lts.Need-add-put-byte (
 ) (put-digits-at t) put-digits.Post
 put-digits-add-put-byte t c = search needs
 
--- src/write.rt:32:9
 put-digits-put-byte-requires : (t : ℕ) → put-digits-lts.Need-put-byte-requires (
   put-byte-reads.Asked,
   put-byte-reads.Learnt,
@@ -58,7 +54,6 @@ put-digits-put-byte-requires : (t : ℕ) → put-digits-lts.Need-put-byte-requir
 ) (put-digits-at t) put-digits.Post
 put-digits-put-byte-requires t c κs = omega (arith, c .before .before .if1 .left)
 
--- src/write.rt:32:9
 put-digits-same-length : (t : ℕ) → put-digits-lts.Need-same-length (
   put-byte-reads.Asked,
   put-byte-reads.Learnt,
@@ -67,7 +62,6 @@ put-digits-same-length : (t : ℕ) → put-digits-lts.Need-same-length (
 ) (put-digits-at t) put-digits.Post
 put-digits-same-length t c = search needs
 
--- src/write.rt:32:9
 put-digits-returns-2 : (t : ℕ) → put-digits-lts.Need-returns-2 (
   put-byte-reads.Asked,
   put-byte-reads.Learnt,
@@ -76,7 +70,6 @@ put-digits-returns-2 : (t : ℕ) → put-digits-lts.Need-returns-2 (
 ) (put-digits-at t) put-digits.Post
 put-digits-returns-2 t c = wrote-one _ _ _ _ _ _ (c .before .before .before .before .before .if1 .left) (search needs) (c .before .before .put-byte .ensures)
 
--- src/write.rt:34:36
 put-digits-sub-put-digits : (t : ℕ) → put-digits-lts.Need-sub-put-digits (
   put-byte-reads.Asked,
   put-byte-reads.Learnt,
@@ -85,7 +78,6 @@ put-digits-sub-put-digits : (t : ℕ) → put-digits-lts.Need-sub-put-digits (
 ) (put-digits-at t) put-digits.Post
 put-digits-sub-put-digits t c = omega (arith, c .before .before .if1 .left)
 
--- src/write.rt:34:9
 put-digits-put-digits-requires : (t : ℕ) → put-digits-lts.Need-put-digits-requires (
   put-byte-reads.Asked,
   put-byte-reads.Learnt,
@@ -94,7 +86,6 @@ put-digits-put-digits-requires : (t : ℕ) → put-digits-lts.Need-put-digits-re
 ) (put-digits-at t) put-digits.Post
 put-digits-put-digits-requires t c κs = (omega (arith, c .before .before .if1 .left), omega (arith, c .before .before .if1 .left))
 
--- src/write.rt:35:32
 put-digits-cast-put-byte-2 : (t : ℕ) → put-digits-lts.Need-cast-put-byte-2 (
   put-byte-reads.Asked,
   put-byte-reads.Learnt,
@@ -103,7 +94,6 @@ put-digits-cast-put-byte-2 : (t : ℕ) → put-digits-lts.Need-cast-put-byte-2 (
 ) (put-digits-at t) put-digits.Post
 put-digits-cast-put-byte-2 t c = search needs
 
--- src/write.rt:35:25
 put-digits-add-put-byte-2 : (t : ℕ) → put-digits-lts.Need-add-put-byte-2 (
   put-byte-reads.Asked,
   put-byte-reads.Learnt,
@@ -112,7 +102,6 @@ put-digits-add-put-byte-2 : (t : ℕ) → put-digits-lts.Need-add-put-byte-2 (
 ) (put-digits-at t) put-digits.Post
 put-digits-add-put-byte-2 t c = search needs
 
--- src/write.rt:35:5
 put-digits-put-byte-requires-2 : (t : ℕ) → put-digits-lts.Need-put-byte-requires-2 (
   put-byte-reads.Asked,
   put-byte-reads.Learnt,
@@ -128,7 +117,6 @@ put-digits-put-byte-requires-2 t c κs =
       digits-length (c .before .before .before .before .before .before .before .before .args .most - 1) (c .before .before .before .before .before .before .before .before .args .n / 10),
     )
 
--- src/write.rt:24:1
 put-digits-same-length-2 : (t : ℕ) → put-digits-lts.Need-same-length-2 (
   put-byte-reads.Asked,
   put-byte-reads.Learnt,
@@ -137,7 +125,6 @@ put-digits-same-length-2 : (t : ℕ) → put-digits-lts.Need-same-length-2 (
 ) (put-digits-at t) put-digits.Post
 put-digits-same-length-2 t c = search needs
 
--- src/write.rt:24:1
 put-digits-returns-3 : (t : ℕ) → put-digits-lts.Need-returns-3 (
   put-byte-reads.Asked,
   put-byte-reads.Learnt,

@@ -5,19 +5,15 @@ use Rattle.sheet.proofs.write.put_byte.Tie as tie
 use Rattle.sheet.proofs.write.put_byte.Reads as reads
 use Rattle.sheet.proofs.write.put_byte.Lts as lts
 
--- src/write.rt:19:5
 slice-write-out : tie.Need-slice-write-out
 slice-write-out c = search needs
 
--- src/write.rt:20:5
 add-result : tie.Need-add-result
 add-result c = search needs
 
--- src/write.rt:15:1
 same-length : tie.Need-same-length
 same-length c = search needs
 
--- src/write.rt:15:1
 returns : tie.Need-returns
 returns c = wrote-byte _ _ _ (c .pre)
 

@@ -13,23 +13,18 @@ use Rattle.sheet.proofs.write.put_coordinate.Lts as lts
 use Rattle.sheet.proofs.write.put_byte.Reads as put-byte-reads
 use Rattle.sheet.proofs.write.put_decimal.Reads as put-decimal-reads
 
--- src/write.rt:51:13
 put-byte-requires : tie.Need-put-byte-requires
 put-byte-requires c κs = search needs
 
--- src/write.rt:52:39
 sub-put-decimal : tie.Need-sub-put-decimal
 sub-put-decimal c = search needs
 
--- src/write.rt:52:9
 put-decimal-requires : tie.Need-put-decimal-requires
 put-decimal-requires c κs = search needs
 
--- src/write.rt:52:9
 same-length : tie.Need-same-length
 same-length c = search needs
 
--- src/write.rt:52:9
 returns : tie.Need-returns
 returns c =
     let few = decimal-length (ORIGIN - c .before .before .before .before .before .before .before .before .before .before .args .held) in
@@ -37,15 +32,12 @@ returns c =
     rw (coordinate-below (c .before .before .before .before .before .before .before .before .before .before .args .held) (search needs))
     (wrote-more _ _ _ _ _ _ (MINUS ∷ []) (decimal (ORIGIN - c .before .before .before .before .before .before .before .before .before .before .args .held)) (omega arith) (c .before .before .before .before .before .before .put-byte .ensures) (c .before .before .put-decimal .ensures))
 
--- src/write.rt:54:5
 put-decimal-requires-2 : tie.Need-put-decimal-requires-2
 put-decimal-requires-2 c κs = search needs
 
--- src/write.rt:46:1
 same-length-2 : tie.Need-same-length-2
 same-length-2 c = search needs
 
--- src/write.rt:46:1
 returns-2 : tie.Need-returns-2
 returns-2 c = rw (coordinate-above (c .before .before .before .before .before .before .args .held) (search needs)) (c .before .before .put-decimal2 .ensures)
 

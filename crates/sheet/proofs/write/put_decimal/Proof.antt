@@ -6,15 +6,12 @@ use Rattle.sheet.proofs.write.put_decimal.Reads as reads
 use Rattle.sheet.proofs.write.put_decimal.Lts as lts
 use Rattle.sheet.proofs.write.put_digits.Reads as put-digits-reads
 
--- src/write.rt:42:5
 put-digits-requires : tie.Need-put-digits-requires
 put-digits-requires c κs = search needs
 
--- src/write.rt:38:1
 same-length : tie.Need-same-length
 same-length c = search needs
 
--- src/write.rt:38:1
 returns : tie.Need-returns
 unfolding decimal
 returns c = c .before .before .put-digits .ensures

@@ -7,27 +7,21 @@ use Rattle.sheet.proofs.write.put_number.Lts as lts
 use Rattle.sheet.proofs.write.put_byte.Reads as put-byte-reads
 use Rattle.sheet.proofs.write.put_decimal.Reads as put-decimal-reads
 
--- src/write.rt:63:9
 put-byte-requires : tie.Need-put-byte-requires
 put-byte-requires c κs = search needs
 
--- src/write.rt:63:9
 same-length : tie.Need-same-length
 same-length c = search needs
 
--- src/write.rt:63:9
 returns : tie.Need-returns
 returns c = rw (number-missing (c .before .before .before .before .before .before .args .n) (search needs)) (c .before .before .put-byte .ensures)
 
--- src/write.rt:65:5
 put-decimal-requires : tie.Need-put-decimal-requires
 put-decimal-requires c κs = search needs
 
--- src/write.rt:58:1
 same-length-2 : tie.Need-same-length-2
 same-length-2 c = search needs
 
--- src/write.rt:58:1
 returns-2 : tie.Need-returns-2
 returns-2 c = rw (number-given (c .before .before .before .before .before .before .args .n) (search needs)) (c .before .before .put-decimal .ensures)
 

@@ -4,11 +4,9 @@ use Rattle.text.proofs.plan_sheet.end_letter.Tie as tie
 use Rattle.text.proofs.plan_sheet.end_letter.Reads as reads
 use Rattle.text.proofs.plan_sheet.end_letter.Lts as lts
 
--- src/plan_sheet.rt:107:1
 returns : tie.Need-returns
 returns c = letter-rerouter _ (c .if1 .taken)
 
--- src/plan_sheet.rt:107:1
 returns-2 : tie.Need-returns-2
 returns-2 c = letter-port _ (c .if1 .left)
 

@@ -11,79 +11,60 @@ use Rattle.text.proofs.plan_sheet.put_brick_line.Lts as lts
 use Rattle.text.proofs.plan_sheet.inward.Reads as inward-reads
 use Rattle.text.proofs.plan_sheet.put_line.Reads as put-line-reads
 
--- src/plan_sheet.rt:88:18
 cast-number : tie.Need-cast-number
 cast-number c = search needs
 
--- src/plan_sheet.rt:89:13
 mul-b : tie.Need-mul-b
 mul-b c = search needs
 
--- src/plan_sheet.rt:89:13
 shared-slice-copy-out-b : tie.Need-shared-slice-copy-out-b
 shared-slice-copy-out-b c = search needs
 
--- src/plan_sheet.rt:92:29
 array-read-inward : tie.Need-array-read-inward
 array-read-inward c = search needs
 
--- src/plan_sheet.rt:92:22
 inward-requires : tie.Need-inward-requires
 inward-requires c κs = search needs
 
--- src/plan_sheet.rt:93:29
 array-read-inward-2 : tie.Need-array-read-inward-2
 array-read-inward-2 c = search needs
 
--- src/plan_sheet.rt:93:22
 inward-requires-2 : tie.Need-inward-requires-2
 inward-requires-2 c κs = search needs
 
--- src/plan_sheet.rt:94:29
 array-read-inward-3 : tie.Need-array-read-inward-3
 array-read-inward-3 c = search needs
 
--- src/plan_sheet.rt:94:22
 inward-requires-3 : tie.Need-inward-requires-3
 inward-requires-3 c κs = search needs
 
--- src/plan_sheet.rt:95:19
 array-read-t29 : tie.Need-array-read-t29
 array-read-t29 c = search needs
 
--- src/plan_sheet.rt:96:19
 array-read-t33 : tie.Need-array-read-t33
 array-read-t33 c = search needs
 
--- src/plan_sheet.rt:97:19
 array-read-t37 : tie.Need-array-read-t37
 array-read-t37 c = search needs
 
--- src/plan_sheet.rt:98:19
 array-read-t41 : tie.Need-array-read-t41
 array-read-t41 c = search needs
 
--- src/plan_sheet.rt:99:19
 array-read-t45 : tie.Need-array-read-t45
 array-read-t45 c = search needs
 
--- src/plan_sheet.rt:100:18
 array-read-t49 : tie.Need-array-read-t49
 array-read-t49 c = search needs
 
--- src/plan_sheet.rt:102:29
 slice-aggregate-put-line : tie.Need-slice-aggregate-put-line
 slice-aggregate-put-line c = search needs
 
--- src/plan_sheet.rt:102:5
 put-line-requires : tie.Need-put-line-requires
 put-line-requires c κs = search needs
 
--- src/plan_sheet.rt:83:1
 same-length : tie.Need-same-length
 same-length c = search needs
 
--- src/plan_sheet.rt:83:1
 returns : tie.Need-returns
 returns c = (
   rw (brick-text _ (getD (now (c .before .before .before .before .before .before .before .before .before .before .args .rerouters)) (c .before .before .before .before .before .before .before .before .before .before .args .n) []) _ _ _ (c .before .before .before .before .before .before .before .inward .ensures) (c .before .before .before .before .before .before .inward2 .ensures) (c .before .before .before .before .before .inward3 .ensures))

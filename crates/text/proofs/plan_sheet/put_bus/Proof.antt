@@ -8,19 +8,15 @@ use Rattle.text.proofs.plan_sheet.put_bus.Lts as lts
 use Rattle.text.proofs.plan_sheet.put_brick_lines.Reads as put-brick-lines-reads
 use Rattle.text.proofs.plan_sheet.put_wire_lines.Reads as put-wire-lines-reads
 
--- src/plan_sheet.rt:234:9
 put-brick-lines-requires : tie.Need-put-brick-lines-requires
 put-brick-lines-requires c κs = search needs
 
--- src/plan_sheet.rt:235:5
 put-wire-lines-requires : tie.Need-put-wire-lines-requires
 put-wire-lines-requires c κs = search needs
 
--- src/plan_sheet.rt:229:1
 same-length : tie.Need-same-length
 same-length c = search needs
 
--- src/plan_sheet.rt:229:1
 returns : tie.Need-returns
 returns c =
     let bricks = c .before .before .before .before .before .before .put-brick-lines .ensures in

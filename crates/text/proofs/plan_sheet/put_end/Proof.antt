@@ -8,19 +8,15 @@ use Rattle.text.proofs.plan_sheet.put_end.Lts as lts
 use Rattle.text.proofs.plan_sheet.put_port_lines.Reads as put-port-lines-reads
 use Rattle.text.proofs.plan_sheet.put_total_line.Reads as put-total-line-reads
 
--- src/plan_sheet.rt:243:9
 put-port-lines-requires : tie.Need-put-port-lines-requires
 put-port-lines-requires c κs = search needs
 
--- src/plan_sheet.rt:244:5
 put-total-line-requires : tie.Need-put-total-line-requires
 put-total-line-requires c κs = search needs
 
--- src/plan_sheet.rt:239:1
 same-length : tie.Need-same-length
 same-length c = search needs
 
--- src/plan_sheet.rt:239:1
 returns : tie.Need-returns
 returns c =
     let ports = c .before .before .before .before .before .before .put-port-lines .ensures in

@@ -12,19 +12,15 @@ use Rattle.text.proofs.plan_sheet.put_field.Lts as lts
 use Rattle.text.proofs.plan_sheet.put_text.Reads as put-text-reads
 use Rattle.sheet.proofs.write.put_byte.Reads as put-byte-reads
 
--- src/plan_sheet.rt:45:9
 put-byte-requires : tie.Need-put-byte-requires
 put-byte-requires c κs = search needs
 
--- src/plan_sheet.rt:46:5
 put-text-requires : tie.Need-put-text-requires
 put-text-requires c κs = search needs
 
--- src/plan_sheet.rt:40:1
 same-length : tie.Need-same-length
 same-length c = search needs
 
--- src/plan_sheet.rt:40:1
 returns : tie.Need-returns
 returns c =
     let f : List ℕ = (c .before .before .before .before .before .before .before .before .before .args .how ∷ c .before .before .before .before .before .before .before .before .before .args .what ∷ []) in

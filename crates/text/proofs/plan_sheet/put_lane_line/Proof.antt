@@ -7,47 +7,36 @@ use Rattle.text.proofs.plan_sheet.put_lane_line.Reads as reads
 use Rattle.text.proofs.plan_sheet.put_lane_line.Lts as lts
 use Rattle.text.proofs.plan_sheet.put_line.Reads as put-line-reads
 
--- src/plan_sheet.rt:70:16
 cast-page : tie.Need-cast-page
 cast-page c = search needs
 
--- src/plan_sheet.rt:71:46
 mul-t8 : tie.Need-mul-t8
 mul-t8 c = search needs
 
--- src/plan_sheet.rt:71:46
 index-1-t12 : tie.Need-index-1-t12
 index-1-t12 c = search needs
 
--- src/plan_sheet.rt:71:46
 index-2-t12 : tie.Need-index-2-t12
 index-2-t12 c = search needs
 
--- src/plan_sheet.rt:71:70
 mul-t14 : tie.Need-mul-t14
 mul-t14 c = search needs
 
--- src/plan_sheet.rt:71:70
 index-1-t18 : tie.Need-index-1-t18
 index-1-t18 c = search needs
 
--- src/plan_sheet.rt:71:70
 index-2-t18 : tie.Need-index-2-t18
 index-2-t18 c = search needs
 
--- src/plan_sheet.rt:72:29
 slice-aggregate-put-line : tie.Need-slice-aggregate-put-line
 slice-aggregate-put-line c = search needs
 
--- src/plan_sheet.rt:72:5
 put-line-requires : tie.Need-put-line-requires
 put-line-requires c κs = search needs
 
--- src/plan_sheet.rt:65:1
 same-length : tie.Need-same-length
 same-length c = search needs
 
--- src/plan_sheet.rt:65:1
 returns : tie.Need-returns
 unfolding fieldText
 returns c = (c .before .before .put-line .ensures .0, omega (arith, c .before .before .put-line .ensures .1))

@@ -22,52 +22,40 @@ Inv-loop out₀ at letter fields next₀ i₀ out next i =
 abbrev μ-loop : tie.MeasureT-loop
 μ-loop out₀ at letter fields next₀ i₀ out next i = length fields - i
 
--- src/plan_sheet.rt:54:9
 put-byte-requires : tie.Need-put-byte-requires Inv-loop μ-loop
 put-byte-requires c κs = search needs
 
--- src/plan_sheet.rt:56:5
 loop-holds : tie.Need-loop-holds Inv-loop μ-loop
 unfolding tabs
 loop-holds c = (search needs, search needs, search needs, wrote-nothing _ _)
 
--- src/plan_sheet.rt:57:37
 mul-put-field : tie.Need-mul-put-field Inv-loop μ-loop
 mul-put-field c = search needs
 
--- src/plan_sheet.rt:57:37
 index-1-put-field : tie.Need-index-1-put-field Inv-loop μ-loop
 index-1-put-field c = search needs
 
--- src/plan_sheet.rt:57:37
 index-2-put-field : tie.Need-index-2-put-field Inv-loop μ-loop
 index-2-put-field c = search needs
 
--- src/plan_sheet.rt:57:51
 mul-put-field-2 : tie.Need-mul-put-field-2 Inv-loop μ-loop
 mul-put-field-2 c = search needs
 
--- src/plan_sheet.rt:57:51
 index-1-put-field-2 : tie.Need-index-1-put-field-2 Inv-loop μ-loop
 index-1-put-field-2 c = search needs
 
--- src/plan_sheet.rt:57:51
 index-2-put-field-2 : tie.Need-index-2-put-field-2 Inv-loop μ-loop
 index-2-put-field-2 c = search needs
 
--- src/plan_sheet.rt:57:9
 put-field-requires : tie.Need-put-field-requires Inv-loop μ-loop
 put-field-requires c κs = search needs
 
--- src/plan_sheet.rt:58:9
 add-i : tie.Need-add-i Inv-loop μ-loop
 add-i c = search needs
 
--- src/plan_sheet.rt:56:5
 loop-less : tie.Need-loop-less Inv-loop μ-loop
 loop-less c = search needs
 
--- src/plan_sheet.rt:56:5
 loop-again : tie.Need-loop-again Inv-loop μ-loop
 loop-again c =
     let written = c .before .before .put-field .ensures in
@@ -78,15 +66,12 @@ loop-again c =
       line-step _ _ _ _ _ _ (c .before .before .before .before .before .before .before .loop .i) (c .before .before .before .before .before .before .before .before .before .before .before .before .before .args .fields .now) (search needs) room (c .before .before .before .before .before .before .before .loop .inv .1) (written .1) (c .before .before .before .before .before .before .before .loop .inv .3) (written .0),
     )
 
--- src/plan_sheet.rt:60:5
 put-byte-requires-2 : tie.Need-put-byte-requires-2 Inv-loop μ-loop
 put-byte-requires-2 c κs = search needs
 
--- src/plan_sheet.rt:50:1
 same-length : tie.Need-same-length Inv-loop μ-loop
 same-length c = search needs
 
--- src/plan_sheet.rt:50:1
 returns : tie.Need-returns Inv-loop μ-loop
 returns c =
     let done = c .before .before .before .before .before .loop .inv in

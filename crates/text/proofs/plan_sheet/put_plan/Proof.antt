@@ -9,23 +9,18 @@ use Rattle.text.proofs.plan_sheet.put_bus.Reads as put-bus-reads
 use Rattle.text.proofs.plan_sheet.put_end.Reads as put-end-reads
 use Rattle.text.proofs.plan_sheet.put_lane_lines.Reads as put-lane-lines-reads
 
--- src/plan_sheet.rt:263:9
 put-lane-lines-requires : tie.Need-put-lane-lines-requires
 put-lane-lines-requires c κs = search needs
 
--- src/plan_sheet.rt:264:9
 put-bus-requires : tie.Need-put-bus-requires
 put-bus-requires c κs = search needs
 
--- src/plan_sheet.rt:265:5
 put-end-requires : tie.Need-put-end-requires
 put-end-requires c κs = search needs
 
--- src/plan_sheet.rt:248:1
 same-length : tie.Need-same-length
 same-length c = search needs
 
--- src/plan_sheet.rt:248:1
 returns : tie.Need-returns
 returns c =
     let lanes = c .before .before .before .before .before .before .before .before .before .before .put-lane-lines .ensures in

@@ -18,23 +18,18 @@ Inv-loop out₀ at ports n next₀ k₀ out next k =
 abbrev μ-loop : tie.MeasureT-loop
 μ-loop out₀ at ports n next₀ k₀ out next k = n - k
 
--- src/plan_sheet.rt:194:5
 loop-holds : tie.Need-loop-holds Inv-loop μ-loop
 loop-holds c = (search needs, search needs, lines-none _ _ _ _)
 
--- src/plan_sheet.rt:195:9
 put-port-line-requires : tie.Need-put-port-line-requires Inv-loop μ-loop
 put-port-line-requires c κs = search needs
 
--- src/plan_sheet.rt:196:9
 add-k : tie.Need-add-k Inv-loop μ-loop
 add-k c = search needs
 
--- src/plan_sheet.rt:194:5
 loop-less : tie.Need-loop-less Inv-loop μ-loop
 loop-less c = search needs
 
--- src/plan_sheet.rt:194:5
 loop-again : tie.Need-loop-again Inv-loop μ-loop
 loop-again c =
     let line = c .before .before .put-port-line .ensures in
@@ -43,11 +38,9 @@ loop-again c =
     let so-far = inv .2 .most in
     (search needs, search needs, lines-step portLineIn _ _ _ _ _ _ (c .before .before .before .before .before .loop .k) (c .before .before .before .before .before .before .before .args .ports .now) (search needs) (omega arith) (inv .1) (line .1) (inv .2) (line .0))
 
--- src/plan_sheet.rt:188:1
 same-length : tie.Need-same-length Inv-loop μ-loop
 same-length c = search needs
 
--- src/plan_sheet.rt:188:1
 returns : tie.Need-returns Inv-loop μ-loop
 returns c =
     let all : c .before .loop .k ≡ c .before .before .before .args .n = omega arith in

@@ -9,55 +9,42 @@ use Rattle.sheet.proofs.write.put_coordinate.Reads as put-coordinate-reads
 use Rattle.sheet.proofs.write.put_decimal.Reads as put-decimal-reads
 use Rattle.sheet.proofs.write.put_number.Reads as put-number-reads
 
--- src/plan_sheet.rt:28:9
 put-decimal-requires : tie.Need-put-decimal-requires
 put-decimal-requires c κs = search needs
 
--- src/plan_sheet.rt:28:9
 same-length : tie.Need-same-length
 same-length c = search needs
 
--- src/plan_sheet.rt:28:9
 returns : tie.Need-returns
 returns c = rw (text-decimal _ _ (c .before .before .before .before .if1 .taken)) (c .before .before .put-decimal .ensures)
 
--- src/plan_sheet.rt:31:9
 put-coordinate-requires : tie.Need-put-coordinate-requires
 put-coordinate-requires c κs = search needs
 
--- src/plan_sheet.rt:31:9
 same-length-2 : tie.Need-same-length-2
 same-length-2 c = search needs
 
--- src/plan_sheet.rt:31:9
 returns-2 : tie.Need-returns-2
 returns-2 c = rw (text-coordinate _ _ (c .before .before .before .before .if2 .taken)) (c .before .before .put-coordinate .ensures)
 
--- src/plan_sheet.rt:34:9
 put-number-requires : tie.Need-put-number-requires
 put-number-requires c κs = search needs
 
--- src/plan_sheet.rt:34:9
 same-length-3 : tie.Need-same-length-3
 same-length-3 c = search needs
 
--- src/plan_sheet.rt:34:9
 returns-3 : tie.Need-returns-3
 returns-3 c = rw (text-number _ _ (c .before .before .before .before .if3 .taken)) (c .before .before .put-number .ensures)
 
--- src/plan_sheet.rt:36:23
 cast-put-byte : tie.Need-cast-put-byte
 cast-put-byte c = search needs
 
--- src/plan_sheet.rt:36:5
 put-byte-requires : tie.Need-put-byte-requires
 put-byte-requires c κs = search needs
 
--- src/plan_sheet.rt:23:1
 same-length-4 : tie.Need-same-length-4
 same-length-4 c = search needs
 
--- src/plan_sheet.rt:23:1
 returns-4 : tie.Need-returns-4
 returns-4 c = rw (text-letter _ _ (c .before .before .before .before .before .before .if1 .left) (c .before .before .before .before .before .if2 .left) (c .before .before .before .before .if3 .left)) (c .before .before .put-byte .ensures)
 

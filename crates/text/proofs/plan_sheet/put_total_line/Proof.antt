@@ -7,19 +7,15 @@ use Rattle.text.proofs.plan_sheet.put_total_line.Reads as reads
 use Rattle.text.proofs.plan_sheet.put_total_line.Lts as lts
 use Rattle.text.proofs.plan_sheet.put_line.Reads as put-line-reads
 
--- src/plan_sheet.rt:216:29
 slice-aggregate-put-line : tie.Need-slice-aggregate-put-line
 slice-aggregate-put-line c = search needs
 
--- src/plan_sheet.rt:216:5
 put-line-requires : tie.Need-put-line-requires
 put-line-requires c κs = search needs
 
--- src/plan_sheet.rt:211:1
 same-length : tie.Need-same-length
 same-length c = search needs
 
--- src/plan_sheet.rt:211:1
 returns : tie.Need-returns
 unfolding fieldText
 returns c = (c .before .before .put-line .ensures .0, omega (arith, c .before .before .put-line .ensures .1))

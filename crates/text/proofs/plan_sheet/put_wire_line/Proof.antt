@@ -11,67 +11,51 @@ use Rattle.text.proofs.plan_sheet.put_wire_line.Lts as lts
 use Rattle.text.proofs.plan_sheet.end_letter.Reads as end-letter-reads
 use Rattle.text.proofs.plan_sheet.put_line.Reads as put-line-reads
 
--- src/plan_sheet.rt:119:13
 mul-w : tie.Need-mul-w
 mul-w c = search needs
 
--- src/plan_sheet.rt:119:13
 shared-slice-copy-out-w : tie.Need-shared-slice-copy-out-w
 shared-slice-copy-out-w c = search needs
 
--- src/plan_sheet.rt:121:29
 array-read-end-letter : tie.Need-array-read-end-letter
 array-read-end-letter c = search needs
 
--- src/plan_sheet.rt:121:18
 end-letter-requires : tie.Need-end-letter-requires
 end-letter-requires c κs = search needs
 
--- src/plan_sheet.rt:122:19
 array-read-t17 : tie.Need-array-read-t17
 array-read-t17 c = search needs
 
--- src/plan_sheet.rt:123:18
 array-read-t21 : tie.Need-array-read-t21
 array-read-t21 c = search needs
 
--- src/plan_sheet.rt:124:29
 array-read-end-letter-2 : tie.Need-array-read-end-letter-2
 array-read-end-letter-2 c = search needs
 
--- src/plan_sheet.rt:124:18
 end-letter-requires-2 : tie.Need-end-letter-requires-2
 end-letter-requires-2 c κs = search needs
 
--- src/plan_sheet.rt:125:19
 array-read-t30 : tie.Need-array-read-t30
 array-read-t30 c = search needs
 
--- src/plan_sheet.rt:126:18
 array-read-t34 : tie.Need-array-read-t34
 array-read-t34 c = search needs
 
--- src/plan_sheet.rt:127:18
 array-read-t38 : tie.Need-array-read-t38
 array-read-t38 c = search needs
 
--- src/plan_sheet.rt:128:18
 array-read-t42 : tie.Need-array-read-t42
 array-read-t42 c = search needs
 
--- src/plan_sheet.rt:130:29
 slice-aggregate-put-line : tie.Need-slice-aggregate-put-line
 slice-aggregate-put-line c = search needs
 
--- src/plan_sheet.rt:130:5
 put-line-requires : tie.Need-put-line-requires
 put-line-requires c κs = search needs
 
--- src/plan_sheet.rt:114:1
 same-length : tie.Need-same-length
 same-length c = search needs
 
--- src/plan_sheet.rt:114:1
 returns : tie.Need-returns
 returns c = (
   rw (wire-text (getD (now (c .before .before .before .before .before .before .before .before .before .args .wires)) (c .before .before .before .before .before .before .before .before .before .args .n) []) _ _ (c .before .before .before .before .before .before .end-letter .ensures) (c .before .before .before .before .before .end-letter2 .ensures))

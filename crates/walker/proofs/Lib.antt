@@ -1,0 +1,4 @@
+-- Laws that belong to no one function.
+pub mod Ends
+pub mod Held
+pub mod Along
