@@ -91,8 +91,8 @@ pub struct Buffers {
     ports: Box<[PortRow]>,
     pages: Box<[PageRow]>,
     records: Box<[RecordRow]>,
-    tables: [Box<[TableRow]>; 8],
-    marks: Box<[TableRow]>,
+    /// Eight tables, and the marks.
+    tables: [Box<[TableRow]>; 9],
     held: Held,
 }
 
@@ -131,40 +131,19 @@ impl Buffers {
             ports: rows(wires),
             pages: rows(pages),
             records: rows(records),
-            tables: std::array::from_fn(|_| rows(records)),
-            marks: rows(2 * records),
+            tables: std::array::from_fn(|k| rows(if k < 8 { records } else { 2 * records })),
             held: Held::default(),
         }
     }
 
     fn lent(&mut self) -> (Output<'_>, &mut [PageRow], Work<'_>) {
-        let [
-            node_facts,
-            wire_facts,
-            taps,
-            groups,
-            page_facts,
-            demands,
-            keys,
-            spare,
-        ] = &mut self.tables;
         let out = Output {
             rerouters: &mut self.rerouters,
             bus_wires: &mut self.bus_wires,
             ports: &mut self.ports,
         };
-        let work = Work {
-            records: &mut self.records,
-            node_facts,
-            wire_facts,
-            taps,
-            groups,
-            page_facts,
-            demands,
-            keys,
-            spare,
-            marks: &mut self.marks,
-        };
+        let tables = self.tables.each_mut().map(|table| &mut table[..]);
+        let work = Work::new(&mut self.records, tables);
         (out, &mut self.pages, work)
     }
 
@@ -306,9 +285,8 @@ mod tests {
         assert_eq!(buffers.bus_wires.len(), 49_152);
         assert_eq!(buffers.ports.len(), 8_192);
         assert_eq!(buffers.pages.len(), 64);
-        let work = 16 * buffers.records.len()
-            + 8 * buffers.tables.iter().map(|t| t.len()).sum::<usize>()
-            + 8 * buffers.marks.len();
+        let work =
+            16 * buffers.records.len() + 8 * buffers.tables.iter().map(|t| t.len()).sum::<usize>();
         assert_eq!(work, 96 * 20_800);
     }
 }

@@ -122,6 +122,36 @@ pub struct Work<'a> {
     pub marks: &'a mut [TableRow],
 }
 
+impl<'a> Work<'a> {
+    /// Work space from its records and its nine tables, in the order of the
+    /// fields: the marks are the last.
+    pub fn new(records: &'a mut [RecordRow], tables: [&'a mut [TableRow]; 9]) -> Self {
+        let [
+            node_facts,
+            wire_facts,
+            taps,
+            groups,
+            page_facts,
+            demands,
+            keys,
+            spare,
+            marks,
+        ] = tables;
+        Self {
+            records,
+            node_facts,
+            wire_facts,
+            taps,
+            groups,
+            page_facts,
+            demands,
+            keys,
+            spare,
+            marks,
+        }
+    }
+}
+
 /// A function of the library: numbers by value, and slices that pass as a
 /// pointer and a length each, `&` before `&mut`.
 macro_rules! declare {

@@ -105,34 +105,13 @@ impl Lent {
     }
 
     fn route(&mut self, text: &[u8]) -> PlanNumbers {
-        let [
-            node_facts,
-            wire_facts,
-            taps,
-            groups,
-            page_facts,
-            demands,
-            keys,
-            spare,
-            marks,
-        ] = &mut self.tables;
         let out = Output {
             rerouters: &mut self.rerouters,
             bus_wires: &mut self.bus_wires,
             ports: &mut self.ports,
         };
-        let work = Work {
-            records: &mut self.records,
-            node_facts,
-            wire_facts,
-            taps,
-            groups,
-            page_facts,
-            demands,
-            keys,
-            spare,
-            marks,
-        };
+        let tables = self.tables.each_mut().map(|table| &mut table[..]);
+        let work = Work::new(&mut self.records, tables);
         calls::route(text, out, &mut self.pages, work)
     }
 

@@ -170,34 +170,15 @@ impl Room {
     }
 
     fn lent(&mut self) -> (Output<'_>, &mut [PageRow], Work<'_>) {
-        let [
-            node_facts,
-            wire_facts,
-            taps,
-            groups,
-            page_facts,
-            demands,
-            keys,
-            spare,
-            marks,
-        ] = self.tables.each_mut().map(Buffer::slice);
         let out = Output {
             rerouters: self.rerouters.slice(),
             bus_wires: self.bus_wires.slice(),
             ports: self.ports.slice(),
         };
-        let work = Work {
-            records: self.records.slice(),
-            node_facts,
-            wire_facts,
-            taps,
-            groups,
-            page_facts,
-            demands,
-            keys,
-            spare,
-            marks,
-        };
+        let work = Work::new(
+            self.records.slice(),
+            self.tables.each_mut().map(Buffer::slice),
+        );
         (out, self.answers.slice(), work)
     }
 
