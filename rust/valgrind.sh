@@ -18,4 +18,5 @@ watched "$seed" 5 full
 watched "$seed" 5 many-lanes
 watched "$seed" 1 full-typical
 watched "$seed" 300 lanes
+watched "$seed" 1000 handed
 echo "valgrind: no access outside of what was lent"

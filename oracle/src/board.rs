@@ -1,5 +1,5 @@
-//! The board sheet, read from document 01: "The board sheet" and "What turns a
-//! board away", refusals 1 to 7. (8 needs the lanes: see `harness`.)
+//! The board sheet, read from document 01 (rules S and E of `docs/RULES.md`):
+//! refusals 1 to 7. (8 needs the lanes: see `harness`.)
 
 use std::collections::HashSet;
 
@@ -139,7 +139,7 @@ const FIELDS: [&[Field]; 6] = [
     &[ID, PORT],
     &[ID, PORT, ID, PORT],
 ];
-/// Fields of an N that are missing together or not: x y, page down.
+/// S3: where x is missing so is y, where page is missing so is down.
 const PAIRS: [(usize, usize); 2] = [(7, 8), (9, 10)];
 const SECTION_N: usize = 1;
 
@@ -149,7 +149,7 @@ struct Row {
     fields: Vec<Option<i64>>,
 }
 
-/// Reads a sheet. The refusals are tried in order, each over all records.
+/// Reads a sheet. E9: a refusal is tried on all lines before the next one.
 pub fn parse(text: &[u8], limits: &Limits) -> Result<Board, Refusal> {
     if limits.bytes.is_some_and(|most| text.len() > most) {
         return Err(Refusal::new(2, 0));
@@ -324,8 +324,7 @@ impl Board {
     }
 }
 
-/// Refusal 4: the first line whose id an earlier one has, among N and F or
-/// among C.
+/// E4: the first line whose id an earlier N or F has, or of a C an earlier C.
 fn id_twice(board: &Board) -> Option<usize> {
     let [_, n, c, f, _, _] = board.line_starts();
     let nodes = board
@@ -358,8 +357,7 @@ fn first_repeat(ids: impl Iterator<Item = (usize, u32)>) -> Option<usize> {
     None
 }
 
-/// Refusal 5: a page, chip or earlier parent that is not there, or a top C
-/// that is no body Chip.
+/// E5: the first line that names what is not there.
 fn not_there(board: &Board) -> Option<usize> {
     let [_, n, c, f, _, _] = board.line_starts();
     let no_page = |r: &Node| r.row.is_some_and(|(page, _)| page >= board.pages.len());

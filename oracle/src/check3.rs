@@ -116,8 +116,8 @@ fn ends(case: &Case) -> Option<String> {
     Some(format!("bus wire {i} names a rerouter that is not there"))
 }
 
-/// Each rerouter has exactly one bus wire arriving, from a port or from a
-/// rerouter with a lower number.
+/// W7: one bus wire and no more arrives at each rerouter, and it leaves a port
+/// or an earlier rerouter.
 fn feeder(case: &Case) -> Option<String> {
     let bad = |(r, from): (usize, &Vec<End>)| match from[..] {
         [End::Port(_)] => None,
@@ -156,7 +156,7 @@ fn names(case: &Case) -> Option<String> {
     (!right).then(|| format!("totals {:?}", case.plan.totals))
 }
 
-/// Each delivery goes to the target of the wire it names.
+/// W9: a delivery's target is its wire's.
 fn target(case: &Case) -> Option<String> {
     let bad = |(i, b, to): (usize, &BusWire, Port)| {
         let wire = case.board.wires.get(b.delivery?.0)?;
@@ -166,7 +166,7 @@ fn target(case: &Case) -> Option<String> {
     Some(format!("bus wire {i} ends at another port than its wire"))
 }
 
-/// The way back ends at the source of the wire named.
+/// W9: the port that the way back comes to is its wire's source.
 fn source(case: &Case) -> Option<String> {
     let bad = |(i, b, _): (usize, &BusWire, Port)| {
         let wire = case.board.wires.get(b.delivery?.0)?;
@@ -179,7 +179,7 @@ fn source(case: &Case) -> Option<String> {
     ))
 }
 
-/// No wire is delivered twice.
+/// W10: a wire has one delivery at most.
 fn twice(case: &Case) -> Option<String> {
     let mut seen = vec![false; case.board.wires.len()];
     for b in &case.plan.bus_wires {
@@ -193,14 +193,14 @@ fn twice(case: &Case) -> Option<String> {
     None
 }
 
-/// Bus wires are as many as rerouters and deliveries.
+/// W11: the counts add up.
 fn sum(case: &Case) -> Option<String> {
     let right = case.plan.rerouters.len() + case.deliveries().count();
     let have = case.plan.bus_wires.len();
     (have != right).then(|| format!("{have} bus wires, not {right}"))
 }
 
-/// The stored distance is the count of rerouters on the way back.
+/// W9: the distance stored, counted again.
 fn distance(case: &Case) -> Option<String> {
     let bad = |(i, b, _): (usize, &BusWire, Port)| {
         let (_, stored) = b.delivery?;
@@ -210,7 +210,7 @@ fn distance(case: &Case) -> Option<String> {
     case.deliveries().find_map(bad)
 }
 
-/// The distance through a corner is 1.
+/// W12: the distance of a delivery that leaves a corner.
 fn corner(case: &Case) -> Option<String> {
     let bad = |(i, b, _): (usize, &BusWire, Port)| {
         let (_, stored) = b.delivery?;
@@ -220,8 +220,7 @@ fn corner(case: &Case) -> Option<String> {
     case.deliveries().find_map(bad)
 }
 
-/// Otherwise it is at most 3, the group's rows up to its own and its columns
-/// on its row.
+/// W13: the bound on the distance of any other.
 fn bound(case: &Case) -> Option<String> {
     let bad = |(i, b, _): (usize, &BusWire, Port)| {
         let (wire, stored) = b.delivery?;
@@ -239,7 +238,7 @@ fn bound(case: &Case) -> Option<String> {
     case.deliveries().find_map(bad)
 }
 
-/// No two of a page's heads, links and taps overlap.
+/// W14: lane bricks lie apart.
 fn overlap(case: &Case) -> Option<String> {
     let mut near: HashMap<(usize, i32, i32), Vec<usize>> = HashMap::new();
     let bricks = &case.plan.rerouters;

@@ -43,7 +43,7 @@ pub struct Group {
 }
 
 impl Group {
-    /// The distinct rows of the target anchors, ascending.
+    /// W5: the rows of its taps, each once and rising.
     pub fn rows(&self) -> Vec<usize> {
         let mut rows: Vec<usize> = self.taps.iter().map(|t| t.row).collect();
         rows.sort_unstable();
@@ -51,7 +51,7 @@ impl Group {
         rows
     }
 
-    /// The distinct y of the target anchors on a row.
+    /// W5: how many different y its taps have on a row.
     pub fn columns(&self, row: usize) -> usize {
         let on_row = self.taps.iter().filter(|t| t.row == row);
         let mut ys: Vec<i32> = on_row.map(|t| t.y).collect();
@@ -67,7 +67,7 @@ pub struct Facts<'a> {
     /// An inner node's top chip and class.
     inners: HashMap<u32, (u32, u8)>,
     execs: HashSet<Port>,
-    /// Each page's distinct downs, ascending: a row is its place here.
+    /// C4: each page's downs, each once and rising: a row is its place here.
     pub downs: Vec<Vec<i32>>,
 }
 
@@ -99,7 +99,7 @@ impl<'a> Facts<'a> {
         self.nodes.get(&id).map(|i| &self.board.nodes[*i])
     }
 
-    /// The body node itself, or the top chip of an F.
+    /// G2: an N is its own anchor, an F has that of its chip's top chip.
     pub fn anchor(&self, id: u32) -> Option<&'a Node> {
         self.body(id)
             .or_else(|| self.inners.get(&id).and_then(|(top, _)| self.body(*top)))
@@ -112,7 +112,7 @@ impl<'a> Facts<'a> {
             .or_else(|| self.inners.get(&id).map(|(_, class)| *class))
     }
 
-    /// Whether a port is marked X.
+    /// G6: whether an X names a port.
     pub fn is_exec(&self, port: Port) -> bool {
         self.execs.contains(&port)
     }
@@ -166,7 +166,7 @@ impl<'a> Facts<'a> {
         })
     }
 
-    /// The groups, in order of first wire.
+    /// G7: the groups, each where its first wire puts it.
     pub fn groups(&self) -> Vec<Group> {
         let mut groups: Vec<Group> = Vec::new();
         let mut known: HashMap<(usize, Port), usize> = HashMap::new();
@@ -190,7 +190,7 @@ impl<'a> Facts<'a> {
     }
 }
 
-/// Each chip's top chip: its own id at the top, else its parent's top chip.
+/// G1: each chip's top chip.
 fn top_chips(board: &Board) -> HashMap<u32, u32> {
     let mut tops = HashMap::new();
     for chip in &board.chips {
@@ -200,12 +200,12 @@ fn top_chips(board: &Board) -> HashMap<u32, u32> {
     tops
 }
 
-/// An anchor that is Input, pin or storage.
+/// G3: bus-worthy, by kind, pin or class.
 pub fn worthy(n: &Node) -> bool {
     n.kind == KIND_INPUT || n.pin || n.class == CLASS_STORAGE
 }
 
-/// A placed brick's cell: halves swapped at rotations 1 and 3.
+/// C3: a placed brick's cell.
 pub fn cell(n: &Node, (x, y): (i32, i32)) -> Cell {
     let (hx, hy) = match n.rotation {
         1 | 3 => (n.half.1, n.half.0),

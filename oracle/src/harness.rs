@@ -3,14 +3,15 @@
 //! The fields that document 01 adds are derived from the Rust's answer:
 //! README.md says how each is.
 
-use crate::board::{Board, LANE_MOST, Port, Refusal};
+use crate::board::{Board, LANE_MOST, Node, Port, Refusal, Wire};
+use crate::facts::Facts;
 use crate::plan::*;
 use original::collections::HashMap;
 use original::emit::Placement;
 use original::ir::port_registry::WirePort;
 use original::ir::{self, GateIO, Module, NodeId, NodeKind, PortRef, PortSpec, Type, gate_class};
 use original::layout::code::pages::PageInfo;
-use original::layout::code::{BUS_BAND_GUTTER, LANE_PITCH, LaidBody, Routed, route};
+use original::layout::code::{self, BUS_BAND_GUTTER, LANE_PITCH, LaidBody, Routed, route};
 use original::layout::{BusEnd, BusLayout, BusNode, BusRole, NodeRotation};
 use std::sync::Arc;
 
@@ -202,6 +203,68 @@ pub fn bare_rerouters(board: &Board) -> Vec<(i32, i32, i32, u8, u8, u32)> {
     routed.bus.nodes.iter().map(bare).collect()
 }
 
+/// `lay_mini_bus` alone, on a bus that is handed in. A rerouter beside a row
+/// goes in as a brick of that row, of a rerouter's size and without wires: the
+/// original keeps the cells of a row to itself, and takes them from its bricks.
+pub fn turn(board: &Board, handed: &Handed) -> Vec<Corner> {
+    const FIRST_ID: u32 = 2_000_000;
+    let downs = Facts::new(board).downs;
+    let mut with_bricks = board.clone();
+    for (i, b) in handed.beside.iter().enumerate() {
+        // Beside a row that no page has there is nothing to meet.
+        let down = downs.get(b.page).and_then(|d| d.get(b.row));
+        with_bricks.nodes.extend(down.map(|down| Node {
+            id: FIRST_ID + i as u32,
+            kind: 0,
+            class: 0,
+            pin: false,
+            half: (1, 1),
+            rotation: 0,
+            at: Some((b.x, b.y)),
+            row: Some((b.page, *down)),
+            line: None,
+        }));
+    }
+    let body = body_of(&with_bricks, |page| page as i32);
+    let mut bus = BusLayout::default();
+    let suppressed = handed.suppressed.iter().map(|p| port_ref(*p));
+    bus.suppressed
+        .extend(suppressed.map(|p| (p.node_id, p.port)));
+    code::turn(&body, &mut bus);
+    (0..bus.nodes.len())
+        .map(|id| corner_of(board, &bus, id))
+        .collect()
+}
+
+/// Corner `id`, whose two bus wires stand at its place. Of equal wires the
+/// first turns: its port is suppressed then, and where it finds no level they
+/// find none.
+fn corner_of(board: &Board, bus: &BusLayout, id: usize) -> Corner {
+    let n = &bus.nodes[id];
+    let page = n.z as usize;
+    let ends = [&bus.wires[2 * id], &bus.wires[2 * id + 1]].map(|w| (w.source, w.target));
+    let here = BusEnd::Bus(id);
+    let turns = |w: &Wire| {
+        let [source, target] = [w.source, w.target].map(|p| BusEnd::Node(port_ref(p)));
+        ends == [(source, here), (here, target)]
+    };
+    Corner {
+        brick: Rerouter {
+            x: n.x,
+            y: n.y,
+            z: board.pages[page].z,
+            rotation: rotation_of(n),
+            role: role_of(n),
+            part: PART_CORNER,
+            colour: n.color_of.map_or(0, |c| c.0),
+            page,
+            lane: None,
+        },
+        // No such wire would be a fault of the original: let it show.
+        wire: board.wires.iter().position(turns).unwrap_or(usize::MAX),
+    }
+}
+
 fn rotation_of(n: &BusNode) -> u8 {
     ROTATIONS.iter().position(|r| *r == n.rotation).unwrap_or(0) as u8
 }
@@ -260,7 +323,7 @@ fn plan_of(board: &Board, body: &LaidBody, pages: Vec<PageAnswer>, routed: Route
     for (id, n) in bus.nodes.iter().enumerate() {
         let part = part_of(bus, body, id, feeders[id]);
         let page = n.z as usize;
-        // lane y = min_y - 6 - 2 * (lanes - lane), turned round.
+        // R2 turned round: the lane that has this y.
         let in_lane = matches!(part, PART_HEAD | PART_LINK | PART_TAP);
         let offset = || body.page_infos[page].min_y - BUS_BAND_GUTTER - n.y;
         let lane = in_lane.then(|| plan.pages[page].lanes - offset() / LANE_PITCH);

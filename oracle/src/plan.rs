@@ -39,7 +39,7 @@ pub enum End {
 pub struct BusWire {
     pub from: End,
     pub to: End,
-    /// A delivery's wire and distance.
+    /// P4: the wire that it delivers, and the distance.
     pub delivery: Option<(usize, usize)>,
 }
 
@@ -50,8 +50,33 @@ pub struct Plan {
     pub bus_wires: Vec<BusWire>,
     /// Ascending, each once.
     pub suppressed: Vec<Port>,
-    /// The T record: rerouters, bus wires, deliveries, direct, laid groups.
+    /// P6: the numbers of the T record.
     pub totals: [usize; 5],
+}
+
+/// A rerouter that stands beside a row of a page.
+#[derive(Clone, Copy, Debug, PartialEq, Eq)]
+pub struct Beside {
+    pub page: usize,
+    pub row: usize,
+    pub x: i32,
+    pub y: i32,
+}
+
+/// What the corner pass reads of a bus that is handed in.
+#[derive(Clone, Debug, Default, PartialEq, Eq)]
+pub struct Handed {
+    pub beside: Vec<Beside>,
+    /// In any order, repeated or not.
+    pub suppressed: Vec<Port>,
+}
+
+/// A corner and the wire that turns there: the wire's source port feeds it, and
+/// it feeds the wire's target.
+#[derive(Clone, Debug, PartialEq, Eq)]
+pub struct Corner {
+    pub brick: Rerouter,
+    pub wire: usize,
 }
 
 fn end(out: &mut String, end: &End) {

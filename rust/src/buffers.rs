@@ -64,8 +64,8 @@ impl Limits {
 }
 
 /// Refusals 1 to 3 of a sheet under limits, which may be lower than the
-/// library's; or how many records of each section it has. A sheet of more than
-/// the most bytes is refused with 2 and line 0 before all else.
+/// library's; or how many records of each section it has. The length is tested
+/// first of all: a longer sheet gives 2 and line 0 (E13).
 pub fn check_sheet(sheet: &[u8], limits: &Limits) -> Result<[usize; 6], Refusal> {
     if limits.bytes.is_some_and(|most| sheet.len() > most) {
         return Err(Refusal {

@@ -97,8 +97,7 @@ pub struct SheetNumbers {
     pub counts: Counts,
 }
 
-/// What a bus is written to: 5W rerouters, 6W bus wires and W suppressed ports
-/// for a board of W wires.
+/// What a bus is written to, with the lengths of S15 for W wires: 5W, 6W, W.
 #[derive(Debug, Default)]
 pub struct Output<'a> {
     pub rerouters: &'a mut [RerouterRow],

@@ -5,23 +5,23 @@ use std::error::Error;
 use std::fmt;
 
 numbered! {
-    /// The conditions of document 01, in the order in which they are tried.
+    /// What turns a board away, E1 to E8 of `docs/RULES.md`, in the order tried.
     Reason {
-        /// A line that can't be read, or stands out of order.
+        /// E1: a line can't be read, or comes after one of a later section.
         Unreadable = 1,
-        /// A record over its section's most.
+        /// E2: a section has more records than it may.
         OverMost = 2,
-        /// A number out of its range.
+        /// E3: a number outside its field's range.
         OutOfRange = 3,
-        /// An id twice among nodes, or twice among chips.
+        /// E4: another node, or another chip, has the id.
         IdTwice = 4,
-        /// A page, chip or parent that is not there.
+        /// E5: a page, a parent or a chip that the board lacks.
         NotThere = 5,
-        /// A node in a row without a placement.
+        /// E6: a node has a row and is not placed.
         RowUnplaced = 6,
-        /// A lent buffer that is too short.
+        /// E7: something lent is shorter than S15 says.
         TooShort = 7,
-        /// A page that opens a 513th lane.
+        /// E8: a page needs more than 512 lanes.
         TooManyLanes = 8,
     }
 }
@@ -90,7 +90,7 @@ impl Error for Refusal {}
 #[derive(Clone, Copy, Debug, PartialEq, Eq, Hash)]
 pub struct LaneRefusal {
     pub reason: Reason,
-    /// The demand's index; 0 for a buffer that is too short.
+    /// E15: which demand of the list; 0 where something lent is too short.
     pub demand: usize,
 }
 

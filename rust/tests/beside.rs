@@ -46,6 +46,20 @@ fn demand_lists() {
     }
 }
 
+/// `lay_mini_bus` on whatever is handed in: each cause of a 7, just enough
+/// room, one row too few, and a 513th lane besides.
+#[test]
+fn buses_handed_in() {
+    let mut tell = |d: &Difference| panic!("handed {}: {}\n{}", d.item, d.told, d.small);
+    let tally = run(11, 3_000, "handed", Memory::Reused, &mut tell).expect("the size is known");
+    assert_eq!(tally.different, 0);
+    let handed = &tally.handed;
+    assert!(tally.outcomes[0] > 500 && tally.outcomes[8] > 10);
+    assert!(handed.causes.iter().all(|n| *n > 100) && handed.by_a_row > 100);
+    assert!(handed.crowded_too > 10 && handed.tight > 100 && handed.cornered > 100);
+    quick(11, 200, "handed", Memory::Anew);
+}
+
 #[test]
 fn no_such_size() {
     let none = run(1, 1, "huge", Memory::Reused, &mut |_| ());

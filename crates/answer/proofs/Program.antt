@@ -10,14 +10,12 @@ use borrow.Author.Tests.{le-leb, lt-ltb, le-ltb}
 use Rattle.sheet.specs.declared.Counts.{Counts}
 use Rattle.sheet.specs.Table.{programMost}
 use Rattle.board.specs.Board.{Board}
-use Rattle.board.specs.Refusals
-use Rattle.board.specs.Refusals.{Judged, board, judged}
-use Rattle.board.specs.Demands.{planLanes}
-use Rattle.board.specs.Planning.{Planning, refused, planning, crowding}
+use Rattle.board.specs.Refusals.{board, judged}
+use Rattle.board.specs.Planning.{Planning, planning}
 use Rattle.board.specs.Walk.{WithinLibrary}
 use Rattle.plan.specs.TextPlan.{LINE_MOST, hasRoom, fitsCounts, fitsLent}
 use Rattle.plan.proofs.Fine.{fine}
-use Rattle.plan.proofs.Reading.{planning-refused, planning-fine}
+use Rattle.promise.proofs.ThreeCalls.{planning-all}
 use Rattle.routes.specs.Plan.{finished}
 use Rattle.routes.specs.Route.{turnedAway, routedBy, routed}
 use Rattle.plan.specs.declared.Lent.{Lent}
@@ -51,15 +49,6 @@ not-long text lent h most e {before} {after} {old} {oldWires} {oldPorts} {oldAns
     (subst (λ (m : Counts). Answered (answerCall m text lent) before old oldWires oldPorts oldAnswers after rerouters busWires ports answers r) e a)
 
 -- Where every accepted board fits, nothing is refused with 7.
-planning-all : (most : Counts) (text : List ℕ) (fits : Board → Bool) → ((b : Board) → judged most text ≡ board b → fits b ≡ true) → planning most fits text ≡ planning most (λ b. true) text
-planning-all most text fits h = go (judged most text) refl
-  where
-    go : (j : Judged) → judged most text ≡ j → planning most fits text ≡ planning most (λ b. true) text
-    go (Refusals.turnedAway n l) e = planning-refused most text fits n l e ∙ sym (planning-refused most text (λ b. true) n l e)
-    go (board b) e =
-        planning-fine most text fits b e ∙ ap (λ (t : Bool). elim t as (λ _. Planning) [ true ↦ crowding b (planLanes b) | false ↦ refused 7 0 ]) (h b e)
-        ∙ sym (planning-fine most text (λ b. true) b e)
-
 program-room : (text : List ℕ) (out : ℕ) → 87168 ≤ out → (b : Board) → judged programMost text ≡ board b → fitsLent (programLent out) b ≡ true
 unfolding fitsLent fitsCounts hasRoom
 program-room text out h b e =

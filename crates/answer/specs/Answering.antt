@@ -14,7 +14,7 @@ use Rattle.gutter.specs.Calls.{reroutersAfter, busWiresAfter, portsAfter, answe
 use Rattle.answer.specs.declared.Answer.{Answer}
 use Rattle.answer.specs.declared.Answer.the-variants.{Short, Written}
 
--- An E line's numbers have 32 bits.
+-- S16: an E line's numbers have 32 bits.
 abbrev pub TOLD_MOST : ℕ
 TOLD_MOST = 4294967294
 
@@ -22,11 +22,11 @@ abbrev pub sayable : Routed → Bool
 sayable (turnedAway n l) = leb n TOLD_MOST && leb l TOLD_MOST
 sayable (plan b ps bus laid) = true
 
--- Whether an answer is written into so many bytes: where they hold a line. (A plan is made only where they hold all of its lines.)
+-- S16: whether an answer is written into so many bytes: where they hold a line. (A plan is made only where they hold all of its lines.)
 abbrev pub isTold : ℕ → Routed → Bool
 isTold room call = leb LINE_MOST room && sayable call
 
--- The answer, and the text buffer behind it: the plan sheet or the E line in front and the old rest, or all as it was.
+-- E12, P8: the answer, and the text buffer behind it: the plan sheet or the E line in front and the old rest, or all as it was.
 abbrev pub answerOf : Bool → List ℕ → Answer
 answerOf true bytes = Written (length bytes)
 answerOf false bytes = Short
@@ -55,14 +55,16 @@ answerLent rerouters busWires ports answers out work =
 unfoldable pub answerCall : Counts → List ℕ → Lent → Routed
 answerCall most text lent = routed most (fitsLent lent) text
 
--- "over 65,536 bytes of input give 2 and line 0 before all else"
+-- E13: the longest input that the program reads.
 abbrev pub INPUT_MOST : ℕ
 INPUT_MOST = 65536
 
+-- E13: a longer one is refused before any other test.
 abbrev pub inputCall : Bool → Routed → Routed
 inputCall true call = turnedAway 2 0
 inputCall false call = call
 
+-- E13: the program's answer.
 unfoldable pub programCall : List ℕ → Lent → Routed
 programCall text lent = inputCall (ltb INPUT_MOST (length text)) (answerCall programMost text lent)
 
@@ -70,6 +72,6 @@ programCall text lent = inputCall (ltb INPUT_MOST (length text)) (answerCall pro
 unfoldable pub programRouted : List ℕ → Routed
 programRouted text = inputCall (ltb INPUT_MOST (length text)) (routed programMost (λ b. true) text)
 
--- What the program lends, but for the text: 5W rerouters, 6W bus wires, W ports, P page answers and a row for each record, for the most that it takes.
+-- S15: what the program lends, but for the text: enough for the most that it takes (S12).
 abbrev pub programLent : ℕ → Lent
 programLent out = record { rerouters = 280; «bus_wires» = 336; ports = 56; answers = 8; work = 168; out = out }

@@ -59,7 +59,7 @@ pub fn answer(
     )
 }
 
-// The answer to the program's input. "over 65,536 bytes of input give 2 and line 0 before all else"
+// E13: the answer to the program's input, of which the length is tested first.
 pub fn answer_for_program(
     text: &[u8],
     out: &mut [u8],

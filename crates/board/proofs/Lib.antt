@@ -7,3 +7,4 @@ pub mod Members
 pub mod Lists
 pub mod Taps
 pub mod LanesFit
+pub mod Views

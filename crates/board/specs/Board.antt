@@ -1,4 +1,4 @@
--- Document 01, "The board sheet": a board's records by section, a row of numbers each, and what each field says.
+-- S, the board sheet: a board's records by section, a row of numbers each, and what each field says.
 -- Column 0 of a row is its section; the fields follow in the sheet's order. A coordinate c is held as c + ORIGIN.
 use Prim.Native.Nat.{ℕ, suc, _+_}
 use mathlib.Core.Bool.{Bool, not, _&&_, _||_}
@@ -17,7 +17,7 @@ pub record Board : Type 0 where
   pub execs : List (List ℕ)
   pub wires : List (List ℕ)
 
--- The records of a section among a sheet's rows, in their order.
+-- S13: the records of a section among a sheet's rows, in their order.
 unfoldable pub section : ℕ → List (List ℕ) → List (List ℕ)
 section s rows = keep (λ row. eqb (sectionIn row) s) rows
 
@@ -32,14 +32,14 @@ boardOf rows =
       wires = section WIRES rows;
     }
 
--- A field that is not missing.
+-- S3: a field that is not missing.
 abbrev pub given : ℕ → Bool
 given v = not (eqb v MISSING)
 
 abbrev pub field : List (List ℕ) → ℕ → ℕ → ℕ
 field rows i k = getD (getD rows i []) k 0
 
--- "kind (0 Gate, 1 Event, 2 Chip, 3 Input, 4 Output, 5 Coerce)"
+-- S6: the kinds that a rule asks for.
 abbrev pub kindChip : ℕ
 kindChip = 2
 
@@ -49,30 +49,30 @@ kindInput = 3
 abbrev pub kindCoerce : ℕ
 kindCoerce = 5
 
--- "class (0 other, 1 storage, 2 inline-only)"
+-- S6: the classes that a rule asks for.
 abbrev pub classStorage : ℕ
 classStorage = 1
 
 abbrev pub classInline : ℕ
 classInline = 2
 
--- A port of 0 is `Layout`.
+-- S10: the Rust's `Layout`.
 abbrev pub portLayout : ℕ
 portLayout = 0
 
 module _ (b : Board) where
-  -- P: min_y, z.
+  -- S5: the fields of P.
   abbrev pub minYOf : ℕ → ℕ
   minYOf p = field (b .pages) p 1
 
   abbrev pub zOf : ℕ → ℕ
   zOf p = field (b .pages) p 2
 
-  -- "may be missing: the page gets no lanes"
+  -- S5: a page without min_y has no gutter, and so no lanes.
   abbrev pub hasGutter : ℕ → Bool
   hasGutter p = given (minYOf p)
 
-  -- N: id, kind, class, pin, half x, half y, rotation, x, y, page, down, line.
+  -- S6: the fields of N.
   abbrev pub idOf : ℕ → ℕ
   idOf i = field (b .nodes) i 1
 
@@ -109,7 +109,7 @@ module _ (b : Board) where
   abbrev pub lineOf : ℕ → ℕ
   lineOf i = field (b .nodes) i 12
 
-  -- "The pairs x y and page down are missing together or not; line may be missing."
+  -- S3, S6: where x is missing so is y, where page is missing so is down.
   abbrev pub placed : ℕ → Bool
   placed i = given (xOf i)
 
@@ -119,14 +119,14 @@ module _ (b : Board) where
   abbrev pub hasLine : ℕ → Bool
   hasLine i = given (lineOf i)
 
-  -- C: id, parent.
+  -- S7: the fields of C.
   abbrev pub chipId : ℕ → ℕ
   chipId c = field (b .chips) c 1
 
   abbrev pub parentOf : ℕ → ℕ
   parentOf c = field (b .chips) c 2
 
-  -- F: id, chip, class.
+  -- S8: the fields of F.
   abbrev pub innerId : ℕ → ℕ
   innerId f = field (b .inner) f 1
 
@@ -136,14 +136,14 @@ module _ (b : Board) where
   abbrev pub innerClass : ℕ → ℕ
   innerClass f = field (b .inner) f 3
 
-  -- X: node, port.
+  -- S9: the fields of X.
   abbrev pub execNode : ℕ → ℕ
   execNode e = field (b .execs) e 1
 
   abbrev pub execPort : ℕ → ℕ
   execPort e = field (b .execs) e 2
 
-  -- W: source node, source port, target node, target port.
+  -- S10: the fields of W.
   abbrev pub sourceNode : ℕ → ℕ
   sourceNode w = field (b .wires) w 1
 

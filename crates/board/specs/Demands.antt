@@ -1,4 +1,4 @@
--- Document 01, "Demands" (`plan_bus`): which groups need a lane, the lanes of a page, its band.
+-- D, demands (`plan_bus`): which groups need a lane, the lanes of a page, its band.
 use Prim.Native.Nat.{ℕ, zero, suc, _+_, _-_, _*_}
 use mathlib.Core.Bool.{Bool, true, false, _&&_, _||_}
 use mathlib.Core.List.{List, [], _∷_, _++_, map, reverse}
@@ -9,6 +9,7 @@ use Rattle.board.specs.Lists.{Found, none, at, keep, least, greatest, up
 use Rattle.board.specs.Board.{Board, hasGutter, minYOf}
 use Rattle.board.specs.Groups.{Tap, tapsOf, tapsIn, crosses, isBusWorthy, sourceAnchor}
 
+-- D4, R2: what a lane takes in y, and what lies between the lanes and the page's bricks.
 abbrev pub LANE_PITCH : ℕ
 LANE_PITCH = 2
 
@@ -21,7 +22,7 @@ pub record PageLanes : Type 0 where
   pub laneList : List ℕ
   pub count : ℕ
 
--- "Band = 2 × lanes + 6; without lanes 0."
+-- D4: a page's band, by its count of lanes.
 unfoldable pub band : ℕ → ℕ
 band n = elim (eqb n 0) [ true ↦ 0 | false ↦ LANE_PITCH * n + BUS_BAND_GUTTER ]
 
@@ -43,21 +44,22 @@ pub data Planned : Type 0 where
   planned : List PageLanes → Planned
 
 module _ (b : Board) (ts : List Tap) where
-  -- The rows of a group's first and last tap down the page.
+  -- D2: the rows of a group's first and last tap down the page.
   unfoldable pub firstRow : ℕ → ℕ
   firstRow g = least 0 (map (λ t. t .row) (tapsIn b ts g))
 
   unfoldable pub lastRow : ℕ → ℕ
   lastRow g = greatest 0 (map (λ t. t .row) (tapsIn b ts g))
 
-  -- "A group needs two rows, or to cross, or an Input, pin or storage source anchor."
+  -- D1: taps on several rows, a wire that crosses, or a bus-worthy source.
   unfoldable pub needsLane : ℕ → Bool
   needsLane g = ltb (firstRow g) (lastRow g) || crosses b ts g || isBusWorthy b (sourceAnchor b g)
 
+  -- D2: a group's demand; its order is the first wire.
   unfoldable pub demandOf : ℕ → Demand
   demandOf g = record { first = firstRow g; last = lastRow g; consumers = length (tapsIn b ts g); order = g }
 
-  -- The page's groups that need a lane, by rising first wire. A page without min_y gets none.
+  -- D2, D3: the page's groups that need a lane, by rising first wire. A page without min_y gets none.
   unfoldable pub groupsOn : ℕ → List ℕ
   groupsOn p =
       elim (hasGutter b p) [
@@ -65,10 +67,11 @@ module _ (b : Board) (ts : List Tap) where
         | false ↦ []
       ]
 
+  -- D3: each page packs its own demands.
   unfoldable pub packedOn : ℕ → Packed
   packedOn p = packed (map demandOf (groupsOn p))
 
-  -- The lanes of the first n pages.
+  -- D3, E8: the lanes of the first n pages, or the first page that needs too many.
   unfoldable pub planUpto : ℕ → Planned
   planUpto zero = planned []
   planUpto (suc p) =
@@ -79,9 +82,10 @@ module _ (b : Board) (ts : List Tap) where
             [ full i ↦ crowded p | laned ls n ↦ planned (ps ++ (record { groups = groupsOn p; laneList = ls; count = n } ∷ [])) ]
       ]
 
+-- D3: the lanes of all pages.
 unfoldable pub planLanes : Board → Planned
 planLanes b = planUpto b (tapsOf b) (length (b .pages))
 
--- Lane y: "min_y − 6 − 2 × (lanes − lane)".
+-- R2: the y of a lane, of so many lanes.
 unfoldable pub laneY : ℕ → ℕ → ℕ → ℕ
 laneY minY count lane = minY - BUS_BAND_GUTTER - LANE_PITCH * (count - lane)

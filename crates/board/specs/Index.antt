@@ -1,4 +1,4 @@
--- How the code finds the record that an id names: entries chained by bucket, stated by place and not by following links. No rule of document 01 stands here.
+-- How the code finds the record that an id names: entries chained by bucket, stated by place and not by following links. No rule stands here.
 use Prim.Native.Nat.{ℕ, zero, suc, _%_, _≤_, _<_}
 use mathlib.Core.Path.{_≡_}
 use mathlib.Core.Bool.{Bool}

@@ -1,4 +1,4 @@
--- The few words on lists and numbers that the rules of document 01 are written in. A list that a loop builds holds its newest element first.
+-- The few words on lists and numbers that the rules are written in. A list that a loop builds holds its newest element first.
 use Prim.Native.Nat.{ℕ, zero, suc, min, max}
 use mathlib.Core.Bool.{Bool, true, false, _||_}
 use mathlib.Core.List.{List, [], _∷_}

@@ -18,27 +18,26 @@ pub data Planning : Type 0 where
   refused : ℕ → ℕ → Planning
   lanesFor : Board → List PageLanes → Planning
 
--- 8: "a page that opens a 513th lane", at the page's line.
+-- E8, E10: the place of an 8 is the page's line.
 abbrev pub crowding : Board → Planned → Planning
 crowding b (crowded p) = refused 8 (suc p)
 crowding b (planned ps) = lanesFor b ps
 
--- 1 to 6 of the sheet; 7, "a lent buffer too short", whose place is 0, where the buffers do not fit the board; 8.
+-- E7, E9: 1 to 6 of the sheet; 7, whose place is 0, where the buffers do not fit the board; 8.
 unfoldable pub planning : Counts → (Board → Bool) → List ℕ → Planning
 planning most fits text =
     elim (judged most text)
     [ turnedAway n l ↦ refused n l | board b ↦ elim (fits b) [ true ↦ crowding b (planLanes b) | false ↦ refused 7 0 ] ]
 
--- "Lent for W wires and P pages: .. P page answers, and 96 numbers of 32 bits of work space for each record of any kind": the work space is lent in
--- slices of rows, each with a row for each record; the least of them counts.
+-- S15, S16: page answers and work space, which is lent in slices of rows, each with a row for each record; the least of them counts.
 unfoldable pub fitsPages : ℕ → ℕ → Board → Bool
 fitsPages answers work b = leb (length (b .pages)) answers && leb (records b) work
 
--- A page's answer: lanes, band.
+-- P7: a page answer: lanes, band.
 abbrev pub pageRow : PageLanes → List ℕ
 pageRow p = p .count ∷ band (p .count) ∷ []
 
--- The page answers as `plan_bus` leaves them: on a refusal as they were, else a row for each page and then the old rest.
+-- E11, P8: the page answers as `plan_bus` leaves them: on a refusal as they were, else a row for each page and then the old rest.
 unfoldable pub pagesAfter : Planning → List (List ℕ) → List (List ℕ)
 pagesAfter (refused n l) old = old
 pagesAfter (lanesFor b ps) old = map pageRow ps ++ drop (length ps) old

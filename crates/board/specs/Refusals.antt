@@ -1,4 +1,4 @@
--- Document 01, "What turns a board away", numbers 4, 5 and 6: tried in this order, each over all records, and the place is the first such line.
+-- E, what turns a board away: refusals 4 to 6 in their order, each with the first line that meets it.
 use Prim.Native.Nat.{ℕ, suc, _+_}
 use mathlib.Core.Bool.{Bool, true, false, not, _&&_, _||_}
 use mathlib.Core.List.{List, []}
@@ -10,7 +10,7 @@ use Rattle.board.specs.Lists.{Found, none, at, found, orElse, newest, ol
 use Rattle.board.specs.Board.{Board, boardOf, given, kindChip, idOf, kindOf, pageOf, hasRow, placed, chipId, parentOf, innerId, innerChip}
 
 module _ (b : Board) where
-  -- The line of an N, a C and an F: lines count from 1, sections stand in the order P, N, C, F.
+  -- S13: the line of an N, a C and an F, behind those of the sections before; the first line is 1.
   abbrev pub nodeLine : ℕ → ℕ
   nodeLine i = suc (length (b .pages) + i)
 
@@ -30,7 +30,7 @@ module _ (b : Board) where
   unfoldable pub innerOf : ℕ → Found
   innerOf id = newest (λ f. eqb (innerId b f) id) (length (b .inner))
 
-  -- 4: "id twice among N and F, or twice among C", at the later line.
+  -- E4: an earlier record has the id of this N, this C, this F.
   unfoldable pub nodeTwice : ℕ → Bool
   nodeTwice i = found (newest (λ j. eqb (idOf b j) (idOf b i)) i)
 
@@ -40,7 +40,7 @@ module _ (b : Board) where
   unfoldable pub innerTwice : ℕ → Bool
   innerTwice f = found (bodyOf (innerId b f)) || found (newest (λ g. eqb (innerId b g) (innerId b f)) f)
 
-  -- 5: "page, chip or earlier parent not there; a top C that is no body Chip".
+  -- E5: what this N, this C, this F names is not there.
   unfoldable pub pageMissing : ℕ → Bool
   pageMissing i = hasRow b i && leb (length (b .pages)) (pageOf b i)
 
@@ -55,26 +55,29 @@ module _ (b : Board) where
   unfoldable pub chipMissing : ℕ → Bool
   chipMissing f = not (found (chipAt (innerChip b f) (length (b .chips))))
 
-  -- 6: "a row without a placement".
+  -- E6: an N that has a row and is not placed.
   unfoldable pub rowUnplaced : ℕ → Bool
   rowUnplaced i = hasRow b i && not (placed b i)
 
-  -- The first line among the records of a section that have the fault.
+  -- E10: the first line among the records of a section that have the fault.
   abbrev pub firstLine : (ℕ → ℕ) → (ℕ → Bool) → ℕ → Found
   firstLine line fault n = elim (oldest fault n) [ at k ↦ at (line k) | none ↦ none ]
 
+  -- E4: the first line that meets it.
   unfoldable pub idTwice : Found
   idTwice =
       orElse (firstLine nodeLine nodeTwice (length (b .nodes)))
       (orElse (firstLine chipLine chipTwice (length (b .chips)))
       (firstLine innerLine innerTwice (length (b .inner))))
 
+  -- E5: the first line that meets it.
   unfoldable pub notThere : Found
   notThere =
       orElse (firstLine nodeLine pageMissing (length (b .nodes)))
       (orElse (firstLine chipLine parentMissing (length (b .chips)))
       (firstLine innerLine chipMissing (length (b .inner))))
 
+  -- E6: the first line that meets it.
   unfoldable pub unplaced : Found
   unplaced = firstLine nodeLine rowUnplaced (length (b .nodes))
 
@@ -83,7 +86,7 @@ pub data Judged : Type 0 where
   turnedAway : (number line : ℕ) → Judged
   board : Board → Judged
 
--- "They are tried in this order, each over all records."
+-- E9: 4 on all lines, then 5, then 6.
 unfoldable pub judgedBoard : Board → Judged
 unfolding idTwice notThere unplaced
 judgedBoard b =
@@ -93,7 +96,7 @@ judgedBoard b =
           elim (notThere b) [ at line ↦ turnedAway 5 line | none ↦ elim (unplaced b) [ at line ↦ turnedAway 6 line | none ↦ board b ] ]
     ]
 
--- Refusals 1 to 6 of a sheet of which at most so many records are taken.
+-- E9: refusals 1 to 6 of a sheet of which at most so many records are taken.
 unfoldable pub judged : Counts → List ℕ → Judged
 unfolding reading judgedBoard boardOf
 judged most text = elim (reading most text) [ refused number line ↦ turnedAway number line | rows l ↦ judgedBoard (boardOf l) ]

@@ -1,4 +1,4 @@
--- How the code finds refusals 4 to 6: one walk along a sheet's records, in which every id is entered into an index. No rule of document 01 stands here.
+-- How the code finds refusals 4 to 6: one walk along a sheet's records, in which every id is entered into an index. No rule stands here.
 use Prim.Native.Nat.{ℕ, suc, _+_, _≤_, _<_}
 use mathlib.Core.Path.{_≡_}
 use mathlib.Core.Bool.{Bool, true, false}

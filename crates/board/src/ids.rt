@@ -73,7 +73,7 @@ fn chip_below(chips: &[[u32; 16]], n: usize, id: u32) -> Found
     Found::Nothing
 }
 
-// "The top chip of a nested chip is its parent's top chip." A parent stands before its chips, so each search goes on below the record found.
+// G1: a chip's top chip. A parent stands before its chips, so each search goes on below the record found.
 pub fn top_chip(chips: &[[u32; 16]], n: usize, id: NodeId) -> NodeId
     requires { ⌜ n ≤ length (now chips) ⌝ }
     ensures { λ r. ⌜ ((b : Board) → b .chips ≡ now (chips .entry) → r .0 ≡ topChip b n (id .0)) ⌝ }

@@ -71,7 +71,7 @@ fn first_line(so_far: usize, here: bool, line: usize) -> usize
     if here { line } else { 0 }
 }
 
-// "page .. not there"
+// E5: the page of an N.
 fn page_missing(row: [u32; 16], pages: usize) -> bool
     ensures { λ r. ⌜ r ≡ (given (getD row 10 0) && leb pages (getD row 10 0)) ⌝ }
 {
@@ -82,7 +82,7 @@ fn page_missing(row: [u32; 16], pages: usize) -> bool
     pages <= page as usize
 }
 
-// "a row without a placement"
+// E6: an N that has a row and is not placed.
 fn row_unplaced(row: [u32; 16]) -> bool
     ensures { λ r. ⌜ r ≡ (given (getD row 10 0) && not (given (getD row 8 0))) ⌝ }
 {
@@ -111,7 +111,7 @@ fn is_body_chip(
     }
 }
 
-// "earlier parent not there; a top C that is no body Chip", after `c` other chips.
+// E5: the parent of a C, among the `c` chips before it, or the brick of a top chip.
 fn parent_missing(
     body_ids: &[u32],
     body_nexts: &[u32],

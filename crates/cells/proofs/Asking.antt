@@ -23,7 +23,8 @@ use Rattle.routes.specs.Buffers.{brickRow, outward}
 use Rattle.routes.specs.Tables.{stopIn}
 use Rattle.cells.specs.declared.cells.Wanted.{Wanted}
 use Rattle.cells.specs.declared.cells.Wanted.the-variants.{Column, Beside}
-use Rattle.cells.specs.Chains.{bucketOf, halfOf, inward, rowBucket, brickBucket, stopBucket, nodeBucket, meets, brickMeets, stopClaims, nodeMeets, boardWith, inBucket, nearBuckets, Sound, Fits, RowsOf, CellRows, BrickRows}
+use Rattle.routes.specs.Buffers.{inward}
+use Rattle.cells.specs.Chains.{bucketOf, halfOf, rowBucket, brickBucket, stopBucket, nodeBucket, meets, brickMeets, stopClaims, nodeMeets, boardWith, inBucket, nearBuckets, Sound, Fits, RowsOf, CellRows, BrickRows}
 use Rattle.cells.proofs.Walks.{and-first, and-second, and-true}
 use Rattle.cells.proofs.RowTests.{claims-there}
 
@@ -157,7 +158,7 @@ claim-covered p lane x r e =
     covered (bucketOf (getD r 0 0) (getD r 1 0) (halfOf (getD r 5 0))) p lane x (getD r 5 0) (λ i. bucketOf (page i) (here i) (halfOf (getD r 5 0)))
     (and-second kinds n (and-second (eqb (getD r 0 0) p && eqb (getD r 1 0) lane) (kinds && n) e′))
 
--- "unclaimed in the column", by the stops' own levels and by the heads and links placed so far.
+-- V6, R13: no claim on the span, by the stops' own levels or by the heads and links placed so far.
 module _ (stops : List (List ℕ)) (s : ℕ) (bus : Bus) (table : List (List ℕ)) (n p lane x : ℕ) (rows : BrickRows (bus .bricks) table) (count : n ≡ length (bus .bricks)) (has : lane ≡ MISSING → ⊥) where
   claims-asked : any (claimNear p lane x) (view stopIn stops s) ≡ nearBuckets (stopBucket stops) (stopClaims stops p lane x) s p lane x
   claims-asked =
@@ -200,7 +201,7 @@ module _ (stops : List (List ℕ)) (s : ℕ) (bus : Bus) (table : List (List ℕ
   unfolding columnFree unclaimed
   column-asked t u e z eu = sym (ap₂ (λ a b. not a && not b) (claims-asked ∙ sym e ∙ z) (bricks-asked ∙ sym eu))
 
--- "clear of that row's cells".
+-- C6: clear of what is booked on a row.
 any-keep-step : (f q : ℕ → Bool) (n : ℕ) (l : List ℕ) → any f (keep q (n ∷ l)) ≡ (q n && f n) || any f (keep q l)
 any-keep-step f q n l = go (q n)
   where

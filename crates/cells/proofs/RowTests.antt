@@ -19,7 +19,8 @@ use Rattle.routes.specs.Tables.{stopIn, levelIn}
 use Rattle.cells.specs.declared.cells.Cell.{Cell}
 use Rattle.cells.specs.declared.cells.Wanted.{Wanted}
 use Rattle.cells.specs.declared.cells.Wanted.the-variants.{Column, Beside}
-use Rattle.cells.specs.Chains.{BUCKETS, cellOf, bucketOf, halfOf, inward, rowBucket, meets, boardWith, nodeMeets, inBucket, nearBuckets}
+use Rattle.routes.specs.Buffers.{inward}
+use Rattle.cells.specs.Chains.{BUCKETS, cellOf, bucketOf, halfOf, rowBucket, meets, boardWith, nodeMeets, inBucket, nearBuckets}
 
 -- The bucket of a rerouter beside a row, and of one beside none.
 pub bucket-beside : (r : List ℕ) (y b : ℕ) → (getD r 9 0 ≡ MISSING → ⊥) → y ≡ inward (getD r 1 0) → b ≡ bucketOf (getD r 7 0) (getD r 9 0) (halfOf y) → b ≡ rowBucket r

@@ -1,12 +1,11 @@
--- How the code asks for cells and claims: bricks, stops and rerouters chained by bucket, so that a question looks at few of them. No rule of
--- document 01 stands here.
+-- How the code asks for cells and claims: bricks, stops and rerouters chained by bucket, so that a question looks at few of them. No rule stands here.
 use Prim.Native.Nat.{ℕ, zero, suc, _+_, _*_, _/_, _%_, _<_, _≤_}
 use mathlib.Core.Path.{_≡_}
 use mathlib.Core.Bool.{Bool, true, false, not, _&&_, _||_}
 use mathlib.Core.List.{List, [], _∷_}
 use lib.Dec.{eqb}
 use lib.ListN.{length, getD}
-use Rattle.sheet.specs.Table.{ORIGIN, MISSING}
+use Rattle.sheet.specs.Table.{MISSING}
 use Rattle.board.specs.Lists.{found, newest}
 use Rattle.board.specs.Board.{Board, field}
 use Rattle.board.specs.Index.{Chained}
@@ -15,7 +14,7 @@ use Rattle.board.specs.Rows.{cellsOverlap, rerouterCell, brickCell}
 use Rattle.routes.specs.Stops.{near}
 use Rattle.routes.specs.Levels.{claimNear}
 use Rattle.routes.specs.Bus.{Brick, partHead, partLink}
-use Rattle.routes.specs.Buffers.{brickRow}
+use Rattle.routes.specs.Buffers.{brickRow, inward}
 use Rattle.routes.specs.Tables.{stopIn}
 use Rattle.cells.specs.declared.cells.Cell.{Cell}
 use Rattle.cells.specs.declared.cells.Wanted.{Wanted}
@@ -34,10 +33,6 @@ bucketOf page key half = (page * 5147 + key * 1553 + half) % BUCKETS
 -- Half of a coordinate and one more. What is near c, that is c − 1, c or c + 1, has the half below or above: (c + 1) / 2 or (c + 3) / 2.
 abbrev pub halfOf : ℕ → ℕ
 halfOf c = (c + 2) / 2
-
--- A coordinate of 32 bits, as it is held.
-abbrev pub inward : ℕ → ℕ
-inward c = (c + ORIGIN) % 4294967296
 
 -- A rerouter is chained by the row it stands beside and its y, or by its lane and x where it stands beside no row.
 abbrev pub rowBucket : List ℕ → ℕ

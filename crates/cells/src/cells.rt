@@ -15,7 +15,8 @@ ghost use Rattle.board.specs.Tables.{view, NodeFacts};
 ghost use Rattle.routes.specs.Bus.{Bus, clearOfRow};
 ghost use Rattle.routes.specs.Rerouters.{columnFree};
 ghost use Rattle.routes.specs.Tables.{stopIn};
-ghost use Rattle.cells.specs.Chains.{cellOf, inward as inwardOf, bucketOf, brickBucket, stopBucket, nodeBucket, nodeMeets, stopClaims, brickMeets, boardWith, Walkable, inBucket, nearBuckets, Empty, CellRows, BrickRows};
+ghost use Rattle.routes.specs.Buffers.{inward as inwardOf};
+ghost use Rattle.cells.specs.Chains.{cellOf, bucketOf, brickBucket, stopBucket, nodeBucket, nodeMeets, stopClaims, brickMeets, boardWith, Walkable, inBucket, nearBuckets, Empty, CellRows, BrickRows};
 
 // A cell, half-open; of 64 bits, so that no end wraps.
 pub struct Cell {
@@ -58,7 +59,7 @@ fn rerouter_cell(x: u32, y: u32) -> Cell
     }
 }
 
-// "under 2 from": whether two spans of 2 overlap.
+// V6: whether two spans of 2 overlap.
 fn near(x: u32, p: u32) -> bool
     ensures { λ r. ⌜ r ≡ nearTo x p ⌝ }
 {
@@ -280,7 +281,7 @@ fn cell_of_size(x: u32, y: u32, half_x: u32, half_y: u32) -> Cell
     }
 }
 
-// "A brick's cell is x to x + 2 half x, y to y + 2 half y, halves swapped at rotations 1 and 3."
+// C3: a brick's cell.
 pub fn brick_cell(nodes: &[[u32; 16]], i: usize) -> Cell
     requires { ⌜ i < length (now nodes) ⌝ }
     ensures { λ r. ⌜ cellOf r ≡ brickCell (boardWith (now (nodes .entry))) i ⌝ }
@@ -390,7 +391,7 @@ pub fn book_brick(rerouters: &[[u32; 10]], nexts: &mut [u32], heads: &mut [u32],
     chain(nexts, heads, k, n);
 }
 
-// `claim_column`'s test: "unclaimed in the column", by the stops' own levels and by the heads and links placed so far.
+// V6, R13: `claim_column`'s test: no claim on the span, by the stops' own levels or by the heads and links placed so far.
 pub fn column_free(
     stops: &[[u32; 8]],
     claim_nexts: &[u32],
@@ -429,7 +430,7 @@ pub fn column_free(
     !taken
 }
 
-// "clear of that row's cells": those of the row's bricks and of the rerouters placed beside it.
+// C6: clear of what is booked on a row: its bricks, and the rerouters placed beside it.
 pub fn row_clear(
     nodes: &[[u32; 16]],
     facts: &[[u32; 8]],

@@ -1,4 +1,4 @@
--- How the code that collects taps, groups and demands holds them on its way. No rule of document 01 stands here.
+-- How the code that collects taps, groups and demands holds them on its way. No rule stands here.
 use Prim.Native.Nat.{ℕ, _+_, _-_, _*_, _%_, _≤_, _<_}
 use mathlib.Core.Path.{_≡_}
 use mathlib.Core.Bool.{true, false, _&&_}

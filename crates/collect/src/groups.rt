@@ -54,7 +54,7 @@ pub struct End {
     pub open: bool,
 }
 
-// The end at a node: the body node itself, or for a node inside a chip the chip's top chip.
+// G2: the end at a node. A body node is its own anchor, a node inside a chip has the brick of the chip's top chip.
 fn find_end(
     nodes: &[[u32; 16]],
     chips: &[[u32; 16]],
@@ -111,7 +111,7 @@ fn wire_open(wire: [u32; 16], source_open: bool, target_open: bool) -> bool
     if source_open { target_open } else { false }
 }
 
-// "Input, pin or storage"
+// G3: whether an anchor is bus-worthy, by its kind, its pin or its class.
 pub fn is_bus_worthy_source(node: [u32; 16]) -> bool
     ensures { λ r. ⌜ r ≡ (eqb (getD node 2 0) kindInput || eqb (getD node 4 0) 1 || eqb (getD node 3 0) classStorage) ⌝ }
 {

@@ -1,4 +1,4 @@
-// Rows of a page: its distinct downs, numbered, and each row's top. Nodes are sorted by page, down and falling x end, so that a row is a run
+// C4, C5: the rows of a page, numbered by their downs, and each row's top. Nodes are sorted by page, down and falling x end, so that a row is a run
 // of keys and its first key has its top.
 ghost use mathlib.Core.Path.{_≡_};
 ghost use mathlib.Core.Bool.{true, false, _||_};
@@ -16,7 +16,7 @@ pub const MISSING: u32 = 4_294_967_295;
 
 const END_MOST: u32 = 4_000_000;
 
-// A brick's half along x: the halves are swapped at rotations 1 and 3.
+// C3: a brick's half along x, by its rotation.
 fn half_along(rotation: u32, half_x: u32, half_y: u32) -> u32
     ensures { λ r. ⌜ r ≡ elim (eqb rotation 1 || eqb rotation 3) [ true ↦ «half_y» | false ↦ «half_x» ] ⌝ }
 {

@@ -5,7 +5,7 @@ use mathlib.Core.Bool.{Bool, true, false, not, _&&_}
 use mathlib.Core.List.{List}
 use native.Mathlib.Omega.{arith}
 use lib.Dec.{eqb, leb}
-use lib.ListN.{length, replicate, length-replicate, getD-replicate}
+use lib.ListN.{length, getD, replicate, length-replicate, getD-replicate}
 use borrow.Author.Tests.{eq-eqb, ne-eqb, leb-true}
 use Rattle.sheet.specs.Table.{MISSING}
 use Rattle.board.specs.Lists.{any, keep, upto}
@@ -23,7 +23,8 @@ use Rattle.routes.specs.Holding.{BusHeld}
 use Rattle.stops.specs.Marks.{Marks}
 use Rattle.routes.specs.declared.bus.BusCount.{BusCount}
 use Rattle.corners.specs.CornerTables.{portAt, OnPage, Classed, CornerFits, CornerFacts, CornerReady, CornersHeld, Flagged, firsts, laid, begun}
-use Rattle.corners.specs.Handed.{portIn, Mutes}
+use Rattle.routes.specs.Buffers.{portIn}
+use Rattle.corners.specs.Handed.{Mutes}
 use Rattle.corners.specs.Turning.{hasRoom, BoardOf, BoardFits, Lent, Found, LayFits}
 
 pub fresh-heads : (n : ℕ) → BUCKETS ≤ n → Empty (replicate n 0)
@@ -41,6 +42,11 @@ fresh-marks marks =
           };
       counted = λ i h. absurd (omega arith);
     }
+
+-- Lists for W wires, with no flag set.
+pub fresh-lists : (W : ℕ) → W ≤ 8192
+    → ((W ≤ length (replicate {A = ℕ} 8192 0)) × (W ≤ length (replicate {A = ℕ} 8192 0)) × (W ≤ length (replicate {A = ℕ} 8192 0))) × ((k : ℕ) → k < W → getD (replicate {A = ℕ} 8192 0) k 0 ≡ 0)
+fresh-lists W few = let long : W ≤ length (replicate {A = ℕ} 8192 0) = simp length-replicate few in ((long, long, long), λ k h. getD-replicate 8192 k 0 0 (omega arith))
 
 flag-open : (t : Bool) → eqb (flag t) 1 ≡ t
 flag-open true = eq-eqb 1 1 refl
@@ -75,9 +81,12 @@ module _ (b : Board) (pages nodes wires facts ends : List (List ℕ)) (is : Boar
     turners-in =
         f .turners .all b bus pages facts (corner-facts classes (f .classed)) flagged-in ∙ (λ i. keep (turns b bus) (upto (length (sym (is .wiresAre) i))))
 
-    pub turning-count : m ≡ turnable b bus
+    turning-count : m ≡ turnable b bus
     unfolding turnable
     turning-count = sym (length-firsts list m) ∙ ap length turners-in
+
+    pub room-asked : (n k : ℕ) → hasRoom (length wires) n k u (turnable b bus) ≡ hasRoom (length wires) n k u m
+    room-asked n k = ap (hasRoom (length wires) n k u) (sym turning-count)
 
 -- What the pass needs of fresh tables.
 module _ (pages nodes wires facts ends : List (List ℕ)) (fits : BoardFits pages nodes wires facts ends) (R W M : List (List ℕ)) (classes flags list : List ℕ) (m : ℕ) (count : BusCount)

@@ -1,5 +1,5 @@
 -- How the code finds which of a turn's levels are blocked, all in one walk: for each level the furthest end of the cells that begin before it is over.
--- No rule of document 01 stands here.
+-- No rule stands here.
 use Prim.Native.Nat.{ℕ, zero, suc, _+_, _*_, _<_}
 use mathlib.Core.Path.{_≡_}
 use mathlib.Core.Bool.{Bool, true, false, _||_}
@@ -8,7 +8,8 @@ use lib.Dec.{ltb, leb}
 use lib.ListN.{length, getD}
 use Rattle.board.specs.Rows
 use Rattle.board.specs.Rows.{cellsOverlap, rerouterCell}
-use Rattle.cells.specs.Chains.{cellOf, inward, nodeMeets, brickMeets}
+use Rattle.routes.specs.Buffers.{inward}
+use Rattle.cells.specs.Chains.{cellOf, nodeMeets, brickMeets}
 use Rattle.routes.specs.Levels.{STAGGER_STEP}
 use Rattle.cells.specs.declared.cells.Cell.{Cell}
 use Rattle.cells.specs.declared.cells.Wanted.the-variants.{Beside}

@@ -1,4 +1,4 @@
--- How the code of the corner pass holds its board, the bus and the levels taken. No rule of document 01 stands here.
+-- How the code of the corner pass holds its board, the bus and the levels taken. No rule stands here.
 use Prim.Native.Nat.{ℕ, zero, suc, _+_, _*_, _≤_, _<_}
 use mathlib.Core.Path.{_≡_}
 use mathlib.Core.Bool.{Bool, true, false, not, _&&_}
@@ -110,7 +110,7 @@ pub record LevelTold (b : Board) (c : Cornering) (s t : ℕ) (marks : List (List
 abbrev pub LevelsTold : Board → Cornering → ℕ → ℕ → List (List ℕ) → ℕ → List ℕ → Turn → Type 0
 LevelsTold b c s t marks m ends turn = (k : ℕ) → k < levelsIn (turn .x) (turn .top) → LevelTold b c s t marks m turn (turn .x + STAGGER_STEP * k) (getD ends k 0)
 
--- "not yet used by this sink's corners whose cell .. is clear"
+-- A level that is clear and that no corner of this sink has (K5).
 abbrev pub openCorner : Board → Cornering → ℕ → ℕ → ℕ → Bool
 openCorner b c s t level = eqb (sinkLoad b (c .taken) t level) 0 && cornerClear b (c .bus) s t level
 

@@ -1,4 +1,4 @@
--- How the code finds the wires of a target port: chained by bucket, each with its class. No rule of document 01 stands here.
+-- How the code finds the wires of a target port: chained by bucket, each with its class. No rule stands here.
 use Prim.Native.Nat.{ℕ, _+_, _*_, _%_, _≤_, _<_}
 use mathlib.Core.Path.{_≡_}
 use mathlib.Core.Bool.{Bool, not}
@@ -10,9 +10,9 @@ use Rattle.board.specs.Lists.{Found, none, at, any}
 use Rattle.board.specs.Board.{field}
 use Rattle.board.specs.Tables.{view}
 use Rattle.routes.specs.Bus.{Port, samePort}
+use Rattle.routes.specs.Buffers.{portIn}
 use Rattle.cells.specs.Chains.{BUCKETS, Walkable}
 use Rattle.corners.specs.CornerTables.{portAt, Classed}
-use Rattle.corners.specs.Handed.{portIn}
 
 -- The multiplier keeps the ports of a node apart, and any would do.
 abbrev pub portBucket : ℕ → ℕ → ℕ

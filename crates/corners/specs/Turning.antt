@@ -17,7 +17,7 @@ use Rattle.corners.specs.Ports.{FlaggedBy, amongPorts}
 use Rattle.corners.specs.declared.turn.Turned.{Turned}
 use Rattle.corners.specs.declared.turn.Turned.the-variants.{Short, Laid}
 
--- "Lent for W wires ..: 5W rerouters, 6W bus wires, W suppressed ports": whether n, k and u of them leave room for so many corners more.
+-- E16: whether n rerouters, k bus wires and u suppressed ports leave room for so many corners more in what is lent for W wires (S15).
 unfoldable pub hasRoom : ℕ → ℕ → ℕ → ℕ → ℕ → Bool
 hasRoom W n k u turning = leb (n + turning) (5 * W) && leb (k + 2 * turning) (6 * W) && leb (u + turning) W
 

@@ -169,7 +169,7 @@ fn spread(ends: &mut [u64], count: u32)
     }
 }
 
-// The ends that tell of each level whether a corner's cell there is "clear of the sink row's cells".
+// C6: the ends that tell of each level whether a corner there is clear of the sink's row.
 pub fn find_ends(
     nodes: &[[u32; 16]],
     facts: &[[u32; 8]],

@@ -64,8 +64,7 @@ const ROLE_LINE: u32 = 1;
 
 const PART_CORNER: u32 = 6;
 
-// "a target not at rotation 1; an end without a line, or two lines; an end without a row, or two pages; a source whose down is not less than the
-// sink's, or whose y is not greater" is passed over.
+// K3: the tests on a source and a sink.
 fn turns_down(source: [u32; 16], sink: [u32; 16]) -> bool
     ensures { λ r. ⌜ ((b : Board) (s t : ℕ) → getD (b .nodes) s [] ≡ source → getD (b .nodes) t [] ≡ sink → r ≡ turnsDown b s t) ⌝ }
 {
@@ -92,7 +91,7 @@ fn is_body(nodes: &[[u32; 16]], anchor: u32, id: u32) -> bool
     nodes[i][1] == id
 }
 
-// Whether a corner's cell at the level is clear of the sink row's cells, as its end tells, and no corner of the sink took the level.
+// K5: whether a corner at the level is clear of the sink's row, as its end tells, and no corner of the sink took the level.
 fn is_open_corner(
     marks: &[[u32; 8]],
     mark_heads: &[u32],
@@ -121,7 +120,7 @@ fn is_open_corner(
     !used
 }
 
-// "the lowest not yet used by this sink's corners whose cell .. is clear of the sink row's cells", or none.
+// K5: the lowest level that is unused and clear, or none.
 fn lowest_corner(
     marks: &[[u32; 8]],
     mark_heads: &[u32],
@@ -149,7 +148,7 @@ fn lowest_corner(
     found
 }
 
-// "else the least loaded clear one, lower first", or none. It goes from the highest down, so that the last one taken is the lowest.
+// K6: the least loaded level that is clear, or none. It goes from the highest down, so that the last one taken is the lowest.
 fn least_loaded_corner(
     marks: &[[u32; 8]],
     mark_heads: &[u32],
@@ -189,7 +188,7 @@ fn least_loaded_corner(
     best
 }
 
-// "the lowest ..; else the least loaded clear one, lower first; else no corner". Half sizes go to 1,000, so there are no more levels than that.
+// K5, K6: a corner's level, or none (K7). Half sizes go to 1,000 (S11), so there are no more levels than that.
 fn corner_level(
     nodes: &[[u32; 16]],
     facts: &[[u32; 8]],
@@ -235,7 +234,7 @@ fn corner_level(
     least_loaded_corner(marks, mark_heads, m, &ends, turn)
 }
 
-// A corner at a level: "at the level and the source's y", "with rotation 2, the page's z, the source node's colour".
+// K8: a corner at a level.
 fn corner_brick(turn: Turn, level: u32) -> Brick
     ensures { λ r. ⌜ (r .lane ≡ 4294967295) × ((b : Board) (s t : ℕ) → TurnOf b s t turn → brickOf r ≡ cornerBrick b s t level) ⌝ }
 {
@@ -276,7 +275,7 @@ fn turn_of(pages: &[[u32; 16]], nodes: &[[u32; 16]], facts: &[[u32; 8]], s: u32,
     }
 }
 
-// "the source port feeds it, it feeds the target"
+// K10: the bus wire to a corner, and its delivery.
 fn place_corner(
     rerouters: &mut [[u32; 10]],
     bus_wires: &mut [[u32; 6]],
@@ -350,7 +349,7 @@ fn turns(
     goes_down(nodes, s, t)
 }
 
-// "A corner joins both lists ..; the source port feeds it, it feeds the target, whose port is suppressed."
+// K9, K10: a corner, its delivery, its level taken and its target's port suppressed.
 fn with_corner(
     rerouters: &mut [[u32; 10]],
     bus_wires: &mut [[u32; 6]],
@@ -461,7 +460,7 @@ fn lay_corner(
     }
 }
 
-// "over wires in order": the corner of wire w, where it passes the tests and a level is found.
+// K1: the corner of wire w, where it passes the tests and a level is found.
 fn turn_wire(
     pages: &[[u32; 16]],
     nodes: &[[u32; 16]],

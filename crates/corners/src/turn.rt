@@ -14,10 +14,11 @@ ghost use Rattle.board.specs.Board.{Board};
 ghost use Rattle.routes.specs.Bus.{Bus};
 ghost use Rattle.board.specs.Lists.{keep, upto};
 ghost use Rattle.cells.specs.Chains.{Walkable, Empty, brickBucket, CellRows};
-ghost use Rattle.routes.specs.Corners.{turns, corners};
+ghost use Rattle.routes.specs.Corners.{turns, turnable, corners};
 ghost use Rattle.routes.specs.Holding.{BusHeld};
 ghost use Rattle.corners.specs.CornerTables.{CornerFacts, Flagged, firsts};
-ghost use Rattle.corners.specs.Handed.{Row, Rows, busIn, Mutes, Handed};
+ghost use Rattle.routes.specs.Buffers.{Row, Rows};
+ghost use Rattle.corners.specs.Handed.{busIn, Mutes, Handed};
 ghost use Rattle.corners.specs.Turning.{hasRoom as hasRoomFor, BoardOf, BoardFits, Lent, Found, LayFits, TurnedAs, TurnedFrom};
 
 // No room for all that may turn, or the counts with the corners laid.
@@ -61,7 +62,7 @@ fn book_rerouters(rerouters: &[[u32; 10]], n: usize, nexts: &mut [u32], heads: &
     }
 }
 
-// "5W rerouters, 6W bus wires, W suppressed ports": whether there is room for so many corners.
+// E16: whether there is room for so many corners in what is lent.
 fn has_room(wires: usize, n: usize, k: usize, u: usize, turning: usize) -> bool
     requires { ⌜ (wires ≤ 8192) × (turning ≤ wires) × (n < 9223372036854775808) × (k < 9223372036854775808) × (u < 9223372036854775808) ⌝ }
     ensures { λ r. ⌜ r ≡ hasRoomFor wires n k u turning ⌝ }
@@ -90,6 +91,36 @@ fn find_turners(
     class_ports(wires, classes, &mut nexts, &mut heads);
     flag_ports(wires, classes, &nexts, &heads, ports, u, flags);
     find_turns(nodes, wires, ends, classes, flags, list)
+}
+
+// Whether n rerouters, k bus wires and u suppressed ports leave room for all that may turn, where nothing is to be laid.
+pub fn has_room_to_turn(
+    nodes: &[[u32; 16]],
+    wires: &[[u32; 16]],
+    wire_facts: &[[u32; 8]],
+    n: usize,
+    k: usize,
+    ports: &[[u32; 2]],
+    u: usize,
+) -> bool
+    requires { ⌜ (length (now wires) ≤ 8192) × (length (now wires) ≤ length (now «wire_facts»)) × (u ≤ length (now ports)) × (n < 9223372036854775808) × (k < 9223372036854775808) ⌝ }
+    ensures { λ r. ⌜ ((b : Board) (bus : Bus) (pages facts : List (List ℕ)) → BoardOf b pages (now (nodes .entry)) (now (wires .entry)) facts (now («wire_facts» .entry))
+        → Mutes b bus (now (ports .entry)) u → r ≡ hasRoomFor (length (now (wires .entry))) n k u (turnable b bus)) ⌝ }
+{
+    let mut classes = [0u32; 8192];
+    let mut flags = [0u32; 8192];
+    let mut list = [0u32; 8192];
+    let turning = find_turners(
+        nodes,
+        wires,
+        wire_facts,
+        ports,
+        u,
+        &mut classes,
+        &mut flags,
+        &mut list,
+    );
+    has_room(wires.len(), n, k, u, turning)
 }
 
 // The corners of the `turning` wires in the list.

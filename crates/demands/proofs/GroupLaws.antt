@@ -227,9 +227,6 @@ module _ (b : Board) (ts : List Tap) (t : Tap) (m : Mem t ts) (lane : ℕ) (r : 
   row-crosses = ap (λ (q : List ℕ). getD q 3 0) is
 
 -- What a view's rows are.
-pub view-mem : {A : Type 0} (read : List ℕ → A) (s : List (List ℕ)) (m k : ℕ) → k < m → Mem (read (getD s k [])) (view read s m)
-view-mem read s zero k h = absurd (omega arith)
-view-mem read s (suc m) k h = elim (native.Mathlib.Decide.decLt k m) [ yes l ↦ there (view-mem read s m k l) | no f ↦ let e : k ≡ m = omega arith in here (ap (λ (j : ℕ). read (getD s j [])) e) ]
 
 -- One more tap added to its group's row.
 module _ (b : Board) (taps groups : List (List ℕ)) (count k : ℕ) (row : List ℕ) where
@@ -295,7 +292,3 @@ length-group b (t ∷ ts) g = go (eqb (t .group) g) (length-group b ts g)
     go : (s : Bool) → length (keep (λ u. eqb (u .group) g) ts) ≤ length ts → length {A = Tap} (elim s [ true ↦ t ∷ keep (λ u. eqb (u .group) g) ts | false ↦ keep (λ u. eqb (u .group) g) ts ]) ≤ suc (length ts)
     go true h = omega arith
     go false h = omega arith
-
-pub length-view : {A : Type 0} (read : List ℕ → A) (s : List (List ℕ)) (m : ℕ) → length (view read s m) ≡ m
-length-view read s zero = refl
-length-view read s (suc m) = ap suc (length-view read s m)

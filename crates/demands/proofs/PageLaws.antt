@@ -53,7 +53,7 @@ flag-one : (t : Bool) (v : ℕ) → v ≡ flag t → (v ≡ 0 → ⊥) → t ≡
 flag-one true v e h = refl
 flag-one false v e h = absurd (h e)
 
--- "A group needs two rows, or to cross, or an Input, pin or storage source anchor", from its row.
+-- D1: whether a group needs a lane, from its row.
 module _ (b : Board) (ts : List Tap) (g r0 r1 r3 : ℕ) (first : r0 ≡ firstRow b ts g) (last : r1 ≡ lastRow b ts g) (crossing : r3 ≡ flag (crosses b ts g)) where
   pub needs-two : r0 < r1 → true ≡ needsLane b ts g
   unfolding needsLane

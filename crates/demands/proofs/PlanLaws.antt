@@ -26,7 +26,8 @@ use Rattle.collect.specs.Collecting.{relaned, headPage, GroupSums, Packable}
 use Rattle.demands.specs.PagePlan.{PlanHeld}
 use Rattle.demands.specs.PagePlan.{groupDemand, asking, PagePacked, GutterPacked, Surveyed, Collected}
 use Rattle.board.proofs.Members.{keep-from, map-from}
-use Rattle.demands.proofs.GroupLaws.{Known, known, known-row, row-first, row-last, row-consumers, view-mem, first-last, last-most, length-group, length-view}
+use Rattle.board.proofs.Views.{view-mem, length-view}
+use Rattle.demands.proofs.GroupLaws.{Known, known, known-row, row-first, row-last, row-consumers, first-last, last-most, length-group}
 use Rattle.demands.proofs.PageLaws.{asking-is, asker, map-same, reverse-from}
 
 -- The pages planned so far.

@@ -1,4 +1,4 @@
--- How the code plans a page, from the taps, the page that each asks for a lane on, and the groups' rows. No rule of document 01 stands here.
+-- How the code plans a page, from the taps, the page that each asks for a lane on, and the groups' rows. No rule stands here.
 use Prim.Native.Nat.{ℕ, _+_, _≤_, _<_, _-_}
 use mathlib.Core.Path.{_≡_}
 use mathlib.Core.Bool.{Bool, true, false}

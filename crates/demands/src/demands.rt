@@ -125,7 +125,7 @@ fn sum_taps(
     }
 }
 
-// "A group needs two rows, or to cross, or an Input, pin or storage source anchor."
+// D1: taps on several rows, a wire that crosses, or a bus-worthy source.
 fn needs_lane(nodes: &[[u32; 16]], source: u32, row: [u32; 8]) -> bool
     ensures { λ r. ⌜ ((b : Board) (g : ℕ) → b .nodes ≡ now (nodes .entry) → source ≡ sourceAnchor b g → source < length (now (nodes .entry))
         → ((ts : List Tap) → getD row 0 0 ≡ firstRow b ts g → getD row 1 0 ≡ lastRow b ts g

@@ -127,7 +127,7 @@ module _ (b : Board) (ts : List Groups.Tap) (ps : List PageLanes) (t : Groups.Ta
       go none h = absurd (e h)
       go (at r) h = ap at (sym (h .0))
 
-  -- "Just before that head, where the source row is known, a source rerouter .. if clear of that row's cells."
+  -- R6: a source rerouter, where there is a source row and it is clear of that.
   abbrev sourceCase : Rerouters.Emission → Found → Rerouters.Emission
   sourceCase s f = elim f [ none ↦ s | at r ↦ elim (clearFor b ts ps (s .bus) (sourceBrick b ts ps t r)) [ true ↦ hungOn (sourceBrick b ts ps t r) s | false ↦ s ] ]
 
@@ -166,7 +166,7 @@ module _ (b : Board) (ts : List Groups.Tap) (ps : List PageLanes) (t : Groups.Ta
   column-same : (stops : List Stop) (bus : Bus.Bus) (x x′ : ℕ) → x ≡ x′ → columnFree stops bus (l .page) (l .lane) x ≡ columnFree stops bus (t .page) (laneFor ps t) x′
   column-same stops bus x x′ e = λ i. columnFree stops bus (k .page i) (k .lane i) (e i)
 
-  -- "A source placed at x, y gets a head at x if x to x + 2 is unclaimed in the column."
+  -- R5: a head, where the source is placed and the span there unclaimed.
   module _ (stops : List Stop) (s : Rerouters.Emission) where
     abbrev headCase : Bool → Rerouters.Emission
     headCase c = elim c [ true ↦ hungOn (headBrick b ts ps t) (withSource b ts ps (begun s) t) | false ↦ begun s ]
@@ -191,7 +191,7 @@ module _ (b : Board) (ts : List Groups.Tap) (ps : List PageLanes) (t : Groups.Ta
       unfolding startGroup
       group-headless n = sym (ap headCase (head-asked ∙ n))
 
-    -- "a link at level + 2, if level + 2 to level + 4 is unclaimed"
+    -- R8: a link, unless its span is claimed.
     module _ (level : ℕ) (c : Bool) (asked : c ≡ columnFree stops (s .bus) (l .page) (l .lane) (level + 2)) where
       pub link-stands : (brick : Brick) → brickOf brick ≡ laneBrickOf l (level + 2) (l .rotation) partLink → c ≡ true → hungOn (brickOf brick) s ≡ withLink b ts ps stops s t level
       unfolding withLink
@@ -215,7 +215,7 @@ module _ (b : Board) (ts : List Groups.Tap) (ps : List PageLanes) (t : Groups.Ta
     unfolding startRow
     row-dropped = refl
 
-  -- "for each y a gate-side rerouter at level, y − 5, rotation 0, if clear of the row's cells"
+  -- R10: a gate-side rerouter, if it is clear of the row.
   module _ (level : ℕ) (s : Rerouters.Emission) (c : Bool) (asked : c ≡ clearOfRow b (s .bus) (l .page) (t .row) (rerouterCell level (t .y - 5))) where
     gate-clear : clearOfRow b (s .bus) (l .page) (t .row) (rerouterCell level (t .y - 5)) ≡ clearFor b ts ps (s .bus) (gateSideBrick b ts ps t level)
     unfolding rowBrick

@@ -1,4 +1,4 @@
--- How the code holds the walk over the taps: the emission's feeds and counts by value, the buffers beside. No rule of document 01 stands here.
+-- How the code holds the walk over the taps: the emission's feeds and counts by value, the buffers beside. No rule stands here.
 use Prim.Native.Nat.{ℕ, zero, suc, _+_, _*_, _-_, _<_, _≤_}
 use mathlib.Core.Path.{_≡_}
 use mathlib.Core.Bool.{Bool, true, false, not, _&&_}
@@ -305,7 +305,7 @@ pub record LaidInRange (pages nodes wires facts ends groups pageFacts laid : Lis
   pub levels : (i : ℕ) → i < claims → LowLevel (stopIn (getD stops i []) .level)
   pub aStopEach : rowsBegun (view tapIn laid n) ≡ claims
 
--- "5W rerouters, 6W bus wires": room for five and six rows a tap.
+-- Room for five rerouters and six bus wires a tap, as S15 lends for a wire.
 pub record RoomForTaps (n : ℕ) (rerouters wires : List (List ℕ)) (nexts heads : List ℕ) : Type 0 where
   pub bricks : 5 * n ≤ length rerouters
   pub links : 5 * n ≤ length nexts

@@ -62,8 +62,8 @@ pub struct Lane {
     pub source_row: u32,
 }
 
-// What the walk over the taps holds: how much is written, the feed that links and taps hang on, the tap of the group's last own level, and the end of
-// the row's chain so far.
+// R12: what the walk over the taps holds: how much is written, the feed of links and taps, the tap of the group's last own level, and the end of the row's
+// chain so far.
 pub struct Emission {
     pub count: BusCount,
     pub upstream: Feed,
@@ -228,7 +228,7 @@ fn chain_on(
     }
 }
 
-// "Just before that head, where the source row is known, a source rerouter .. if clear of that row's cells."
+// R6: a source rerouter, where there is a source row and it is clear of that.
 fn with_source(
     nodes: &[[u32; 16]],
     facts: &[[u32; 8]],
@@ -304,7 +304,7 @@ fn at_port(e: Emission, l: Lane) -> Emission
     }
 }
 
-// A group begins at its port. "A source placed at x, y gets a head at x if x to x + 2 is unclaimed in the column."
+// R5: a group begins at its port, with a head where the source is placed and the span there unclaimed.
 fn start_group(
     nodes: &[[u32; 16]],
     facts: &[[u32; 8]],
@@ -372,7 +372,7 @@ fn start_group(
     begun
 }
 
-// "each other kept stop gets a link at level + 2, if level + 2 to level + 4 is unclaimed"
+// R8: a link, unless its span is claimed.
 fn with_link(
     stops: &[[u32; 8]],
     claim_nexts: &[u32],
@@ -421,7 +421,7 @@ fn with_link(
     e
 }
 
-// The row of a stop that shares the last kept one's brick: its chain begins there.
+// R7: the row of a stop whose level is taken over: its chain begins at the last tap.
 fn share_tap(e: Emission) -> Emission
     ensures { λ r. ⌜ r ≡ sharedTap e ⌝ }
 {
@@ -436,7 +436,7 @@ fn share_tap(e: Emission) -> Emission
     }
 }
 
-// "A kept stop shares the last kept one's brick exactly when it took over its level; each other kept stop gets a link .., then a tap."
+// R7: a level of its own has a link and a tap; one taken over goes by the tap of the stop it was taken from.
 fn start_row(
     stops: &[[u32; 8]],
     claim_nexts: &[u32],
@@ -486,7 +486,7 @@ fn start_row(
     }
 }
 
-// "for each y a gate-side rerouter at level, y − 5, rotation 0, if clear of the row's cells"
+// R10: a gate-side rerouter, if it is clear of the row.
 fn with_gate_side(
     nodes: &[[u32; 16]],
     facts: &[[u32; 8]],
@@ -537,7 +537,7 @@ fn with_gate_side(
     e
 }
 
-// "then that y's deliveries": "deliveries leave its end so far".
+// R11: a delivery, from the end of the row's chain.
 fn deliver(bus_wires: &mut [[u32; 6]], e: Emission, t: Tap) -> Emission
     requires { ⌜ e .count .wires < length (now «bus_wires») ⌝ }
     ensures { λ r. ⌜ Delivered (now («bus_wires» .entry)) e t (now («bus_wires» .exit)) r ⌝ }
@@ -772,7 +772,7 @@ const BUS_BAND_GUTTER: u32 = 6;
 
 const LANE_PITCH: u32 = 2;
 
-// Lane y: "min_y − 6 − 2 × (lanes − lane)".
+// R2: the y of a lane, of so many lanes.
 fn lane_y(min_y: u32, lanes: u32, lane: u32) -> u32
     requires { ⌜ (lane ≤ lanes) × (6 + 2 * (lanes - lane) ≤ «min_y») ⌝ }
     ensures { λ r. ⌜ r ≡ laneY «min_y» lanes lane ⌝ }
@@ -780,7 +780,7 @@ fn lane_y(min_y: u32, lanes: u32, lane: u32) -> u32
     min_y - BUS_BAND_GUTTER - LANE_PITCH * (lanes - lane)
 }
 
-// "rotation 3 when the source is placed and every tap's x is over its x, else 1": the least of them is.
+// R4: the rotation of heads and links: whether the least x of the taps is greater than that of a placed source.
 fn chain_rotation(x: u32, low: u32) -> u32
     ensures { λ r. ⌜ r ≡ rotationOver x low ⌝ }
 {
@@ -790,7 +790,7 @@ fn chain_rotation(x: u32, low: u32) -> u32
     1
 }
 
-// "The source row counts only on the same page."
+// G10: the row of the source anchor, where that stands on the page.
 fn source_row(nodes: &[[u32; 16]], facts: &[[u32; 8]], s: usize, page: u32) -> u32
     requires { ⌜ (s < length (now nodes)) × (s < length (now facts)) ⌝ }
     ensures { λ r. ⌜ r ≡ rowOnPage (now (nodes .entry)) (now (facts .entry)) s page ⌝ }

@@ -22,8 +22,9 @@ use Rattle.board.proofs.Members.{map-in, map-from, keep-from}
 use Rattle.collect.proofs.RowLaws.{On, on-from, row-below}
 use Rattle.collect.proofs.KeyLaws.{half-within}
 use Rattle.collect.proofs.TapLaws.{carried-row, carried-below}
-use Rattle.demands.proofs.GroupLaws.{Known, known, known-row, source-held, source-below, target-held, target-below, least-any, in-group, length-view}
+use Rattle.demands.proofs.GroupLaws.{Known, known, known-row, source-held, source-below, target-held, target-below, least-any, in-group}
 use Rattle.board.proofs.LanesFit.{planned-fits}
+use Rattle.board.proofs.Views.{view-mem, length-view}
 use Rattle.routes.specs.Stops.{isLaid, laidTaps}
 use Rattle.routes.specs.Levels.{Level, dropped, shared, own, keptAt, stopsOf}
 use Rattle.routes.specs.Tables.{GroupFacts, stopIn}
@@ -31,7 +32,6 @@ use Rattle.stops.specs.Laying.{TapsFit, Tabled, LaidFits, LaidFacts}
 use Rattle.emit.specs.Emitting.{LowLevel, LaneInRange, LaidInRange, Tables, TapOn}
 use Rattle.routes.specs.Plan.{busOf, laidGroups, groupCount}
 use Rattle.routes.specs.Rerouters.{emit}
-use Rattle.routes.proofs.Views.{view-mem}
 use Rattle.stops.proofs.TapTables.{laid-facts}
 use Rattle.routes.proofs.Laid.{of-laid}
 use Rattle.emit.proofs.Next.{stops-count}

@@ -34,7 +34,7 @@ use Rattle.routes.proofs.Routed.{judged-gutters}
 use Rattle.ports.specs.Ports.{Ported}
 use Rattle.ports.specs.Settling.{portsOver, settled, Settleable, Settled}
 use Rattle.ports.proofs.Reading.{WiresRanged}
-use Rattle.ports.proofs.Laid.{bus-ports, own-ported}
+use Rattle.ports.proofs.Laid.{plan-ports, own-ported}
 use Rattle.ports.proofs.Calling.{settleable, settled-plan}
 use Rattle.gutter.specs.Bus.{BusLent, TextLaid}
 use Rattle.gutter.specs.Calls.{BusCalled, BusTexted, layCall}
@@ -106,7 +106,7 @@ module _ (rows nodeFacts wireFacts taps groups pageFacts old oldWires rerouters 
     ranged = wires-ranged most text (told .onBoard) low (from .accepted)
 
     ported : Ported emptyBus laidBus
-    ported = own-ported (bus-ports (told .onBoard) (told .lanes))
+    ported = own-ported (plan-ports (told .onBoard) (told .lanes) .laid)
 
     room : length (laidBus .wires) ≤ length oldWires
     room = let r = room-to-turn (told .onBoard) (told .lanes) (from .lanes) gutters .wires in let f = fit .busWires in omega arith
@@ -148,7 +148,7 @@ withoutCounts (texts.Laid c n k u g) = plans.Laid n k u g
 abbrev pub lentWith : ℕ → ℕ → ℕ → ℕ → Lent
 lentWith rerouters busWires ports work = record { rerouters = rerouters; «bus_wires» = busWires; ports = ports; answers = 64; work = work; out = 12591232 }
 
-bus-fit : (r w p work : ℕ) (b : Board) → length (b .wires) ≤ libraryMost .wires → length (b .pages) ≤ libraryMost .pages → fitsLent (lentWith r w p work) b ≡ fitsBus r w p work b
+pub bus-fit : (r w p work : ℕ) (b : Board) → length (b .wires) ≤ libraryMost .wires → length (b .pages) ≤ libraryMost .pages → fitsLent (lentWith r w p work) b ≡ fitsBus r w p work b
 unfolding fitsLent fitsCounts hasRoom fitsBus records
 bus-fit r w p work b h g =
     rw (le-leb (length (b .pages)) 64 g, le-leb (LINE_MOST * (length (b .pages) + 12 * length (b .wires) + 1)) 12591232 (omega arith)) refl

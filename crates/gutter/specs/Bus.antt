@@ -1,4 +1,4 @@
--- What planning and laying a sheet's text leaves in the tables and buffers. No rule of document 01 stands here.
+-- What planning and laying a sheet's text leaves in the tables and buffers. No rule stands here.
 use Prim.Native.Nat.{ℕ, _*_, _≤_}
 use mathlib.Core.Path.{_≡_}
 use mathlib.Core.List.{List}

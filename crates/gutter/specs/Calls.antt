@@ -28,7 +28,7 @@ abbrev pub busAnswer : Routed → BusPlan
 busAnswer (turnedAway n l) = Refused n l
 busAnswer (plan b ps bus laid) = Laid (length (bus .bricks)) (length (bus .wires)) (length (bus .ports)) laid
 
--- The buffers: on a refusal as they were, else the plan's rows, then the old rest.
+-- E11, P8: the buffers: on a refusal as they were, else the plan's rows, then the old rest.
 abbrev pub reroutersAfter : Routed → List (List ℕ) → List (List ℕ)
 reroutersAfter (turnedAway n l) old = old
 reroutersAfter (plan b ps bus laid) old = writtenOver brickRow (bus .bricks) old
@@ -52,8 +52,8 @@ pub record BusCalled (call : Routed) (old oldWires oldPorts rerouters busWires p
   pub wires-are : busWires ≡ busWiresAfter call oldWires
   pub ports-are : ports ≡ portsAfter call oldPorts
 
--- Whether what is lent fits a board: the lengths of the three buffers, and of the slices of work space, of which the shortest counts. The marks have two rows for
--- each record.
+-- S15, S16: whether what is lent fits a board: the lengths of the three buffers, and of the slices of work space, of which the shortest counts. The marks
+-- have two rows for each record.
 abbrev pub busFits : ℕ → ℕ → ℕ → List ℕ → Board → Bool
 busFits rerouters busWires ports work = fitsBus rerouters busWires ports (shortest work)
 

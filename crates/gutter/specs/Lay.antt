@@ -1,4 +1,4 @@
--- What laying the lanes starts from, and what the code says of stops on the way. No rule of document 01 stands here.
+-- What laying the lanes starts from, and what the code says of stops on the way. No rule stands here.
 use Prim.Native.Nat.{ℕ, _*_, _≤_}
 use mathlib.Core.Path.{_≡_}
 use mathlib.Core.List.{List}

@@ -1,4 +1,4 @@
--- What the layers above may rely on: two demands of one lane share no row, and the lanes are numbered from 0 without a gap.
+-- L, lanes: what the layers above may rely on.
 use mathlib.Core.Path.{_≡_}
 use mathlib.Core.Logic.{_⊎_}
 use mathlib.Core.List.{List}
@@ -14,6 +14,7 @@ Apart d e = (d .last < e .first) ⊎ (e .last < d .first)
 abbrev pub Rising : List Demand → Type 0
 Rising ds = (i : ℕ) → i < length ds → getD ds i noDemand .first ≤ getD ds i noDemand .last
 
+-- L5: two demands of one lane share no row, and the lanes are numbered from 0 without a gap
 pub record LanesApart (ds : List Demand) (lanes : List ℕ) (count : ℕ) : Type 0 where
   pub long : length lanes ≡ length ds
   pub most : count ≤ laneMost

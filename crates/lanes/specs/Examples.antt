@@ -1,4 +1,4 @@
--- Document 01's worked examples of lanes, as one theorem over a list: "one consumer each, orders 0 and 1".
+-- The worked examples of lanes, (b) to (d), in one theorem.
 use mathlib.Core.Path.{_≡_, refl}
 use mathlib.Core.List.{List, [], _∷_, map}
 use Prim.Native.Nat.{ℕ}
@@ -17,11 +17,11 @@ rows first last order = record { first = first; last = last; consumers = 1; orde
 
 abbrev pub examples : List Example
 examples =
-    -- (b) none for no demands
+    -- (b) no demand, no lane
     record { demands = []; lanes = []; count = 0 }
-    -- (c) rows 0–2 and 2–4 get 0, 1
+    -- (c) they share row 2: a lane each
     ∷ record { demands = rows 0 2 0 ∷ rows 2 4 1 ∷ []; lanes = 0 ∷ 1 ∷ []; count = 2 }
-    -- (d) 0–2 and 3–5 get 0, 0
+    -- (d) they share no row: one lane
     ∷ record { demands = rows 0 2 0 ∷ rows 3 5 1 ∷ []; lanes = 0 ∷ 0 ∷ []; count = 1 }
     ∷ []
 

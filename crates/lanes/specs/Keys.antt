@@ -17,7 +17,7 @@ demandIn d = record { first = d .first; last = d .last; consumers = d .consumers
 unfoldable pub demandOf : List ℕ → Demand
 demandOf row = record { first = getD row 0 0; last = getD row 1 0; consumers = getD row 2 0; order = getD row 3 0 }
 
--- a key row: both ranks count down from the most, so rising rows are demands by span down, consumers down, order up, ties as given
+-- a key row: both ranks count down from the most, so rising rows are demands in the order of L2
 unfoldable pub keyOf : Entry → List ℕ
 keyOf e =
     let d : Demand = e .demand in

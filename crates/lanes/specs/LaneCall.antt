@@ -1,4 +1,4 @@
--- Document 01, "What turns a board away", the lane call on its own: what it answers, and what it leaves in the lane answers.
+-- E, what turns a board away, of the lane call: what it takes, what it answers, and what it leaves in the lane answers.
 use mathlib.Core.Path.{_≡_}
 use Prim.Native.Nat.{ℕ, _<_, _/_, _%_}
 use mathlib.Core.Bool.{Bool, false, cond, _||_}
@@ -10,19 +10,19 @@ use Rattle.lanes.specs.declared.LaneReport.{LaneReport}
 use Rattle.lanes.specs.declared.Allocation.{Allocation}
 use Rattle.lanes.specs.declared.Allocation.the-variants.{Incomplete, TooMany, OutOfRange, NoRoom, NoLane, Lanes}
 
--- "takes up to 8,192 demands"
+-- E15: the most demands
 abbrev pub demandMost : ℕ
 demandMost = 8192
 
--- "first and last row, 0 to 4,095"
+-- E14: the greatest row
 abbrev pub rowMost : ℕ
 rowMost = 4095
 
--- "consumers and order, 0 to 8,192"
+-- E14: the most consumers, and the greatest order
 abbrev pub countMost : ℕ
 countMost = 8192
 
--- "demands of four numbers"
+-- E14: four numbers a demand
 unfoldable pub demandsOf : List ℕ → List Demand
 demandsOf [] = []
 demandsOf (a ∷ []) = []
@@ -30,7 +30,7 @@ demandsOf (a ∷ b ∷ []) = []
 demandsOf (a ∷ b ∷ c ∷ []) = []
 demandsOf (a ∷ b ∷ c ∷ d ∷ rest) = record { first = a; last = b; consumers = c; order = d } ∷ demandsOf rest
 
--- "3, also where a last row is under its first"
+-- E14, E15: number 3, a number out of range or a last row below the first
 unfoldable pub faulty : Demand → Bool
 faulty d =
     ltb rowMost (d .first) || ltb rowMost (d .last) || ltb countMost (d .consumers) || ltb countMost (d .order) || ltb (d .last) (d .first)
@@ -44,12 +44,12 @@ pub data LaneAnswer : Type 0 where
   refused : ℕ → ℕ → LaneAnswer
   allocated : List ℕ → ℕ → LaneAnswer
 
--- "8": "for an 8 the demand that would open lane 513"
+-- E15: number 8, at the demand for which there is no lane
 unfoldable pub answerTo : Packed → LaneAnswer
 answerTo (full i) = refused 8 i
 answerTo (laned lanes count) = allocated lanes count
 
--- the refusals in their order, each over all demands; `answers`, `work` and `spare` are the lengths of what is lent
+-- E15: the refusals in their order; `answers`, `work` and `spare` are the lengths of what is lent
 unfoldable pub laneCall : List ℕ → ℕ → ℕ → ℕ → LaneAnswer
 laneCall numbers answers work spare =
     let n : ℕ = length numbers / 4 in
@@ -65,12 +65,12 @@ unfoldable pub told : LaneAnswer → LaneReport
 told (refused number place) = record { refusal = number; place = place; count = 0 }
 told (allocated lanes count) = record { refusal = 0; place = 0; count = count }
 
--- the lane answers at exit: as they were on a refusal, else the lanes and then the rest as it was
+-- E11, P8: the lane answers at exit: as they were on a refusal, else the lanes and then the rest as it was
 unfoldable pub answered : LaneAnswer → List ℕ → List ℕ
 answered (refused number place) old = old
 answered (allocated lanes count) old = lanes ++ drop (length lanes) old
 
--- this paper's number and values for each case of the call's enum
+-- E15: the numbers of each case of the call's enum
 unfoldable pub reportOf : Allocation → LaneReport
 reportOf (Incomplete i) = record { refusal = 1; place = i; count = 0 }
 reportOf TooMany = record { refusal = 2; place = demandMost; count = 0 }

@@ -1,4 +1,4 @@
--- Document 01, paragraph "Lanes": which lane each demand of a page gets.
+-- L, lanes: which lane each demand of a page gets.
 use Prim.Native.Nat.{ℕ, zero, suc, _-_}
 use mathlib.Core.Bool.{Bool, true, false}
 use mathlib.Core.List.{List, [], _∷_}
@@ -6,11 +6,11 @@ use lib.Dec.{ltb}
 use lib.ListN.{length, set, replicate}
 use Rattle.lanes.specs.Sort.{sorted, lexLess}
 
--- the entries of a page's lane table: "a lane table of 512 entries"
+-- L4: the entries of a page's lane table
 abbrev pub laneMost : ℕ
 laneMost = 512
 
--- what a group asks of the bus (`BusDemand`): its first and last row, how many consumers it has, and its place in source order
+-- L1: what a group asks of the bus (`BusDemand`): its first and last row, how many consumers it has, and its place in source order
 pub record Demand : Type 0 where
   pub first : ℕ
   pub last : ℕ
@@ -30,17 +30,18 @@ unfoldable pub entries : ℕ → List Demand → List Entry
 entries i [] = []
 entries i (d ∷ ds) = record { index = i; demand = d } ∷ entries (suc i) ds
 
+-- L1: a demand's span
 abbrev pub span : Demand → ℕ
 span d = d .last - d .first
 
--- "by span down, consumers down, order up": a number that counts down stands on the other side
+-- L2: by span, consumers and order: a number of which the greatest comes first stands on the other side
 unfoldable pub ahead : Entry → Entry → Bool
 ahead a b =
     let d : Demand = a .demand in
     let e : Demand = b .demand in
     lexLess (span e ∷ e .consumers ∷ d .order ∷ []) (span d ∷ d .consumers ∷ e .order ∷ [])
 
--- "ties as given"
+-- L2: the order of packing; what is equal stays as listed
 unfoldable pub ranked : List Demand → List Entry
 ranked ds = sorted ahead (entries 0 ds)
 
@@ -49,11 +50,11 @@ unfoldable pub firstThat {ℓ} : {A : Type ℓ} → (A → Bool) → List A → 
 firstThat p [] = 0
 firstThat p (x ∷ xs) = elim (p x) [ true ↦ 0 | false ↦ suc (firstThat p xs) ]
 
--- "the lowest lane whose latest tenant's last row is less than its first, else a new lane"; `ends` has each open lane's last row
+-- L3: the lowest open lane that ends before the first row, else the next one; `ends` has each open lane's last row
 unfoldable pub laneFor : ℕ → List ℕ → ℕ
 laneFor first ends = firstThat (λ end. ltb end first) ends
 
--- the last rows once lane l has a tenant that ends on `last`: an open lane's is replaced, a new one's comes behind them
+-- L4: the last rows once lane l has a tenant that ends on `last`: an open lane's is replaced, a new one's comes behind them
 unfoldable pub withTenant : ℕ → ℕ → List ℕ → List ℕ
 withTenant l last [] = last ∷ []
 withTenant zero last (e ∷ es) = last ∷ es
@@ -64,7 +65,7 @@ pub data Packed : Type 0 where
   full : ℕ → Packed
   laned : List ℕ → ℕ → Packed
 
--- the demands in turn, from the last rows and the answers so far
+-- L3, L4: the demands in turn, from the last rows and the answers so far
 unfoldable pub packIn : List Entry → List ℕ → List ℕ → Packed
 packIn [] ends lanes = laned lanes (length ends)
 packIn (e ∷ es) ends lanes =
@@ -74,6 +75,6 @@ packIn (e ∷ es) ends lanes =
       | false ↦ full (e .index)
     ]
 
--- `allocate_lanes`
+-- L4: `allocate_lanes`, no lane being open at first
 unfoldable pub packed : List Demand → Packed
 packed ds = packIn (ranked ds) [] (replicate (length ds) 0)

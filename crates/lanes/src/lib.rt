@@ -1,6 +1,5 @@
-// Lanes of a page's gutter (`layout/bus.rs`, `allocate_lanes`): demands by span down, consumers down, order up, ties as given, each
-// into the lowest lane whose latest tenant ends before it begins. Here is the lane call with its refusals; `pack` has the packing,
-// `rows` the same over a table's rows, `sort` the sort and `table` the lane table.
+// Lanes of a page's gutter (`layout/bus.rs`, `allocate_lanes`): demands in the order of L2, each into its lane by L3. Here is the lane call
+// with its refusals; `pack` has the packing, `rows` the same over a table's rows, `sort` the sort and `table` the lane table.
 pub mod pack;
 pub mod rows;
 pub mod sort;

@@ -31,8 +31,7 @@ pub(crate) struct BusDemand {
     pub order: u32,
 }
 
-// A demand's key row. Both ranks count down from the most, so that rows in rising order are demands by span down,
-// consumers down, order up, ties as given.
+// L2: a demand's key row. Both ranks count down from the most, so that rows in rising order are demands as they are packed.
 pub(crate) fn key_row(d: BusDemand, index: u32) -> [u32; 8]
     requires { ⌜ faulty (demandIn d) ≡ false ⌝ }
     ensures { λ r. ⌜ r ≡ keyOf (record { index = index; demand = demandIn d }) ⌝ }

@@ -42,8 +42,8 @@ fn run(demands: &[u32], lanes: &mut [u32]) {
     io::write_all(STDOUT_FILENO, b"\n");
 }
 
-// Document 01's examples (b), (c) and (d), then a longer demand first, more consumers first, the lower order first, ties as
-// given, and a lane taken again.
+// The worked examples (b), (c) and (d), then a longer demand first, more consumers first, the lower order first, equals as
+// listed, and a lane taken again.
 fn run_worked(lanes: &mut [u32]) {
     run(&[], lanes);
     run(&[0, 2, 1, 0, 2, 4, 1, 1], lanes);
@@ -66,7 +66,7 @@ fn run_refused(lanes: &mut [u32]) {
     run(&five, lanes);
 }
 
-// 512 one-row demands on row 0 have a lane each, and the 513th would open one too many.
+// 512 demands of row 0 alone have a lane each, and the 513th would open one too many.
 fn run_full() {
     let mut lanes = [9u32; 513];
     let more = [0u32; 2052];

@@ -1,4 +1,4 @@
--- The answers of the exported calls: refusal, place, counts. A buffer too short is document 01's refusal 7, whose place is 0.
+-- The answers of the exported calls: refusal, place, counts. Where too few rows are lent the number is 7, and the place 0.
 use Prim.Native.Nat.{ℕ}
 use Rattle.sheet.specs.declared.Counts.{Counts}
 use Rattle.sheet.specs.declared.Checked.{Checked}

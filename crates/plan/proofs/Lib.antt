@@ -4,3 +4,4 @@ pub mod Planned
 pub mod PageRows
 pub mod Reading
 pub mod Calling
+pub mod Surveying

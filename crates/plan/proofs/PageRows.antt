@@ -13,7 +13,7 @@ use Rattle.board.specs.Demands.{PageLanes, noLanes, band}
 use Rattle.board.specs.Tables.{PageFacts}
 use Rattle.board.specs.Planning.{pageRow}
 
--- "Band is 0, or 2 × lanes + 6."
+-- D4: a page's band, by its count of lanes.
 pub band-none : (n : ℕ) → n ≡ 0 → 0 ≡ band n
 unfolding band
 band-none n e = rw (eq-eqb n 0 e, band) refl

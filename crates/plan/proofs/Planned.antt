@@ -16,15 +16,13 @@ use Rattle.demands.specs.declared.demands.Plan.the-variants.{Crowded, Laned}
 use Rattle.board.specs.Board.{Board}
 use Rattle.board.specs.Groups.{Tap, tapsOf}
 use Rattle.board.specs.Demands.{PageLanes, Planned, crowded, planned, noLanes, planUpto, planLanes, packedOn, groupsOn, demandOf}
-use Rattle.board.specs.Planning.{Planning, crowding}
 use Rattle.demands.specs.PagePlan.{PlanHeld}
 use Rattle.board.specs.Walk.{countsIn}
 use Rattle.demands.specs.PagePlan.{BoardPlanned}
 use Rattle.board.proofs.Lists.{never}
 use Rattle.board.proofs.LanesFit.{rising}
-use Rattle.plan.specs.declared.TextPlan
-use Rattle.plan.specs.declared.TextPlan.the-variants as answers
-use Rattle.plan.specs.TextPlan.{SectionsIn, Few, TextPlanned}
+use Rattle.plan.specs.declared.TextSurvey.the-variants as surveys
+use Rattle.plan.specs.TextPlan.{SectionsIn, Few, FactsHold, LanesSurveyed}
 use Rattle.plan.proofs.Fine.{Slices}
 
 -- A crowded page is one of the pages.
@@ -107,23 +105,27 @@ module _ {b : Board} {rows : List (List ℕ)} {c : Counts} (k : Slices b rows c)
     pub crowded-is : (p : ℕ) → r .plan ≡ Crowded p → planLanes b ≡ crowded p
     crowded-is p e = by (Crowded p) e
 
-    pub text-crowded : (p : ℕ) → r .plan ≡ Crowded p → TextPlanned (crowding b (planLanes b)) rows nodeFacts wireFacts taps groups pageFacts (answers.Refused 8 (p + 1))
-    text-crowded p e = rw (crowded-is p e, add-one p) refl
+    facts-hold : SectionsIn b rows → FactsHold b rows nodeFacts wireFacts
+    facts-hold s = record { sections = s; nodes-known = own .nodes-known; wires-known = own .wires-known }
 
-    pub text-laned : SectionsIn b rows → c ≡ countsIn b → r .plan ≡ Laned → TextPlanned (crowding b (planLanes b)) rows nodeFacts wireFacts taps groups pageFacts (answers.Laned c (r .taps))
-    text-laned s same e =
-        let h = by Laned e in
-        rw (h .1) (
-          r .taps,
-          ap (λ (d : Counts). answers.Laned d (r .taps)) same,
-          record {
-            sections = s;
-            nodes-known = own .nodes-known;
-            wires-known = own .wires-known;
-            few = own .count;
-            taps-are = own .taps-are;
-            lanes-are = h .1;
-            groups-known = h .2;
-            pages-known = h .3;
-          },
-        )
+    module _ (s : SectionsIn b rows) (same : c ≡ countsIn b) where
+      pub survey-crowded : (p : ℕ) → r .plan ≡ Crowded p → LanesSurveyed b (planLanes b) rows nodeFacts wireFacts taps groups pageFacts (surveys.Crowded c (p + 1))
+      survey-crowded p e = rw (crowded-is p e) ((λ i. surveys.Crowded (same i) (add-one p i)), facts-hold s)
+
+      pub survey-laned : r .plan ≡ Laned → LanesSurveyed b (planLanes b) rows nodeFacts wireFacts taps groups pageFacts (surveys.Laned c (r .taps))
+      survey-laned e =
+          let h = by Laned e in
+          rw (h .1) (
+            r .taps,
+            ap (λ (d : Counts). surveys.Laned d (r .taps)) same,
+            record {
+              sections = s;
+              nodes-known = own .nodes-known;
+              wires-known = own .wires-known;
+              few = own .count;
+              taps-are = own .taps-are;
+              lanes-are = h .1;
+              groups-known = h .2;
+              pages-known = h .3;
+            },
+          )

@@ -2,7 +2,7 @@
 use Prim.Native.Nat.{ℕ, zero, suc, _+_, _*_, _≤_, _<_}
 use native.Mathlib.Omega.{arith}
 use mathlib.Core.Path.{_≡_, refl, sym, ap, _∙_, subst}
-use mathlib.Core.Bool.{Bool, true, false}
+use mathlib.Core.Bool.{Bool, true, false, _&&_}
 use mathlib.Core.List.{List, [], _∷_, _++_}
 use lib.Dec.{ltb}
 use lib.ListN.{length, drop, length-map}
@@ -24,7 +24,7 @@ use Rattle.demands.specs.PagePlan.{Room}
 use Rattle.board.specs.Walk.{WithinLibrary, countsIn, boardChecked, Indexed, IndexedIf}
 use Rattle.board.proofs.Lists.{never}
 use Rattle.plan.specs.declared.Lent.{Lent}
-use Rattle.plan.specs.TextPlan.{Few, fitsCounts, fitsLent, fitted, WorkLent, BoardRead, BoardChecked}
+use Rattle.plan.specs.TextPlan.{Few, fitsCounts, fitsLent, lentFor, fitting, fitted, WorkLent, BoardRead, BoardChecked}
 use Rattle.plan.proofs.Fine.{Fine, fine, few, nodes-ranged, sections-in, rows-count}
 use Rattle.plan.proofs.Fitting.{fits-all}
 
@@ -35,35 +35,70 @@ counts-few b c e f =
     subst (λ (d : Counts). (d .pages ≤ libraryMost .pages) × (d .nodes ≤ libraryMost .nodes) × (d .chips ≤ libraryMost .chips) × (d .inner ≤ libraryMost .inner) × (d .execs ≤ libraryMost .execs) × (d .wires ≤ libraryMost .wires)) (sym e) f
 
 -- What fits by its counts fits as a board.
-fits-counted : (lent : Lent) (b : Board) (c : Counts) (t : Bool) → c ≡ countsIn b → fitsCounts lent c ≡ t → fitsLent lent b ≡ t
+pub fits-counted : (lent : Lent) (b : Board) (c : Counts) (t : Bool) → c ≡ countsIn b → fitsCounts lent c ≡ t → fitsLent lent b ≡ t
 unfolding fitsLent
 fits-counted lent b c t e f = ap (fitsCounts lent) (sym e) ∙ f
 
-module _ (lent : Lent) (b : Board) (c : Counts) (e : c ≡ countsIn b) where
-  pub fitted-unfit : fitsCounts lent c ≡ false → fitted (fitsLent lent) b ≡ refused 7 0
-  fitted-unfit f = rw (fits-counted lent b c false e f, fitted) refl
-
-  pub fitted-fits : fitsCounts lent c ≡ true → fitted (fitsLent lent) b ≡ crowding b (planLanes b)
-  fitted-fits f = rw (fits-counted lent b c true e f, fitted) refl
+-- 7 and 8 of a sheet that is judged.
+abbrev pub judgedFor : (Board → Bool) → Judged → Planning
+judgedFor fits (Refusals.turnedAway n l) = refused n l
+judgedFor fits (board b) = fitted fits b
 
 module _ (most : Counts) (text : List ℕ) (fits : Board → Bool) where
-  abbrev judgedFor : Judged → Planning
-  judgedFor (Refusals.turnedAway n l) = refused n l
-  judgedFor (board b) = fitted fits b
-
-  planning-by : planning most fits text ≡ judgedFor (judged most text)
+  planning-by : planning most fits text ≡ judgedFor fits (judged most text)
   unfolding planning
   planning-by = go (judged most text)
     where
-      go : (j : Judged) → elim j as (λ _. Planning) [ Refusals.turnedAway n l ↦ refused n l | board b ↦ elim (fits b) [ true ↦ crowding b (planLanes b) | false ↦ refused 7 0 ] ] ≡ judgedFor j
+      go : (j : Judged) → elim j as (λ _. Planning) [ Refusals.turnedAway n l ↦ refused n l | board b ↦ elim (fits b) [ true ↦ crowding b (planLanes b) | false ↦ refused 7 0 ] ] ≡ judgedFor fits j
       go (Refusals.turnedAway n l) = refl
       go (board b) = refl
 
   pub planning-refused : (n l : ℕ) → judged most text ≡ Refusals.turnedAway n l → planning most fits text ≡ refused n l
-  planning-refused n l e = planning-by ∙ ap judgedFor e
+  planning-refused n l e = planning-by ∙ ap (judgedFor fits) e
 
   pub planning-fine : (b : Board) → judged most text ≡ board b → planning most fits text ≡ fitted fits b
-  planning-fine b e = planning-by ∙ ap judgedFor e
+  planning-fine b e = planning-by ∙ ap (judgedFor fits) e
+
+  -- Refusals 1 to 7.
+  pub fitting-refused : (n l : ℕ) → judged most text ≡ Refusals.turnedAway n l → fitting most fits text ≡ Refusals.turnedAway n l
+  unfolding fitting
+  fitting-refused n l e = ap (lentFor fits) e
+
+  fitting-fine : (b : Board) → judged most text ≡ board b → (t : Bool) → fits b ≡ t → fitting most fits text ≡ elim t as (λ _. Judged) [ true ↦ board b | false ↦ Refusals.turnedAway 7 0 ]
+  unfolding fitting
+  fitting-fine b e t f = ap (lentFor fits) e ∙ ap (λ (v : Bool). elim v as (λ _. Judged) [ true ↦ board b | false ↦ Refusals.turnedAway 7 0 ]) f
+
+  pub fitting-unfit : (b : Board) → judged most text ≡ board b → fits b ≡ false → fitting most fits text ≡ Refusals.turnedAway 7 0
+  fitting-unfit b e f = fitting-fine b e false f
+
+  pub fitting-fits : (b : Board) → judged most text ≡ board b → fits b ≡ true → fitting most fits text ≡ board b
+  fitting-fits b e f = fitting-fine b e true f
+
+  pub fitting-from : (b : Board) → fitting most fits text ≡ board b → (judged most text ≡ board b) × (fits b ≡ true)
+  fitting-from b e = go (judged most text) refl
+    where
+      go : (j : Judged) → judged most text ≡ j → (judged most text ≡ board b) × (fits b ≡ true)
+      go (Refusals.turnedAway n l) is = let d = sym (fitting-refused n l is) ∙ e in never cc
+      go (board c) is = fit (fits c) refl
+        where
+          fit : (t : Bool) → fits c ≡ t → (judged most text ≡ board b) × (fits b ≡ true)
+          fit true f = let d : board c ≡ board b = sym (fitting-fits c is f) ∙ e in let same : c ≡ b = cc in (is ∙ d, ap fits (sym same) ∙ f)
+          fit false f = let d = sym (fitting-unfit c is f) ∙ e in never cc
+
+-- A test in two steps: the second is tried of what the first leaves.
+pub planning-then : (most : Counts) (text : List ℕ) (whole first then : Board → Bool) → ((b : Board) → whole b ≡ (first b && then b)) → planning most whole text ≡ judgedFor then (fitting most first text)
+planning-then most text whole first then both = go (judged most text) refl
+  where
+    go : (j : Judged) → judged most text ≡ j → planning most whole text ≡ judgedFor then (fitting most first text)
+    go (Refusals.turnedAway n l) e = planning-refused most text whole n l e ∙ ap (judgedFor then) (sym (fitting-refused most text first n l e))
+    go (board b) e = fit (first b) refl
+      where
+        tried : (t : Bool) → first b ≡ t → planning most whole text ≡ elim (t && then b) as (λ _. Planning) [ true ↦ crowding b (planLanes b) | false ↦ refused 7 0 ]
+        tried t f = planning-fine most text whole b e ∙ ap (λ (v : Bool). elim v as (λ _. Planning) [ true ↦ crowding b (planLanes b) | false ↦ refused 7 0 ]) (both b ∙ ap (λ v. v && then b) f)
+
+        fit : (t : Bool) → first b ≡ t → planning most whole text ≡ judgedFor then (fitting most first text)
+        fit true f = tried true f ∙ ap (judgedFor then) (sym (fitting-fits most text first b e f))
+        fit false f = tried false f ∙ ap (judgedFor then) (sym (fitting-unfit most text first b e f))
 
 -- A plan comes from an accepted board that fits.
 module _ (most : Counts) (text : List ℕ) (fits : Board → Bool) (b : Board) (ps : List PageLanes) where

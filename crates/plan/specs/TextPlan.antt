@@ -9,9 +9,9 @@ use Rattle.sheet.specs.declared.Counts.{Counts}
 use Rattle.sheet.specs.Table.{libraryMost}
 use Rattle.board.specs.Board.{Board}
 use Rattle.board.specs.Refusals
-use Rattle.board.specs.Refusals.{judged}
+use Rattle.board.specs.Refusals.{Judged, turnedAway, board, judged}
 use Rattle.board.specs.Groups.{tapsOf}
-use Rattle.board.specs.Demands.{PageLanes, Planned, planned, planLanes}
+use Rattle.board.specs.Demands.{PageLanes, Planned, crowded, planned, planLanes}
 use Rattle.board.specs.Planning.{Planning, refused, lanesFor, planning, fitsPages, crowding, records}
 use Rattle.board.specs.Tables.{view, tapIn, NodeFacts, WireFacts, GroupFacts, PageFacts}
 use Rattle.collect.specs.Collecting.{Indexes}
@@ -21,12 +21,14 @@ use Rattle.demands.specs.PagePlan.{Room}
 use Rattle.plan.specs.declared.Lent.{Lent}
 use Rattle.plan.specs.declared.TextPlan.{TextPlan}
 use Rattle.plan.specs.declared.TextPlan.the-variants.{Refused, Laned}
+use Rattle.plan.specs.declared.TextSurvey.{TextSurvey}
+use Rattle.plan.specs.declared.TextSurvey.the-variants as surveys
 
--- No line of a plan sheet is longer; a plan has at most P + 12W + 1 lines.
+-- S16: no line of a plan sheet is longer; a plan has at most P + 12W + 1 lines.
 abbrev pub LINE_MOST : ℕ
 LINE_MOST = 128
 
--- "Lent for W wires and P pages: 5W rerouters, 6W bus wires, W suppressed ports, P page answers, and 96 numbers of 32 bits of work space for each record"
+-- S15, S16: whether enough is lent for so many wires, pages and records.
 unfoldable pub hasRoom : Lent → ℕ → ℕ → ℕ → Bool
 hasRoom lent wires pages records =
     leb (5 * wires) (lent .rerouters) && (leb (6 * wires) (lent .«bus_wires») && (leb wires (lent .ports) && (leb pages (lent .answers)
@@ -40,7 +42,7 @@ unfoldable pub fitsLent : Lent → Board → Bool
 unfolding fitsCounts
 fitsLent lent b = fitsCounts lent (countsIn b)
 
--- The rows of the shortest slice of work space, by the lengths of all.
+-- S16: the rows of the shortest slice of work space, by the lengths of all.
 unfoldable pub shortest : List ℕ → ℕ
 shortest [] = 0
 shortest (n ∷ []) = n
@@ -89,9 +91,24 @@ pub record BoardChecked (b : Board) (most : Counts) (text : List ℕ) (counts : 
   pub counted : counts ≡ countsIn b
   pub indexes : Indexes (b .nodes) (b .inner) bodyIds bodyNexts bodyHeads innerIds innerNexts innerHeads
 
--- Refusals 7 and 8 of a board.
+-- E7, E8: refusals 7 and 8 of a board.
 abbrev pub fitted : (Board → Bool) → Board → Planning
 fitted fits b = elim (fits b) [ true ↦ crowding b (planLanes b) | false ↦ refused 7 0 ]
+
+-- 7 of a sheet that is judged.
+abbrev pub lentFor : (Board → Bool) → Judged → Judged
+lentFor fits (turnedAway n l) = turnedAway n l
+lentFor fits (board b) = elim (fits b) [ true ↦ board b | false ↦ turnedAway 7 0 ]
+
+-- Refusals 1 to 7 of a sheet.
+unfoldable pub fitting : Counts → (Board → Bool) → List ℕ → Judged
+fitting most fits text = lentFor fits (judged most text)
+
+-- A board's records stand in rows, and the facts of its nodes and wires are known.
+pub record FactsHold (b : Board) (rows nodeFacts wireFacts : List (List ℕ)) : Type 0 where
+  pub sections : SectionsIn b rows
+  pub nodes-known : NodeFacts b nodeFacts
+  pub wires-known : WireFacts b wireFacts
 
 -- What the tables hold of a board with its lanes.
 pub record TablesHold (b : Board) (ps : List PageLanes) (rows nodeFacts wireFacts taps groups pageFacts : List (List ℕ)) (m : ℕ) : Type 0 where
@@ -109,3 +126,19 @@ abbrev pub TextPlanned : Planning → List (List ℕ) → List (List ℕ) → Li
 TextPlanned (refused n l) rows nodeFacts wireFacts taps groups pageFacts r = r ≡ Refused n l
 TextPlanned (lanesFor b ps) rows nodeFacts wireFacts taps groups pageFacts r =
     (m : ℕ) × (r ≡ Laned (countsIn b) m) × TablesHold b ps rows nodeFacts wireFacts taps groups pageFacts m
+
+-- The plan that a survey gives: a crowded page is refused.
+abbrev pub planOf : TextSurvey → TextPlan
+planOf (surveys.Refused n l) = Refused n l
+planOf (surveys.Crowded c l) = Refused 8 l
+planOf (surveys.Laned c m) = Laned c m
+
+-- What `survey_text` answers and leaves: where a page is crowded, its line and the facts that do not wait for lanes.
+abbrev pub LanesSurveyed : Board → Planned → (rows nodeFacts wireFacts taps groups pageFacts : List (List ℕ)) → TextSurvey → Type 0
+LanesSurveyed b (crowded p) rows nodeFacts wireFacts taps groups pageFacts r = (r ≡ surveys.Crowded (countsIn b) (suc p)) × FactsHold b rows nodeFacts wireFacts
+LanesSurveyed b (planned ps) rows nodeFacts wireFacts taps groups pageFacts r =
+    (m : ℕ) × (r ≡ surveys.Laned (countsIn b) m) × TablesHold b ps rows nodeFacts wireFacts taps groups pageFacts m
+
+abbrev pub TextSurveyed : Judged → (rows nodeFacts wireFacts taps groups pageFacts : List (List ℕ)) → TextSurvey → Type 0
+TextSurveyed (turnedAway n l) rows nodeFacts wireFacts taps groups pageFacts r = r ≡ surveys.Refused n l
+TextSurveyed (board b) rows nodeFacts wireFacts taps groups pageFacts r = LanesSurveyed b (planLanes b) rows nodeFacts wireFacts taps groups pageFacts r

@@ -1,4 +1,5 @@
-// `plan_bus`: from a sheet's text to the lanes of every page, with every refusal in its order. Each call of the router starts with `plan_text`.
+// `plan_bus`: from a sheet's text to the lanes of every page, with every refusal in its order. Each call of the router starts with `plan_text`, or with
+// `survey_text` where it has more to try before a crowded page is refused.
 use board::refusals::check_board;
 use demands::demands::Plan;
 use demands::demands::plan_board;
@@ -17,9 +18,9 @@ ghost use Rattle.board.specs.Board.{Board, field};
 ghost use Rattle.board.specs.Demands;
 ghost use Rattle.board.specs.Demands.{PageLanes, planLanes};
 ghost use Rattle.board.specs.Tables.{PageFacts};
-ghost use Rattle.board.specs.Planning.{planning, fitsPages, crowding, pageRow, pagesAfter};
+ghost use Rattle.board.specs.Planning.{planning, fitsPages, pageRow, pagesAfter};
 ghost use Rattle.board.specs.Walk.{WithinLibrary};
-ghost use Rattle.plan.specs.TextPlan.{fitsLent, shortest, hasRoom, fitsCounts, WorkLent, BoardRead, BoardChecked, fitted, TextPlanned};
+ghost use Rattle.plan.specs.TextPlan.{fitsLent, shortest, hasRoom, fitsCounts, WorkLent, BoardRead, BoardChecked, fitting, TextPlanned, planOf, LanesSurveyed, TextSurveyed};
 ghost use Rattle.plan.specs.PagesPlan.{planCall, PagesPlanned};
 
 // The lengths of what is lent: rerouters, bus wires, suppressed ports, page answers, the rows of the shortest slice of work space, and bytes for the plan sheet's
@@ -36,6 +37,13 @@ pub struct Lent {
 // What planning a sheet's text answers: a refusal and its place, or that the tables hold the board and its lanes.
 pub enum TextPlan {
     Refused { number: usize, place: usize },
+    Laned { counts: Counts, taps: usize },
+}
+
+// The same before a crowded page is refused: what a call asks for beyond the lent lengths is a 7 too, and goes before its 8. `place` is the page's line.
+pub enum TextSurvey {
+    Refused { number: usize, place: usize },
+    Crowded { counts: Counts, place: usize },
     Laned { counts: Counts, taps: usize },
 }
 
@@ -94,7 +102,7 @@ fn total(
     pages + nodes + chips + inner + execs + wires
 }
 
-// "Lent for W wires and P pages .."
+// S15, S16: whether enough is lent for so many wires, pages and records.
 fn has_room(lent: Lent, wires: usize, pages: usize, records: usize) -> bool
     requires { ⌜ (wires ≤ libraryMost .wires) × (pages ≤ libraryMost .pages) ⌝ }
     ensures { λ r. ⌜ r ≡ hasRoom lent wires pages records ⌝ }
@@ -126,7 +134,7 @@ fn fits(lent: Lent, c: Counts) -> bool
 }
 
 // The lanes of a board whose records stand in rows, one section after the other.
-fn plan_rows(
+fn survey_rows(
     records: &[[u32; 16]],
     counts: Counts,
     body_ids: &[u32],
@@ -143,12 +151,12 @@ fn plan_rows(
     demands: &mut [[u32; 8]],
     keys: &mut [[u32; 8]],
     spare: &mut [[u32; 8]],
-) -> TextPlan
+) -> TextSurvey
     requires { ⌜ ((b : Board) × BoardRead b (now records) counts (now «body_ids») (now «body_nexts») (now «body_heads») (now «inner_ids») (now «inner_nexts») (now «inner_heads»)
         (now «node_facts») (now «wire_facts») (now taps) (now groups) (now «page_facts») (now demands) (now keys) (now spare)) ⌝ }
     ensures { λ r. ⌜ ((b : Board) → BoardRead b (now (records .entry)) counts (now («body_ids» .entry)) (now («body_nexts» .entry)) (now («body_heads» .entry)) (now («inner_ids» .entry)) (now («inner_nexts» .entry)) (now («inner_heads» .entry))
         (now («node_facts» .entry)) (now («wire_facts» .entry)) (now (taps .entry)) (now (groups .entry)) (now («page_facts» .entry)) (now (demands .entry)) (now (keys .entry)) (now (spare .entry))
-        → TextPlanned (crowding b (planLanes b)) (now (records .entry)) (now («node_facts» .exit)) (now («wire_facts» .exit)) (now (taps .exit)) (now (groups .exit)) (now («page_facts» .exit)) r) ⌝ }
+        → LanesSurveyed b (planLanes b) (now (records .entry)) (now («node_facts» .exit)) (now («wire_facts» .exit)) (now (taps .exit)) (now (groups .exit)) (now («page_facts» .exit)) r) ⌝ }
 {
     let nodes = counts.pages;
     let chips = nodes + counts.nodes;
@@ -181,11 +189,11 @@ fn plan_rows(
     let plan = planned.plan;
     let found = planned.taps;
     match plan {
-        Plan::Crowded(p) => TextPlan::Refused {
-            number: 8,
+        Plan::Crowded(p) => TextSurvey::Crowded {
+            counts,
             place: p + 1,
         },
-        Plan::Laned => TextPlan::Laned {
+        Plan::Laned => TextSurvey::Laned {
             counts,
             taps: found,
         },
@@ -193,7 +201,7 @@ fn plan_rows(
 }
 
 // The same of a sheet that refusals 1 to 6 leave: 7 where what is lent does not fit, else its records are read into rows.
-fn plan_fitting(
+fn survey_fitting(
     text: &[u8],
     most: Counts,
     lent: Lent,
@@ -213,14 +221,13 @@ fn plan_fitting(
     demands: &mut [[u32; 8]],
     keys: &mut [[u32; 8]],
     spare: &mut [[u32; 8]],
-) -> TextPlan
+) -> TextSurvey
     requires { ⌜ WorkLent (lent .work) (length (now records)) (now «node_facts») (now «wire_facts») (now taps) (now groups) (now «page_facts») (now demands) (now keys) (now spare) ⌝ }
     requires { ⌜ WithinLibrary most × ((b : Board) × BoardChecked b most (now text) counts (now «body_ids») (now «body_nexts») (now «body_heads») (now «inner_ids») (now «inner_nexts») (now «inner_heads»)) ⌝ }
-    ensures { λ r. ⌜ ((b : Board) → BoardChecked b most (now (text .entry)) counts (now («body_ids» .entry)) (now («body_nexts» .entry)) (now («body_heads» .entry)) (now («inner_ids» .entry)) (now («inner_nexts» .entry)) (now («inner_heads» .entry))
-        → TextPlanned (fitted (fitsLent lent) b) (now (records .exit)) (now («node_facts» .exit)) (now («wire_facts» .exit)) (now (taps .exit)) (now (groups .exit)) (now («page_facts» .exit)) r) ⌝ }
+    ensures { λ r. ⌜ TextSurveyed (fitting most (fitsLent lent) (now (text .entry))) (now (records .exit)) (now («node_facts» .exit)) (now («wire_facts» .exit)) (now (taps .exit)) (now (groups .exit)) (now («page_facts» .exit)) r ⌝ }
 {
     if !fits(lent, counts) {
-        return TextPlan::Refused {
+        return TextSurvey::Refused {
             number: 7,
             place: 0,
         };
@@ -234,7 +241,7 @@ fn plan_fitting(
         counts.wires,
     );
     fill_rows(text, records, lines);
-    plan_rows(
+    survey_rows(
         records,
         counts,
         body_ids,
@@ -254,8 +261,9 @@ fn plan_fitting(
     )
 }
 
-// Every refusal of a sheet in its order, or its board in the tables, with the lanes of its pages. `lent.work` rows at least stand in every slice.
-pub fn plan_text(
+// Refusals 1 to 7 of a sheet in their order, or its board in the tables, with the first crowded page or the lanes of all. `lent.work` rows at least stand in every
+// slice.
+pub fn survey_text(
     text: &[u8],
     most: Counts,
     lent: Lent,
@@ -268,10 +276,10 @@ pub fn plan_text(
     demands: &mut [[u32; 8]],
     keys: &mut [[u32; 8]],
     spare: &mut [[u32; 8]],
-) -> TextPlan
+) -> TextSurvey
     requires { ⌜ WorkLent (lent .work) (length (now records)) (now «node_facts») (now «wire_facts») (now taps) (now groups) (now «page_facts») (now demands) (now keys) (now spare) ⌝ }
     requires { ⌜ WithinLibrary most ⌝ }
-    ensures { λ r. ⌜ TextPlanned (planning most (fitsLent lent) (now (text .entry))) (now (records .exit)) (now («node_facts» .exit)) (now («wire_facts» .exit)) (now (taps .exit)) (now (groups .exit)) (now («page_facts» .exit)) r ⌝ }
+    ensures { λ r. ⌜ TextSurveyed (fitting most (fitsLent lent) (now (text .entry))) (now (records .exit)) (now («node_facts» .exit)) (now («wire_facts» .exit)) (now (taps .exit)) (now (groups .exit)) (now («page_facts» .exit)) r ⌝ }
 {
     let mut body_ids = [0u32; 4096];
     let mut body_nexts = [0u32; 4096];
@@ -295,11 +303,11 @@ pub fn plan_text(
         &mut inner_nexts,
         &mut inner_heads,
     ) {
-        Checked::Refused { number, line } => TextPlan::Refused {
+        Checked::Refused { number, line } => TextSurvey::Refused {
             number,
             place: line,
         },
-        Checked::Fine(counts) => plan_fitting(
+        Checked::Fine(counts) => survey_fitting(
             text,
             most,
             lent,
@@ -323,7 +331,53 @@ pub fn plan_text(
     }
 }
 
-// "Band is 0, or 2 × lanes + 6."
+// 8 where a page is crowded.
+fn refuse_crowded(survey: TextSurvey) -> TextPlan
+    ensures { λ r. ⌜ r ≡ planOf survey ⌝ }
+{
+    match survey {
+        TextSurvey::Refused { number, place } => TextPlan::Refused { number, place },
+        TextSurvey::Crowded { counts: _, place } => TextPlan::Refused { number: 8, place },
+        TextSurvey::Laned { counts, taps } => TextPlan::Laned { counts, taps },
+    }
+}
+
+// Every refusal of a sheet in its order, or its board in the tables, with the lanes of its pages. `lent.work` rows at least stand in every slice.
+pub fn plan_text(
+    text: &[u8],
+    most: Counts,
+    lent: Lent,
+    records: &mut [[u32; 16]],
+    node_facts: &mut [[u32; 8]],
+    wire_facts: &mut [[u32; 8]],
+    taps: &mut [[u32; 8]],
+    groups: &mut [[u32; 8]],
+    page_facts: &mut [[u32; 8]],
+    demands: &mut [[u32; 8]],
+    keys: &mut [[u32; 8]],
+    spare: &mut [[u32; 8]],
+) -> TextPlan
+    requires { ⌜ WorkLent (lent .work) (length (now records)) (now «node_facts») (now «wire_facts») (now taps) (now groups) (now «page_facts») (now demands) (now keys) (now spare) ⌝ }
+    requires { ⌜ WithinLibrary most ⌝ }
+    ensures { λ r. ⌜ TextPlanned (planning most (fitsLent lent) (now (text .entry))) (now (records .exit)) (now («node_facts» .exit)) (now («wire_facts» .exit)) (now (taps .exit)) (now (groups .exit)) (now («page_facts» .exit)) r ⌝ }
+{
+    refuse_crowded(survey_text(
+        text,
+        most,
+        lent,
+        records,
+        node_facts,
+        wire_facts,
+        taps,
+        groups,
+        page_facts,
+        demands,
+        keys,
+        spare,
+    ))
+}
+
+// D4: a page's band, by its count of lanes.
 fn band(lanes: u32) -> u32
     requires { ⌜ lanes ≤ laneMost ⌝ }
     ensures { λ r. ⌜ r ≡ Demands.band lanes ⌝ }

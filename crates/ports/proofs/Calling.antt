@@ -16,7 +16,7 @@ use Rattle.board.specs.Board.{Board}
 use Rattle.board.specs.Demands.{PageLanes}
 use Rattle.board.proofs.Lists.{byTest, none-counted, neither, or-left, or-right}
 use Rattle.routes.specs.Bus.{Bus, BusWire, End, port, rerouter, Carries, onward, delivery, Port, insertPort, samePort}
-use Rattle.routes.specs.Buffers.{wireRow}
+use Rattle.routes.specs.Buffers.{wireRow, portIn, portsHeld}
 use Rattle.routes.specs.Tables.{writtenOver}
 use Rattle.routes.specs.Corners.{turnable, corners}
 use Rattle.routes.specs.Plan.{isDelivery, deliveries}
@@ -24,7 +24,7 @@ use Rattle.routes.specs.Demand3.{names, timesDelivered, distinct}
 use Rattle.routes.proofs.Made.{Made, nothing, placing, serving}
 use Rattle.routes.proofs.Distinct.{distinct-new, distinct-le}
 use Rattle.ports.specs.Ports.{sentTo, targets, suppress, portsSet, portsWith, Ported}
-use Rattle.ports.specs.Settling.{portIn, handed, portLess, settled, Settleable}
+use Rattle.ports.specs.Settling.{portLess, settled, Settleable}
 use Rattle.ports.proofs.SetLaws.{suppress-append, set-again}
 use Rattle.ports.proofs.Reading.{Legible, WiresRanged, deliverable, from-start, all-written, targets-held, settled-held}
 use Rattle.ports.proofs.Laid.{Cornered, cornered, corner-targets, corner-ports}
@@ -141,7 +141,7 @@ front-all (w ∷ new) old a = (a .0, front-all new old (a .1))
 -- be settled, and are the later bus's. The earlier bus may be the empty one, with no ports.
 module _ (b : Board) (ps : List PageLanes) (ranged : WiresRanged b) {start later : Bus} (p : Ported start later) (own : start .ports ≡ portsWith [] (start .wires))
     (made : Made b ps later) (wires old : List (List ℕ)) (held : wires ≡ writtenOver wireRow (later .wires) old) (room : length (later .wires) ≤ length old)
-    (ports : List (List ℕ)) (u : ℕ) (few : u ≤ length ports) (given : handed ports u ≡ start .ports) where
+    (ports : List (List ℕ)) (u : ℕ) (few : u ≤ length ports) (given : portsHeld ports u ≡ start .ports) where
   legible : All Legible (p .new)
   legible = front-all (p .new) (start .wires) (subst (All Legible) (p .wires) (made-legible b ps ranged made))
 
@@ -183,7 +183,7 @@ module _ (b : Board) (ps : List PageLanes) (ranged : WiresRanged b) {start later
 
 -- The corner pass from any bus, its ports handed in in any order: with room for those and for one more a wire that passes the pass's tests.
 module _ (b : Board) (ranged : WiresRanged b) (start : Bus) (wires old : List (List ℕ)) (held : wires ≡ writtenOver wireRow (corners b start .wires) old)
-    (room : length (corners b start .wires) ≤ length old) (ports : List (List ℕ)) (u : ℕ) (few : u ≤ length ports) (given : portsSet (handed ports u) ≡ start .ports) where
+    (room : length (corners b start .wires) ≤ length old) (ports : List (List ℕ)) (u : ℕ) (few : u ≤ length ports) (given : portsSet (portsHeld ports u) ≡ start .ports) where
   turned : Cornered b start (corners b start)
   turned = cornered b start
 
@@ -196,12 +196,12 @@ module _ (b : Board) (ranged : WiresRanged b) (start : Bus) (wires old : List (L
   settleable-corners rows spare h k l =
       let read = ap length (targets-held (turned .ported) (turned .legible ranged) wires old held room) in
       let more : length (targets (turned .ported .new)) ≤ turnable b start = corner-targets b start in
-      let many : length (handed ports u) ≡ u = length-map (take u ports) portIn ∙ length-take-le u ports few in
+      let many : length (portsHeld ports u) ≡ u = length-map (take u ports) portIn ∙ length-take-le u ports few in
       record {
         rising = from-start (turned .ported) (turned .legible ranged) wires old held room;
         written = all-written (turned .ported) (turned .legible ranged) wires old held room;
         given = few;
         room = omega arith;
         spared = omega arith;
-        fits = omega (arith, ap length settled-corners, corner-ports b start, ap length given, set-length (handed ports u));
+        fits = omega (arith, ap length settled-corners, corner-ports b start, ap length given, set-length (portsHeld ports u));
       }

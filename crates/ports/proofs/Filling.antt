@@ -12,9 +12,9 @@ use Rattle.sheet.specs.Table.{MISSING}
 use borrow.Author.Tests.{eq-eqb, ne-eqb, not-true, not-false}
 use Rattle.board.proofs.Lists.{clash}
 use Rattle.routes.specs.Bus.{BusWire, port, rerouter, onward, delivery, Port, samePort}
-use Rattle.routes.specs.Buffers.{portRow}
+use Rattle.routes.specs.Buffers.{portRow, wireIn, portIn, portsHeld}
 use Rattle.ports.specs.Ports.{sentTo, targets}
-use Rattle.ports.specs.Settling.{wireIn, deliversIn, wiresFrom, portIn, handed, sortRow, again, unique, portsOver}
+use Rattle.ports.specs.Settling.{deliversIn, wiresFrom, sortRow, again, unique, portsOver}
 use Rattle.ports.proofs.SetLaws.{unique-again, unique-last}
 
 -- n rows of `front` are written over `old`, and `rest` is still to be.
@@ -134,7 +134,7 @@ module _ (ports : List (List ℕ)) (u : ℕ) where
   handedFrom i = map sortRow (map portIn (drop i (take u ports)))
 
   pub handed-length : u ≤ length ports → length (handedFrom 0) ≡ u
-  handed-length h = length-map (handed ports u) sortRow ∙ (length-map (take u ports) portIn ∙ length-take-le u ports h)
+  handed-length h = length-map (portsHeld ports u) sortRow ∙ (length-map (take u ports) portIn ∙ length-take-le u ports h)
 
   pub handed-next : u ≤ length ports → (i : ℕ) → i < u → handedFrom i ≡ sortRow (portIn (getD ports i [])) ∷ handedFrom (i + 1)
   handed-next h i k =

@@ -20,7 +20,7 @@ use Rattle.routes.specs.Plan.{busOf, finished}
 use Rattle.routes.proofs.Made.{onwardWire, deliveryWire}
 use Rattle.routes.proofs.Turned.{withTurn, turn-wires, turned}
 use Rattle.routes.proofs.Room.{corner-room}
-use Rattle.ports.specs.Ports.{targets, portsWith, Ported}
+use Rattle.ports.specs.Ports.{targets, portsWith, Ported, OwnPorts}
 use Rattle.ports.proofs.Reading.{Legible, WiresRanged, deliverable}
 
 -- What holds of the empty bus, and goes on to hold where a rerouter is placed and where a wire is delivered, holds of every plan.
@@ -98,11 +98,9 @@ module _ (b : Board) where
   own-deliver : (bus : Bus) (f : Feed) (w : ℕ) → Own bus → Own (deliver b bus f w)
   own-deliver bus f w q = ap (insertPort (portOf b w)) q
 
-  pub bus-ports : (ps : List PageLanes) → busOf b ps .ports ≡ portsWith [] (busOf b ps .wires)
-  bus-ports ps = bus-keeps b Own (λ bus f k q. q) own-deliver refl ps
-
-  pub plan-ports : (ps : List PageLanes) → finished b ps .ports ≡ portsWith [] (finished b ps .wires)
-  plan-ports ps = plan-keeps b Own (λ bus f k q. q) own-deliver refl ps
+  pub plan-ports : (ps : List PageLanes) → OwnPorts b ps
+  plan-ports ps =
+      record { laid = bus-keeps b Own (λ bus f k q. q) own-deliver refl ps; turned = plan-keeps b Own (λ bus f k q. q) own-deliver refl ps }
 
   -- A corner adds two bus wires, one of them a delivery: what the pass adds to any bus has the ports that it adds.
   pub record Cornered (bus later : Bus) : Type 0 where

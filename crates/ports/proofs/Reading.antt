@@ -5,16 +5,16 @@ use mathlib.Core.Path.{_≡_, refl, sym, ap, _∙_}
 use mathlib.Core.List.{List, [], _∷_, _++_, map}
 use lib.ListN.{length, getD, set, length-append, length-map}
 use lib.Seq.{getD-set-same, getD-set-other, take-at}
-use borrow.Author.Tests.{ne-eqb}
 use Rattle.sheet.specs.Table.{MISSING, PORT_MOST, libraryMost}
 use Rattle.lanes.proofs.Every.{All}
 use Rattle.board.specs.Board.{Board, targetPort}
 use Rattle.routes.specs.Bus.{Bus, BusWire, End, port, rerouter, Carries, onward, delivery, Port}
-use Rattle.routes.specs.Buffers.{endRow, carriesRow, wireRow, portRow}
+use Rattle.routes.specs.Buffers.{endRow, carriesRow, wireRow, portRow, endIn, carriesIn, wireIn, portIn, portsHeld}
 use Rattle.routes.specs.Tables.{writtenOver}
 use Rattle.routes.proofs.Views.{rows-written}
+use Rattle.routes.proofs.Rows.{port-there, wire-named, ports-back}
 use Rattle.ports.specs.Ports.{sentTo, targets, suppress, portsSet, Ported}
-use Rattle.ports.specs.Settling.{endIn, carriesIn, wireIn, wiresFrom, portIn, handed, portsOver, settled}
+use Rattle.ports.specs.Settling.{wiresFrom, portsOver, settled}
 
 -- A delivery's wire and target port are told from missing ones.
 abbrev pub told : Carries → End → Type 0
@@ -45,17 +45,11 @@ wire-read w l h = behind (w .source) (endRow (w .target) ++ carriesRow (w .carri
     behind (port n p) r = refl
     behind (rerouter n) r = refl
 
-    sent : (k d : ℕ) → k < MISSING → carriesIn k d ≡ delivery k d
-    sent k d h = rw (ne-eqb k MISSING (λ e. omega arith), carriesIn)
-
-    there : (n p : ℕ) → p < MISSING → endIn n p ≡ port n p
-    there n p h = rw (ne-eqb p MISSING (λ e. omega arith), endIn)
-
     go : (e : End) (c : Carries) → told c e → lastFour (endRow e ++ carriesRow c) l ≡ sentTo c e l
     go (port n p) onward h = refl
     go (rerouter n) onward h = refl
-    go (port n p) (delivery k d) h = λ z. sentTo (sent k d (h .0) z) (there n p (h .1) z) l
-    go (rerouter n) (delivery k d) h = λ z. sentTo (sent k d h z) (rerouter n) l
+    go (port n p) (delivery k d) h = λ z. sentTo (wire-named k d (h .0) z) (port-there n p (h .1) z) l
+    go (rerouter n) (delivery k d) h = λ z. sentTo (wire-named k d h z) (rerouter n) l
 
 -- A store behind the rows read leaves them.
 wires-set : (table : List (List ℕ)) (i : ℕ) (row : List ℕ) (from n : ℕ) → from + n ≤ i → wiresFrom (set table i row) from n ≡ wiresFrom table from n
@@ -81,12 +75,8 @@ targets-read (w ∷ new) old table h a =
     ∙ ap (sentTo (w .carries) (w .target)) (targets-read new old table (omega arith) (a .1)))
 
 -- Ports written over a table are those handed in.
-pub handed-over : (l : List Port) (table : List (List ℕ)) → handed (portsOver l table) (length l) ≡ l
-handed-over l table = ap (map portIn) (take-at (map portRow l) _ (length l) (length-map l portRow)) ∙ back l
-  where
-    back : (l : List Port) → map portIn (map portRow l) ≡ l
-    back [] = refl
-    back (p ∷ l) = ap {B = List Port} (λ r. p ∷ r) (back l)
+pub handed-over : (l : List Port) (table : List (List ℕ)) → portsHeld (portsOver l table) (length l) ≡ l
+handed-over l table = ap (map portIn) (take-at (map portRow l) _ (length l) (length-map l portRow)) ∙ ports-back l
 
 -- What `settle_ports` reads and leaves where the table of bus wires holds a later bus, and the ports handed in are the earlier one's.
 module _ {start later : Bus} (p : Ported start later) (legible : All Legible (p .new)) (wires old : List (List ℕ))
@@ -107,6 +97,6 @@ module _ {start later : Bus} (p : Ported start later) (legible : All Legible (p 
       let fit : length (p .new ++ start .wires) ≤ length old = omega (arith, grown, length-append (p .new) (start .wires)) in
       (λ z. targets (wiresFrom (table z) (length (start .wires)) (many z))) ∙ targets-read (p .new) (start .wires) old fit legible
 
-  pub settled-held : (ports : List (List ℕ)) (u : ℕ) → portsSet (handed ports u) ≡ start .ports
+  pub settled-held : (ports : List (List ℕ)) (u : ℕ) → portsSet (portsHeld ports u) ≡ start .ports
       → settled wires (length (start .wires)) (length (later .wires)) ports u ≡ later .ports
   settled-held ports u h = (λ z. suppress (h z) (targets-held z)) ∙ sym (p .ports)

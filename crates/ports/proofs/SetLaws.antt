@@ -14,7 +14,8 @@ use Rattle.board.proofs.Lists.{clash, byTest}
 use Rattle.routes.specs.Bus.{Port, insertPort, samePort}
 use Rattle.routes.proofs.Views.{sorted-map}
 use Rattle.ports.specs.Ports.{targets, suppress, portsSet}
-use Rattle.ports.specs.Settling.{wiresFrom, portIn, handed, sortRow, portLess, again, unique, settled}
+use Rattle.routes.specs.Buffers.{portIn, portsHeld}
+use Rattle.ports.specs.Settling.{wiresFrom, sortRow, portLess, again, unique, settled}
 
 -- Two ports compared: exactly one of three.
 pub data Ordered (p q : Port) : Type 0 where
@@ -149,11 +150,11 @@ rows-once rows old more h =
 
 -- The whole: rows gathered from bus wires, those of the ports handed in behind them, all sorted and read without repetitions.
 pub settled-once : (wires : List (List ℕ)) (from to : ℕ) (ports : List (List ℕ)) (u n : ℕ) (gathered rows sorted′ rest : List (List ℕ))
-    → take n gathered ≡ map sortRow (targets (wiresFrom wires from (to - from))) → take (n + u) rows ≡ take n gathered ++ map sortRow (handed ports u)
+    → take n gathered ≡ map sortRow (targets (wiresFrom wires from (to - from))) → take (n + u) rows ≡ take n gathered ++ map sortRow (portsHeld ports u)
     → length sorted′ ≡ n + u → sorted′ ≡ sortedRows (take (n + u) rows) → unique (map portIn (take (n + u) (sorted′ ++ rest))) ≡ settled wires from to ports u
 settled-once wires from to ports u n gathered rows sorted′ rest g a long s =
     ap (λ r. unique (map portIn r)) (take-at sorted′ rest (n + u) long ∙ s)
-    ∙ rows-once (take (n + u) rows) (handed ports u) (targets (wiresFrom wires from (to - from))) (a ∙ ap (λ r. r ++ map sortRow (handed ports u)) g)
+    ∙ rows-once (take (n + u) rows) (portsHeld ports u) (targets (wiresFrom wires from (to - from))) (a ∙ ap (λ r. r ++ map sortRow (portsHeld ports u)) g)
 
 -- A set of ports is ascending, and is its own set.
 abbrev Under : Port → List Port → Type 0

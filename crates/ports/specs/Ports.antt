@@ -1,6 +1,9 @@
--- The suppressed ports of bus wires: "a delivery .., suppressing its target port".
+-- The suppressed ports of bus wires: those that deliveries go to (R11, R14).
 use mathlib.Core.Path.{_≡_}
 use mathlib.Core.List.{List, [], _∷_, _++_}
+use Rattle.board.specs.Board.{Board}
+use Rattle.board.specs.Demands.{PageLanes}
+use Rattle.routes.specs.Plan.{busOf, finished}
 use Rattle.routes.specs.Bus.{Bus, BusWire, End, port, rerouter, Carries, onward, delivery, Port, insertPort}
 
 -- The port that a delivery goes to, in front of others.
@@ -14,7 +17,7 @@ abbrev pub targets : List BusWire → List Port
 targets [] = []
 targets (w ∷ ws) = sentTo (w .carries) (w .target) (targets ws)
 
--- Suppressed ports and more of them, in any order and repeated or not: "suppressed ports ascending", each once.
+-- P5, R14: suppressed ports and more of them, in any order and repeated or not, as a set by node and port.
 abbrev pub suppress : List Port → List Port → List Port
 suppress old [] = old
 suppress old (p ∷ l) = insertPort p (suppress old l)
@@ -32,3 +35,8 @@ pub record Ported (bus later : Bus) : Type 0 where
   pub new : List BusWire
   pub wires : later .wires ≡ new ++ bus .wires
   pub ports : later .ports ≡ portsWith (bus .ports) new
+
+-- The suppressed ports of a plan are those of its own deliveries, before the corner pass and after it.
+pub record OwnPorts (b : Board) (ps : List PageLanes) : Type 0 where
+  pub laid : busOf b ps .ports ≡ portsWith [] (busOf b ps .wires)
+  pub turned : finished b ps .ports ≡ portsWith [] (finished b ps .wires)

@@ -1,29 +1,14 @@
--- How the code holds suppressed ports and reads bus wires in tables of rows of numbers. No rule of document 01 stands here.
+-- How the code holds suppressed ports and reads bus wires in tables of rows of numbers. Of the rules only P8 stands here.
 use Prim.Native.Nat.{ℕ, zero, suc, _+_, _-_, _≤_}
 use mathlib.Core.Path.{_≡_}
 use mathlib.Core.Bool.{Bool, true, false, not, _&&_, _||_}
 use mathlib.Core.List.{List, [], _∷_, _++_, map}
 use lib.Dec.{eqb, ltb}
-use lib.ListN.{length, getD, take, drop}
+use lib.ListN.{length, getD, drop}
 use Rattle.sheet.specs.Table.{MISSING}
-use Rattle.routes.specs.Bus.{BusWire, End, port, rerouter, Carries, onward, delivery, Port, samePort}
-use Rattle.routes.specs.Buffers.{portRow}
+use Rattle.routes.specs.Bus.{BusWire, Port, samePort}
+use Rattle.routes.specs.Buffers.{portRow, wireIn, portsHeld}
 use Rattle.ports.specs.Ports.{targets, portsSet, portsWith}
-
--- A bus wire read from its row: no port is a rerouter, neither wire nor distance is no delivery.
-abbrev pub endIn : ℕ → ℕ → End
-endIn n p = elim (eqb p MISSING) [ true ↦ rerouter n | false ↦ port n p ]
-
-abbrev pub carriesIn : ℕ → ℕ → Carries
-carriesIn k d = elim (eqb k MISSING && eqb d MISSING) [ true ↦ onward | false ↦ delivery k d ]
-
-abbrev pub wireIn : List ℕ → BusWire
-wireIn r =
-    record {
-      source = endIn (getD r 0 0) (getD r 1 0);
-      target = endIn (getD r 2 0) (getD r 3 0);
-      carries = carriesIn (getD r 4 0) (getD r 5 0);
-    }
 
 -- Whether a row holds a delivery to a port.
 abbrev pub deliversIn : List ℕ → Bool
@@ -33,9 +18,6 @@ deliversIn r = not (eqb (getD r 3 0) MISSING) && not (eqb (getD r 4 0) MISSING &
 abbrev pub wiresFrom : List (List ℕ) → ℕ → ℕ → List BusWire
 wiresFrom table from zero = []
 wiresFrom table from (suc n) = wireIn (getD table (from + n) []) ∷ wiresFrom table from n
-
-abbrev pub portIn : List ℕ → Port
-portIn r = record { node = getD r 0 0; port = getD r 1 0 }
 
 -- A port in a row of eight numbers, to be sorted.
 abbrev pub sortRow : Port → List ℕ
@@ -55,17 +37,13 @@ abbrev pub unique : List Port → List Port
 unique [] = []
 unique (p ∷ l) = elim (again p l) [ true ↦ unique l | false ↦ p ∷ unique l ]
 
--- Ports written over a table from row 0 on: the rows written, then the old rest.
+-- P8: ports written over a table from row 0 on: the rows written, then the old rest.
 abbrev pub portsOver : List Port → List (List ℕ) → List (List ℕ)
 portsOver l old = map portRow l ++ drop (length l) old
 
--- The first u rows of a table of ports.
-abbrev pub handed : List (List ℕ) → ℕ → List Port
-handed ports u = map portIn (take u ports)
-
 -- The ports handed in, with those of the bus wires from..to.
 abbrev pub settled : List (List ℕ) → ℕ → ℕ → List (List ℕ) → ℕ → List Port
-settled wires from to ports u = portsWith (portsSet (handed ports u)) (wiresFrom wires from (to - from))
+settled wires from to ports u = portsWith (portsSet (portsHeld ports u)) (wiresFrom wires from (to - from))
 
 -- What is to be sorted fits into the rows lent, and what is left fits into the table of ports.
 pub record Settleable (wires : List (List ℕ)) (from to : ℕ) (ports : List (List ℕ)) (u : ℕ) (rows spare : List (List ℕ)) : Type 0 where

@@ -5,7 +5,8 @@ ghost use mathlib.Core.List.{[], _++_, map};
 ghost use Prim.Native.Nat.{_+_, _≤_, _<_};
 ghost use lib.ListN.{length, getD, take, drop};
 ghost use Rattle.ports.specs.Ports.{targets};
-ghost use Rattle.ports.specs.Settling.{deliversIn, wiresFrom, portIn, handed, sortRow, again, unique, portsOver, Settleable, Settled};
+ghost use Rattle.routes.specs.Buffers.{portIn, portsHeld};
+ghost use Rattle.ports.specs.Settling.{deliversIn, wiresFrom, sortRow, again, unique, portsOver, Settleable, Settled};
 use lanes::sort::sort_rows;
 
 // No port, no wire, no distance.
@@ -46,7 +47,7 @@ fn gather_targets(bus_wires: &[[u32; 6]], from: usize, count: usize, rows: &mut 
 // Puts the first `u` ports behind the first `n` rows.
 fn add_ports(ports: &[[u32; 2]], u: usize, rows: &mut [[u32; 8]], n: usize)
     requires { ⌜ (u ≤ length (now ports)) × (n + u ≤ length (now rows)) ⌝ }
-    ensures { λ _. ⌜ take (n + u) (now (rows .exit)) ≡ take n (now (rows .entry)) ++ map sortRow (handed (now (ports .entry)) u) ⌝ }
+    ensures { λ _. ⌜ take (n + u) (now (rows .exit)) ≡ take n (now (rows .entry)) ++ map sortRow (portsHeld (now (ports .entry)) u) ⌝ }
 {
     let mut i: usize = 0;
     while i < u {

@@ -10,7 +10,7 @@ use Rattle.board.specs.Board.{Board}
 use Rattle.board.specs.Demands.{PageLanes}
 use Rattle.board.proofs.Lists.{clash, never}
 use Rattle.routes.specs.Bus.{Bus, Port}
-use Rattle.routes.specs.Buffers.{portRow}
+use Rattle.routes.specs.Buffers.{portRow, portsHeld}
 use Rattle.routes.specs.Corners.{turnable, corners}
 use Rattle.routes.specs.Plan.{busOf, finished}
 use Rattle.routes.specs.Holding.{BusHeld}
@@ -20,15 +20,12 @@ use Rattle.corners.specs.Turning.{hasRoom, TurnedFrom}
 use Rattle.corners.specs.declared.turn.Turned.{Turned}
 use Rattle.corners.specs.declared.turn.Turned.the-variants.{Short, Laid}
 use Rattle.ports.specs.Ports.{portsSet}
-use Rattle.ports.specs.Settling.{portsOver, handed, settled, Settleable, Settled}
+use Rattle.ports.specs.Settling.{portsOver, settled, Settleable, Settled}
 use Rattle.ports.proofs.Calling.{settled-corners, settleable-corners}
 use Rattle.ports.proofs.Reading.{WiresRanged}
 use Rattle.router.specs.Finish.{BusStands, CornersReady}
 use Rattle.gutter.proofs.Suppressing.{wires-ranged}
-use Rattle.router.proofs.Finishing.{laid-handed, laid-mutes, laid-room, laid-given, ports-finished, wires-fit, sort-room}
-
-ports-long : (l : List Port) (old : List (List ℕ)) → length l ≤ length old → length (portsOver l old) ≡ length old
-ports-long l old h = omega (arith, length-append (map portRow l) (drop (length l) old), length-map l portRow, length-drop (length l) old)
+use Rattle.router.proofs.Finishing.{ports-length, laid-handed, laid-mutes, laid-room, laid-given, ports-finished, wires-fit, sort-room}
 
 module _ {b : Board} {ps : List PageLanes} {old oldWires oldPorts rows : List (List ℕ)} {counts : Counts} {nodeFacts wireFacts rerouters : List (List ℕ)} {n : ℕ} {busWires : List (List ℕ)} {k : ℕ} {ports : List (List ℕ)} {u : ℕ} {marks sorting spare : List (List ℕ)}
     (ready : CornersReady b ps old oldWires oldPorts rows counts nodeFacts wireFacts rerouters n busWires k ports u marks sorting spare) where
@@ -55,9 +52,9 @@ module _ {b : Board} {ps : List PageLanes} {old oldWires oldPorts rows : List (L
   turned-laid rerouters′ busWires′ Short count t e = never cc
   turned-laid rerouters′ busWires′ (Laid c) count t e = let same : c ≡ count = cc in subst (λ (d : BusCount). BusHeld (corners b (busOf b ps)) old oldWires rerouters′ busWires′ d) same t
 
-  given : portsSet (handed ports u) ≡ busOf b ps .ports
+  given : portsSet (portsHeld ports u) ≡ busOf b ps .ports
   given =
-      ap (λ (j : ℕ). portsSet (handed ports j)) (ready .stands .suppressed)
+      ap (λ (j : ℕ). portsSet (portsHeld ports j)) (ready .stands .suppressed)
       ∙ laid-given (ready .most) (ready .text) (ready .within) b (ready .accepted) ps (ready .plan) ports oldPorts (ready .stands .ports-are)
 
   ranged : WiresRanged b
@@ -74,7 +71,7 @@ module _ {b : Board} {ps : List PageLanes} {old oldWires oldPorts rows : List (L
         let sl = ready .sortingLent in
         let pl = ready .spareLent in
         let ol = ready .portsLent in
-        let long : length ports ≡ length oldPorts = ap length (ready .stands .ports-are) ∙ ports-long (busOf b ps .ports) oldPorts (omega arith) in
+        let long : length ports ≡ length oldPorts = ap length (ready .stands .ports-are) ∙ ports-length (busOf b ps .ports) oldPorts (omega arith) in
         rw (ready .stands .wires, held .wireCount)
         (settleable-corners b ranged (busOf b ps) busWires′ oldWires (held .wireRows) fit ports u (ready .turning .lent .muted) given sorting spare (omega arith) (omega arith) (omega arith))
 

@@ -5,7 +5,7 @@ use mathlib.Core.Path.{_≡_, refl, sym, ap, _∙_, subst}
 use mathlib.Core.Bool.{Bool, true, false, _&&_}
 use mathlib.Core.List.{List, [], _∷_, _++_, map, reverse, List·Memᴰ, List·Memᴰ·head, List·Memᴰ·tail}
 use lib.Dec.{leb}
-use lib.ListN.{length, getD, set, take, drop, length-set, length-append, length-map}
+use lib.ListN.{length, getD, set, take, drop, length-set, length-append, length-map, length-drop}
 use lib.Seq.{drop-append-add, drop-drop}
 use borrow.Author.Tests.{le-leb}
 use Rattle.sheet.specs.declared.Counts.{Counts}
@@ -17,24 +17,25 @@ use Rattle.board.specs.Demands.{PageLanes, planned, planLanes}
 use Rattle.board.specs.Walk.{WithinLibrary}
 use Rattle.board.specs.Tables.{view}
 use Rattle.board.proofs.Lists.{clash, count-none, none-counted, count-reverse, byTest}
+use Rattle.board.proofs.Views.{view-take}
 use Rattle.routes.specs.Bus.{Bus, Brick, BusWire, Port, insertPort, place, deliver, samePort, portOf, muted}
-use Rattle.routes.specs.Buffers.{brickRow, wireRow, portRow}
+use Rattle.routes.specs.Buffers.{brickRow, wireRow, portRow, portIn, portsHeld}
 use Rattle.routes.specs.Tables.{writtenOver}
 use Rattle.cells.specs.Chains.{Fits, RowsOf, CellRows}
 use Rattle.routes.specs.Corners.{turnable, corners}
 use Rattle.routes.specs.Plan.{busOf, finished}
 use Rattle.routes.specs.Holding.{BusHeld}
+use Rattle.routes.specs.Route.{Room}
 use Rattle.routes.specs.Demand3.{HighGutters}
-use Rattle.routes.proofs.Views.{view-take}
 use Rattle.emit.proofs.Emitting.{rows-more}
-use Rattle.routes.proofs.Room.{Room, room-to-turn, room-finished}
+use Rattle.routes.proofs.Room.{room-to-turn, room-finished}
 use Rattle.routes.proofs.Routed.{judged-gutters}
-use Rattle.corners.specs.Handed.{portIn, Mutes, Handed}
+use Rattle.corners.specs.Handed.{Mutes, Handed}
 use Rattle.corners.specs.Turning.{hasRoom}
 use Rattle.ports.specs.Ports.{targets, suppress, portsSet}
-use Rattle.ports.specs.Settling.{portsOver, handed, portLess}
+use Rattle.ports.specs.Settling.{portsOver, portLess}
 use Rattle.ports.proofs.SetLaws.{set-again}
-use Rattle.ports.proofs.Laid.{corners-keep, cornered, bus-ports}
+use Rattle.ports.proofs.Laid.{corners-keep, cornered, plan-ports}
 use Rattle.ports.proofs.Reading.{handed-over}
 use Rattle.text.proofs.Ranges.{All}
 use Rattle.text.proofs.PlanRange.{plan-in-range}
@@ -44,6 +45,10 @@ pub length-written {ℓ} : {A : Type ℓ} (row : A → List ℕ) (l : List A) (o
 length-written row [] old = refl
 length-written row (x ∷ l) old = length-set (writtenOver row l old) (length l) (row x) ∙ length-written row l old
 
+-- Ports written over a table stand in it.
+pub ports-length : (l : List Port) (old : List (List ℕ)) → length l ≤ length old → length (portsOver l old) ≡ length old
+ports-length l old h = omega (arith, length-append (map portRow l) (drop (length l) old), length-map l portRow, length-drop (length l) old)
+
 cells-written : (l : List Brick) (old : List (List ℕ)) → length l ≤ length old → All Fits l → CellRows l (writtenOver brickRow l old)
 cells-written [] old h fit = tt
 cells-written (k ∷ l) old h fit =
@@ -51,16 +56,16 @@ cells-written (k ∷ l) old h fit =
     rows-more Fits l (writtenOver brickRow l old) k (length l) refl room (fit k (List·Memᴰ·head refl)) (cells-written l old (omega arith) (λ x m. fit x (List·Memᴰ·tail m)))
 
 -- The corner pass leaves the rerouters that there were.
-record Longer (bus later : Bus) : Type 0 where
-  new : List Brick
-  bricks : later .bricks ≡ new ++ bus .bricks
+pub record Longer (bus later : Bus) : Type 0 where
+  pub new : List Brick
+  pub bricks : later .bricks ≡ new ++ bus .bricks
 
-corners-longer : (b : Board) (bus : Bus) → Longer bus (corners b bus)
+pub corners-longer : (b : Board) (bus : Bus) → Longer bus (corners b bus)
 corners-longer b bus =
     corners-keep b (Longer bus) (λ r f k q. record { new = k ∷ q .new; bricks = ap (λ (l : List Brick). k ∷ l) (q .bricks) }) (λ r f w q. record { new = q .new; bricks = q .bricks })
     bus (record { new = []; bricks = refl })
 
-among-all : (new l : List Brick) {k : Brick} → List·Memᴰ k l → List·Memᴰ k (new ++ l)
+pub among-all : {A : Type 0} (new l : List A) {k : A} → List·Memᴰ k l → List·Memᴰ k (new ++ l)
 among-all [] l m = m
 among-all (j ∷ new) l m = List·Memᴰ·tail (among-all new l m)
 
@@ -120,7 +125,7 @@ module _ (most : Counts) (text : List ℕ) (low : WithinLibrary most) (b : Board
       let rows : length (map portRow (laid .ports)) ≡ length (laid .ports) = length-map (laid .ports) portRow in
       let long : length (laid .ports) ≤ length ports = rw e (let a = length-append (map portRow (laid .ports)) (drop (length (laid .ports)) oldPorts) in omega arith) in
       let seen : view portIn ports (length (laid .ports)) ≡ reverse (laid .ports) =
-      view-take portIn ports (length (laid .ports)) long ∙ ap reverse (ap (λ (t : List (List ℕ)). handed t (length (laid .ports))) e ∙ handed-over (laid .ports) oldPorts) in
+      view-take portIn ports (length (laid .ports)) long ∙ ap reverse (ap (λ (t : List (List ℕ)). portsHeld t (length (laid .ports))) e ∙ handed-over (laid .ports) oldPorts) in
       sym (ap (any (samePort (portOf b w))) seen ∙ any-reverse (samePort (portOf b w)) (laid .ports))
 
   pub laid-room : hasRoom (length (b .wires)) (length (laid .bricks)) (length (laid .wires)) (length (laid .ports)) (turnable b laid) ≡ true
@@ -132,13 +137,13 @@ module _ (most : Counts) (text : List ℕ) (low : WithinLibrary most) (b : Board
       rw (le-leb (length (laid .bricks) + turnable b laid) (5 * length (b .wires)) r, le-leb (length (laid .wires) + 2 * turnable b laid) (6 * length (b .wires)) w, le-leb (length (laid .ports) + turnable b laid) (length (b .wires)) p) refl
 
   -- The finished bus, where the corners were laid and the ports settled.
-  portsGrow : length (laid .ports) ≤ length (finished b ps .ports)
+  pub portsGrow : length (laid .ports) ≤ length (finished b ps .ports)
   unfolding finished
   portsGrow = let c = cornered b laid .ported .ports in omega (arith, suppress-longer (laid .ports) (targets (cornered b laid .ported .new)), ap length c)
 
-  pub laid-given : (ports oldPorts : List (List ℕ)) → ports ≡ portsOver (laid .ports) oldPorts → portsSet (handed ports (length (laid .ports))) ≡ laid .ports
+  pub laid-given : (ports oldPorts : List (List ℕ)) → ports ≡ portsOver (laid .ports) oldPorts → portsSet (portsHeld ports (length (laid .ports))) ≡ laid .ports
   laid-given ports oldPorts e =
-      ap portsSet (ap (λ (t : List (List ℕ)). handed t (length (laid .ports))) e ∙ handed-over (laid .ports) oldPorts ∙ bus-ports b ps) ∙ (set-again (targets (laid .wires)) ∙ sym (bus-ports b ps))
+      ap portsSet (ap (λ (t : List (List ℕ)). portsHeld t (length (laid .ports))) e ∙ handed-over (laid .ports) oldPorts ∙ plan-ports b ps .laid) ∙ (set-again (targets (laid .wires)) ∙ sym (plan-ports b ps .laid))
 
   pub ports-finished : (ports oldPorts : List (List ℕ)) → ports ≡ portsOver (laid .ports) oldPorts → portsOver (finished b ps .ports) ports ≡ portsOver (finished b ps .ports) oldPorts
   ports-finished ports oldPorts e =

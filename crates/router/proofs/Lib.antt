@@ -2,5 +2,4 @@ pub mod Finishing
 pub mod Turning
 pub mod Adding
 pub mod Routing
-pub mod Promise
 pub mod MiniLaws

@@ -11,47 +11,53 @@ use borrow.Author.Tests.{leb-true}
 use Rattle.sheet.specs.declared.Counts.{Counts}
 use Rattle.sheet.specs.Table.{libraryMost}
 use Rattle.board.specs.Board.{Board}
-use Rattle.board.specs.Demands.{PageLanes}
-use Rattle.board.specs.Planning.{lanesFor, planning, records}
+use Rattle.board.specs.Demands.{PageLanes, Planned, crowded, planned, planLanes}
+use Rattle.board.specs.Planning.{Planning, refused, planning, crowding, records}
+use Rattle.board.specs.Refusals
+use Rattle.board.specs.Refusals.{Judged, board}
 use Rattle.board.specs.Walk.{WithinLibrary, countsIn}
 use Rattle.board.proofs.Lists.{and-left, and-right}
-use Rattle.demands.proofs.GroupLaws.{length-view}
+use Rattle.board.proofs.Views.{length-view}
 use Rattle.plan.specs.declared.Lent.{Lent}
-use Rattle.plan.specs.TextPlan.{fitsLent, shortest, WorkLent, TablesHold}
+use Rattle.plan.specs.TextPlan.{fitsLent, fitting, shortest, WorkLent, FactsHold}
 use Rattle.plan.proofs.Fitting.{fits-all, shortest-front}
-use Rattle.plan.proofs.Reading.{lanes-from}
+use Rattle.plan.proofs.Reading.{judgedFor, fitting-from, planning-then}
+use Rattle.plan.proofs.Calling.{planning-same}
 use Rattle.routes.specs.Bus.{Bus, insertPort}
 use Rattle.routes.specs.Corners.{corners, turnable}
 use Rattle.routes.specs.Holding.{BusHeld}
 use Rattle.routes.specs.Route.{Routed, turnedAway, plan}
 use Rattle.routes.specs.declared.bus.BusCount.{BusCount}
 use Rattle.routes.proofs.Room.{corner-room}
-use Rattle.corners.specs.Handed.{wireIn, portsIn, busIn}
+use Rattle.corners.specs.Handed.{portsIn, busIn}
 use Rattle.corners.specs.Turning.{hasRoom, TurnedAs}
 use Rattle.corners.specs.declared.turn.Turned.{Turned}
 use Rattle.corners.specs.declared.turn.Turned.the-variants as turnings
 use Rattle.corners.proofs.TurnLaws.{room-found}
 use Rattle.ports.specs.Ports.{portsSet}
-use Rattle.ports.specs.Settling.{portIn, handed, portsOver, settled, Settleable, Settled}
+use Rattle.routes.specs.Buffers.{wireIn, portIn, portsHeld}
+use Rattle.ports.specs.Settling.{portsOver, settled, Settleable, Settled}
 use Rattle.ports.proofs.SetLaws.{set-last}
 use Rattle.ports.proofs.Calling.{settled-corners, settleable-corners}
 use Rattle.gutter.specs.declared.bus.BusPlan.{BusPlan}
 use Rattle.gutter.specs.declared.bus.BusPlan.the-variants.{Refused, Laid}
 use Rattle.router.specs.declared.mini.BusCounts.{BusCounts}
 use Rattle.gutter.specs.Bus.{BusLent}
+use Rattle.routes.specs.Route.{fitsBus}
 use Rattle.gutter.specs.Calls.{busFits, busAnswer, reroutersAfter, busWiresAfter, portsAfter, BusCalled}
-use Rattle.router.specs.Mini.{holds, busHeld, miniOf, miniBy, miniCall, HeldReady}
-use Rattle.gutter.proofs.Suppressing.{wires-ranged, lentWith, bus-planning}
+use Rattle.router.specs.Mini.{holds, busGiven, heldFits, miniBy, miniOn, miniFits, miniCall, crowdedAt, HeldReady}
+use Rattle.router.specs.Turn.{RowsKnown}
+use Rattle.gutter.proofs.Suppressing.{wires-ranged, lentWith, bus-fit}
 use Rattle.router.proofs.Turning.{turn-ready}
 
 -- The ports handed in, whatever row is put in first.
-ports-in : (ports : List (List ℕ)) (u : ℕ) → u ≤ length ports → portsSet (handed ports u) ≡ portsIn ports u
+pub ports-in : (ports : List (List ℕ)) (u : ℕ) → u ≤ length ports → portsSet (portsHeld ports u) ≡ portsIn ports u
 unfolding portsIn
 ports-in ports zero h = refl
 ports-in ports (suc n) h =
     ap (λ r. portsSet (map portIn r)) (take-suc ports n [] (omega arith))
     ∙ (ap portsSet (map-append portIn (take n ports) (getD ports n [] ∷ []))
-    ∙ (set-last (handed ports n) (portIn (getD ports n [])) ∙ ap (insertPort (portIn (getD ports n []))) (ports-in ports n (omega arith))))
+    ∙ (set-last (portsHeld ports n) (portIn (getD ports n [])) ∙ ap (insertPort (portIn (getD ports n []))) (ports-in ports n (omega arith))))
 
 pub held-within : (held : BusCounts) (r w p : ℕ) → holds held r w p ≡ true → (held .rerouters ≤ r) × (held .«bus_wires» ≤ w) × (held .ports ≤ p)
 unfolding holds
@@ -92,10 +98,10 @@ module _ (call : Routed) (old oldWires oldPorts rerouters busWires ports : List 
         ports-are = p ∙ ap (λ d. portsAfter d oldPorts) (sym e);
       }
 
--- The corner pass on what is handed in.
-module _ (rerouters busWires ports : List (List ℕ)) (held : BusCounts) (b : Board) (ps : List PageLanes) where
+-- What is handed in, tried, and the corner pass on it.
+module _ (rerouters busWires ports : List (List ℕ)) (held : BusCounts) (b : Board) where
   abbrev start : Bus
-  start = busHeld rerouters busWires ports held
+  start = busGiven rerouters busWires ports held
 
   abbrev fits : Bool
   fits = hasRoom (length (b .wires)) (held .rerouters) (held .«bus_wires») (held .ports) (turnable b start)
@@ -106,15 +112,35 @@ module _ (rerouters busWires ports : List (List ℕ)) (held : BusCounts) (b : Bo
   abbrev Held : Type 0
   Held = holds held (length rerouters) (length busWires) (length ports) ≡ true
 
-  pub unheld : holds held (length rerouters) (length busWires) (length ports) ≡ false → miniOf rerouters busWires ports held b ps ≡ turnedAway 7 0
-  unheld h = rw (h, miniOf)
+  pub unheld : holds held (length rerouters) (length busWires) (length ports) ≡ false → heldFits rerouters busWires ports held b ≡ false
+  unheld h = ap (λ t. t && fits) h
+
+  pub held-fits : Held → heldFits rerouters busWires ports held b ≡ fits
+  held-fits h = ap (λ t. t && fits) h
+
+  mini-fits : (t : Bool) → heldFits rerouters busWires ports held b ≡ t
+      → miniOn rerouters busWires ports held b ≡ miniBy rerouters busWires ports held (elim t as (λ _. Planning) [ true ↦ crowding b (planLanes b) | false ↦ refused 7 0 ])
+  mini-fits t e = ap (λ (v : Bool). miniBy rerouters busWires ports held (elim v as (λ _. Planning) [ true ↦ crowding b (planLanes b) | false ↦ refused 7 0 ])) e
+
+  mini-lanes : heldFits rerouters busWires ports held b ≡ true → (q : Planned) → planLanes b ≡ q → miniOn rerouters busWires ports held b ≡ miniBy rerouters busWires ports held (crowding b q)
+  mini-lanes e q l = mini-fits true e ∙ ap (λ (v : Planned). miniBy rerouters busWires ports held (crowding b v)) l
+
+  pub mini-unfit : heldFits rerouters busWires ports held b ≡ false → BusCalled (miniOn rerouters busWires ports held b) rerouters busWires ports rerouters busWires ports (Refused 7 0)
+  mini-unfit e = called-away _ rerouters busWires ports rerouters busWires ports 7 0 (mini-fits false e) refl refl refl
+
+  pub mini-crowded : (p line : ℕ) → planLanes b ≡ crowded p → line ≡ suc p → (t : Bool) → t ≡ heldFits rerouters busWires ports held b → (r : BusPlan) → r ≡ crowdedAt t line
+      → BusCalled (miniOn rerouters busWires ports held b) rerouters busWires ports rerouters busWires ports r
+  mini-crowded p line l at t e r is = subst (λ (q : BusPlan). BusCalled (miniOn rerouters busWires ports held b) rerouters busWires ports rerouters busWires ports q) (sym is) (go t e)
+    where
+      go : (t : Bool) → t ≡ heldFits rerouters busWires ports held b → BusCalled (miniOn rerouters busWires ports held b) rerouters busWires ports rerouters busWires ports (crowdedAt t line)
+      go true f = called-away _ rerouters busWires ports rerouters busWires ports 8 line (mini-lanes (sym f) (crowded p) l ∙ ap (turnedAway 8) (sym at)) refl refl refl
+      go false f = mini-unfit (sym f)
 
   pub mini-short : Held → (r′ w′ : List (List ℕ)) (r : Turned) → After r′ w′ r → r ≡ turnings.Short
-      → BusCalled (miniOf rerouters busWires ports held b ps) rerouters busWires ports r′ w′ ports (Refused 7 0)
+      → BusCalled (miniOn rerouters busWires ports held b) rerouters busWires ports r′ w′ ports (Refused 7 0)
   mini-short h r′ w′ r t e =
       let s = subst (After r′ w′) e t in
-      let no : fits ≡ false = s .0 in
-      called-away _ rerouters busWires ports r′ w′ ports 7 0 (rw (h, no, miniOf)) (s .1) (s .2) refl
+      called-away _ rerouters busWires ports r′ w′ ports 7 0 (mini-fits false (held-fits h ∙ s .0)) (s .1) (s .2) refl
 
   start-wires : length (start .wires) ≡ held .«bus_wires»
   unfolding busIn
@@ -128,7 +154,7 @@ module _ (rerouters busWires ports : List (List ℕ)) (held : BusCounts) (b : Bo
     laid : After r′ w′ (turnings.Laid count)
     laid = subst (After r′ w′) is turned
 
-    start-ports : portsSet (handed ports (held .ports)) ≡ start .ports
+    start-ports : portsSet (portsHeld ports (held .ports)) ≡ start .ports
     unfolding busIn
     start-ports = ports-in ports (held .ports) (within .2)
 
@@ -156,33 +182,59 @@ module _ (rerouters busWires ports : List (List ℕ)) (held : BusCounts) (b : Bo
         (λ i. settled w′ (sym start-wires i) (laid .1 .wireCount i) ports (held .ports))
         ∙ settled-corners b (ready .ranged) start w′ busWires (laid .1 .wireRows) room ports (held .ports) (within .2) start-ports
 
-    pub mini-laid : (p′ : List (List ℕ)) (u : ℕ) → Settled w′ (held .«bus_wires») (count .wires) ports (held .ports) p′ u
-        → BusCalled (miniOf rerouters busWires ports held b ps) rerouters busWires ports r′ w′ p′ (Laid (count .rerouters) (count .wires) u 0)
-    mini-laid p′ u s =
-        let yes′ : fits ≡ true = laid .0 in
-        called-plan _ rerouters busWires ports r′ w′ p′ b ps (corners b start) 0 (rw (few, yes′, miniOf)) count (laid .1) u (s .count ∙ ap length settled-is)
+    pub mini-laid : (ps : List PageLanes) → planLanes b ≡ planned ps → (p′ : List (List ℕ)) (u : ℕ) → Settled w′ (held .«bus_wires») (count .wires) ports (held .ports) p′ u
+        → BusCalled (miniOn rerouters busWires ports held b) rerouters busWires ports r′ w′ p′ (Laid (count .rerouters) (count .wires) u 0)
+    mini-laid ps l p′ u s =
+        called-plan _ rerouters busWires ports r′ w′ p′ b ps (corners b start) 0 (mini-lanes (held-fits few ∙ laid .0) (planned ps) l) count (laid .1) u (s .count ∙ ap length settled-is)
         (s .rows ∙ ap (λ l. portsOver l ports) settled-is)
 
--- A planned board is ready for whatever is handed in.
-pub held-ready : (most : Counts) (text : List ℕ) (lent : Lent) → WithinLibrary most → (b : Board) (ps : List PageLanes) → planning most (fitsLent lent) text ≡ lanesFor b ps
-    → (rows nodeFacts wireFacts taps groups pageFacts demands keys spare : List (List ℕ)) (m : ℕ) → TablesHold b ps rows nodeFacts wireFacts taps groups pageFacts m → (c : Counts) → c ≡ countsIn b
+-- A board that what is lent fits is ready for whatever is handed in.
+pub held-ready : (most : Counts) (text : List ℕ) (lent : Lent) → WithinLibrary most → (b : Board) → fitting most (fitsLent lent) text ≡ board b
+    → (rows nodeFacts wireFacts taps groups pageFacts demands keys spare : List (List ℕ)) → FactsHold b rows nodeFacts wireFacts → (c : Counts) → c ≡ countsIn b
     → (n : ℕ) → WorkLent (lent .work) n nodeFacts wireFacts taps groups pageFacts demands keys spare
     → (rerouters busWires ports marks : List (List ℕ)) → BusLent lent marks rerouters busWires → lent .ports ≤ length ports
     → HeldReady b rows c nodeFacts wireFacts rerouters busWires ports demands spare marks
 unfolding records
-held-ready most text lent low b ps is rows nodeFacts wireFacts taps groups pageFacts demands keys spare m tables c counted n work rerouters busWires ports marks bus pl =
-    let from = lanes-from most text (fitsLent lent) b ps is in
-    let fit = fits-all lent b (from .fitting) in
+held-ready most text lent low b is rows nodeFacts wireFacts taps groups pageFacts demands keys spare facts c counted n work rerouters busWires ports marks bus pl =
+    let from = fitting-from most text (fitsLent lent) b is in
+    let fit = fits-all lent b (from .1) in
     let fw = fit .work in
     let fp = fit .ports in
     let ds = work .demands-lent in
     let ss = work .spare-lent in
     record {
-      ready = turn-ready most text lent low b ps is rows nodeFacts wireFacts taps groups pageFacts m tables c counted (work .node-facts) (work .wire-facts) rerouters busWires ports marks bus;
-      ranged = wires-ranged most text b low (from .accepted);
+      ready = turn-ready most text lent low b (from .0) (from .1) rows nodeFacts wireFacts facts c counted (work .node-facts) (work .wire-facts) rerouters busWires ports marks bus;
+      ranged = wires-ranged most text b low (from .0);
       portRoom = omega arith;
       sortRoom = (omega arith, omega arith);
     }
+
+pub rows-known : {b : Board} {rows : List (List ℕ)} {c : Counts} {nodeFacts wireFacts rerouters busWires ports sortRows spare marks : List (List ℕ)}
+    → HeldReady b rows c nodeFacts wireFacts rerouters busWires ports sortRows spare marks → RowsKnown b rows c wireFacts
+rows-known {b} {rows} {c} {nodeFacts} ready =
+    let r = ready .ready 0 0 0 (omega arith) (omega arith) (omega arith) in
+    record {
+      nodeFacts = nodeFacts;
+      facts = record { sections = r .sections; nodes-known = r .nodes-known; wires-known = r .wires-known };
+      counted = r .counted;
+      few = r .few;
+      factsLong = r .fits .endsLong;
+    }
+
+-- What is handed in is tried after what is lent.
+module _ (rerouters busWires ports : List (List ℕ)) (held : BusCounts) (most : Counts) (lentFits : Board → Bool) (text : List ℕ) where
+  mini-by : (j : Judged) → fitting most lentFits text ≡ j
+      → miniBy rerouters busWires ports held (planning most (miniFits rerouters busWires ports held lentFits) text) ≡ miniBy rerouters busWires ports held (judgedFor (heldFits rerouters busWires ports held) j)
+  mini-by j e =
+      ap (miniBy rerouters busWires ports held)
+      (planning-then most text (miniFits rerouters busWires ports held lentFits) lentFits (heldFits rerouters busWires ports held) (λ b. refl) ∙ ap (judgedFor (heldFits rerouters busWires ports held)) e)
+
+  pub mini-refused : (n l : ℕ) → fitting most lentFits text ≡ Refusals.turnedAway n l → miniBy rerouters busWires ports held (planning most (miniFits rerouters busWires ports held lentFits) text) ≡ turnedAway n l
+  mini-refused n l e = mini-by (Refusals.turnedAway n l) e
+
+  pub mini-tried : (b : Board) → fitting most lentFits text ≡ board b
+      → miniBy rerouters busWires ports held (planning most (miniFits rerouters busWires ports held lentFits) text) ≡ miniOn rerouters busWires ports held b
+  mini-tried b e = mini-by (board b) e
 
 -- What a call finds lent.
 pub work-less : {v w n : ℕ} {nf wf ts gs pf ds ks ss : List (List ℕ)} → w ≤ v → WorkLent v n nf wf ts gs pf ds ks ss → WorkLent w n nf wf ts gs pf ds ks ss
@@ -207,13 +259,15 @@ module _ (half : ℕ) (rest : List ℕ) (least w : ℕ) (shortest-is : least ≡
   lent-below = omega arith
 
   pub mini-called : (text : List ℕ) (most : Counts) → most ≡ libraryMost → (r b p : ℕ) → 0 < length rest → (rerouters busWires ports : List (List ℕ)) (held : BusCounts)
-      → miniBy rerouters busWires ports held (planning most (fitsLent (lentWith r b p w)) text)
+      → miniBy rerouters busWires ports held (planning most (miniFits rerouters busWires ports held (fitsLent (lentWith r b p w))) text)
       ≡ miniCall text (busFits r b p (half ∷ rest)) rerouters busWires ports held
   unfolding miniCall
   mini-called text most e r b p some rerouters busWires ports held =
       let same : w ≡ shortest (half ∷ rest) = lesser-is ∙ (ap (min half) shortest-is ∙ sym (shortest-front half rest some)) in
-      (λ i. miniBy rerouters busWires ports held (planning (e i) (fitsLent (lentWith r b p (same i))) text))
-      ∙ ap (miniBy rerouters busWires ports held) (bus-planning text r b p (shortest (half ∷ rest)))
+      (λ i. miniBy rerouters busWires ports held (planning (e i) (miniFits rerouters busWires ports held (fitsLent (lentWith r b p (same i)))) text))
+      ∙ ap (miniBy rerouters busWires ports held)
+      (planning-same text (miniFits rerouters busWires ports held (fitsLent (lentWith r b p (shortest (half ∷ rest))))) (miniFits rerouters busWires ports held (fitsBus r b p (shortest (half ∷ rest))))
+      (λ c wires pages. ap (λ t. t && heldFits rerouters busWires ports held c) (bus-fit r b p (shortest (half ∷ rest)) c wires pages)))
 
 pub marks-halved : (marks : List (List ℕ)) (least w : ℕ) → w ≡ min (length marks / 2) least → 2 * w ≤ length marks
 marks-halved marks least w e = omega arith

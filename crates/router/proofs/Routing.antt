@@ -13,6 +13,7 @@ use Rattle.board.specs.Walk.{WithinLibrary, countsIn}
 use Rattle.plan.specs.declared.Lent.{Lent}
 use Rattle.plan.specs.TextPlan.{LINE_MOST, hasRoom, fitsCounts, fitsLent}
 use Rattle.plan.proofs.Fitting.{fits-all}
+use Rattle.plan.proofs.Surveying.{facts-in}
 use Rattle.plan.proofs.Reading.{lanes-from}
 use Rattle.plan.proofs.Planned.{planned-counts}
 use Rattle.plan.proofs.Calling.{LanesTold, planning-same}
@@ -63,7 +64,7 @@ module _ (most : Counts) (text : List ℕ) (lent : Lent) (low : WithinLibrary mo
         accepted = from .accepted;
         plan = from .lanes;
         turning =
-            turn-ready most text lent low b ps (told .is) rows nodeFacts wireFacts taps groups pageFacts (told .found) (told .tables) c (told .counted) nf wf rerouters busWires ports marks bus n k u (omega arith) (omega arith)
+            turn-ready most text lent low b (from .accepted) (from .fitting) rows nodeFacts wireFacts (facts-in (told .tables)) c (told .counted) nf wf rerouters busWires ports marks bus n k u (omega arith) (omega arith)
             (omega arith);
         stands = record { bricks-are = told .rerouters-are; wires-are = told .wires-are; ports-are = told .ports-are; bricks = nb; wires = kb; suppressed = ub };
         reroutersLent = omega arith;

@@ -2,23 +2,22 @@
 use Prim.Native.Nat.{ℕ, _+_, _*_, _≤_, _<_}
 use native.Mathlib.Omega.{arith}
 use mathlib.Core.Path.{_≡_, refl}
+use mathlib.Core.Bool.{true}
 use mathlib.Core.List.{List}
 use lib.ListN.{length}
 use Rattle.sheet.specs.declared.Counts.{Counts}
 use Rattle.sheet.specs.Table.{MISSING, HALF_MOST}
 use Rattle.board.specs.Board.{Board, field}
 use Rattle.board.specs.Rows.{turned, sizeX, brickCell}
-use Rattle.board.specs.Demands.{PageLanes}
-use Rattle.board.specs.Planning.{lanesFor, planning, records}
+use Rattle.board.specs.Planning.{records}
 use Rattle.board.specs.Refusals.{board, judged}
 use Rattle.board.specs.Tables.{NodeFacts}
 use Rattle.board.specs.Walk.{WithinLibrary, countsIn}
 use Rattle.board.proofs.Lists.{byTest}
 use Rattle.plan.specs.declared.Lent.{Lent}
-use Rattle.plan.specs.TextPlan.{fitsLent, TablesHold}
+use Rattle.plan.specs.TextPlan.{fitsLent, FactsHold}
 use Rattle.plan.proofs.Fine.{fine, few}
 use Rattle.plan.proofs.Fitting.{fits-all}
-use Rattle.plan.proofs.Reading.{lanes-from}
 use Rattle.cells.specs.Chains.{boardWith}
 use Rattle.corners.specs.Turning.{BoardFits}
 use Rattle.corners.proofs.TurnLaws.{on-page}
@@ -32,7 +31,7 @@ cell-end : (b : Board) (i : ℕ) → brickCell b i .x1 < MISSING → brickCell (
 unfolding brickCell
 cell-end b i h = h
 
--- "half sizes 1 to 1,000": no brick's cell is wider.
+-- S11: by the greatest half size no brick's cell is wider.
 cell-wide : (b : Board) → Ranged b → (i : ℕ) → brickCell (boardWith (b .nodes)) i .x1 ≤ field (b .nodes) i 8 + 2000
 unfolding brickCell
 cell-wide b r i =
@@ -57,25 +56,24 @@ module _ (most : Counts) (text : List ℕ) (low : WithinLibrary most) (b : Board
       }
 
 -- What a planned board finds lent.
-module _ (most : Counts) (text : List ℕ) (lent : Lent) (low : WithinLibrary most) (b : Board) (ps : List PageLanes) (is : planning most (fitsLent lent) text ≡ lanesFor b ps) where
-  pub turn-ready : (rows nodeFacts wireFacts taps groups pageFacts : List (List ℕ)) (m : ℕ) → TablesHold b ps rows nodeFacts wireFacts taps groups pageFacts m
+module _ (most : Counts) (text : List ℕ) (lent : Lent) (low : WithinLibrary most) (b : Board) (accepted : judged most text ≡ board b) (fitting : fitsLent lent b ≡ true) where
+  pub turn-ready : (rows nodeFacts wireFacts : List (List ℕ)) → FactsHold b rows nodeFacts wireFacts
       → (c : Counts) → c ≡ countsIn b → lent .work ≤ length nodeFacts → lent .work ≤ length wireFacts
       → (rerouters busWires ports marks : List (List ℕ)) → BusLent lent marks rerouters busWires → (n k u : ℕ) → n ≤ length rerouters → k ≤ length busWires → u ≤ length ports
       → TurnReady b rows c nodeFacts wireFacts rerouters n busWires k ports u marks
   unfolding records
-  turn-ready rows nodeFacts wireFacts taps groups pageFacts m tables c counted nf wf rerouters busWires ports marks bus n k u hn hk hu =
-      let from = lanes-from most text (fitsLent lent) b ps is in
-      let fit = fits-all lent b (from .fitting) in
+  turn-ready rows nodeFacts wireFacts facts c counted nf wf rerouters busWires ports marks bus n k u hn hk hu =
+      let fit = fits-all lent b fitting in
       let fw = fit .work in
       let fr = fit .rerouters in
       let fb = fit .busWires in
       let ml = bus .marks-lent in let rl = bus .rerouters-lent in let bl = bus .wires-lent in
       record {
-        sections = tables .sections;
+        sections = facts .sections;
         counted = counted;
-        few = few low (fine most text b (from .accepted));
-        fits = board-fits most text low b (from .accepted) nodeFacts wireFacts (tables .nodes-known) (omega arith) (omega arith);
-        nodes-known = tables .nodes-known;
-        wires-known = tables .wires-known;
+        few = few low (fine most text b accepted);
+        fits = board-fits most text low b accepted nodeFacts wireFacts (facts .nodes-known) (omega arith) (omega arith);
+        nodes-known = facts .nodes-known;
+        wires-known = facts .wires-known;
         lent = record { bricks = hn; wires = hk; muted = hu; brickRoom = omega arith; wireRoom = omega arith; markRoom = omega arith };
       }

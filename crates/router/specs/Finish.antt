@@ -1,4 +1,4 @@
--- From the bus that `lay_bus` leaves to the finished plan. No rule of document 01 stands here.
+-- From the bus that `lay_bus` leaves to the finished plan. No rule stands here.
 use Prim.Native.Nat.{ℕ, _*_, _≤_}
 use mathlib.Core.Path.{_≡_}
 use mathlib.Core.List.{List, _++_, map}

@@ -7,42 +7,54 @@ use lib.ListN.{length}
 use Rattle.sheet.specs.declared.Counts.{Counts}
 use Rattle.sheet.specs.Table.{libraryMost}
 use Rattle.board.specs.Board.{Board}
-use Rattle.board.specs.Demands.{PageLanes}
 use Rattle.board.specs.Planning.{Planning, refused, lanesFor, planning}
+use Rattle.plan.specs.TextPlan.{fitted}
 use Rattle.routes.specs.Bus.{Bus}
 use Rattle.routes.specs.Corners.{corners, turnable}
 use Rattle.routes.specs.Route.{Routed, turnedAway, plan}
 use Rattle.corners.specs.Handed.{busIn}
 use Rattle.corners.specs.Turning.{hasRoom}
 use Rattle.ports.proofs.Reading.{WiresRanged}
+use Rattle.gutter.specs.declared.bus.BusPlan.{BusPlan}
+use Rattle.gutter.specs.declared.bus.BusPlan.the-variants.{Refused}
 use Rattle.router.specs.declared.mini.BusCounts.{BusCounts}
 use Rattle.router.specs.Turn.{TurnReady}
 
--- Whether buffers of these lengths hold what is said to be in them.
+-- E16: whether buffers of these lengths hold what is said to be in them.
 unfoldable pub holds : BusCounts → ℕ → ℕ → ℕ → Bool
 holds held rerouters busWires ports = leb (held .rerouters) rerouters && leb (held .«bus_wires») busWires && leb (held .ports) ports
 
 module _ (rerouters busWires ports : List (List ℕ)) (held : BusCounts) where
   -- The bus handed in.
-  abbrev pub busHeld : Bus
-  busHeld = busIn rerouters (held .rerouters) busWires (held .«bus_wires») ports (held .ports)
+  abbrev pub busGiven : Bus
+  busGiven = busIn rerouters (held .rerouters) busWires (held .«bus_wires») ports (held .ports)
 
-  -- Whether the buffers hold it, with room for a corner for each wire that may turn.
+  -- E16: whether the buffers hold it, with room for a corner for each wire that may turn.
   abbrev pub heldFits : Board → Bool
   heldFits b =
       holds held (length rerouters) (length busWires) (length ports)
-      && hasRoom (length (b .wires)) (held .rerouters) (held .«bus_wires») (held .ports) (turnable b busHeld)
+      && hasRoom (length (b .wires)) (held .rerouters) (held .«bus_wires») (held .ports) (turnable b busGiven)
 
-  -- Its corners, or a 7. No group is laid.
-  abbrev pub miniOf : Board → List PageLanes → Routed
-  miniOf b ps = elim (heldFits b) [ true ↦ plan b ps (corners b busHeld) 0 | false ↦ turnedAway 7 0 ]
-
+  -- Its corners. No group is laid.
   abbrev pub miniBy : Planning → Routed
   miniBy (refused n l) = turnedAway n l
-  miniBy (lanesFor b ps) = miniOf b ps
+  miniBy (lanesFor b ps) = plan b ps (corners b busGiven) 0
+
+  -- Of a board that what is lent fits: 7 where what is handed in does not, 8, or its corners.
+  abbrev pub miniOn : Board → Routed
+  miniOn b = miniBy (fitted heldFits b)
+
+  -- E9, E16: what is handed in is tried with what is lent: a 7, after 6 and before 8.
+  abbrev pub miniFits : (Board → Bool) → Board → Bool
+  miniFits fits b = fits b && heldFits b
 
 unfoldable pub miniCall : List ℕ → (Board → Bool) → (rerouters busWires ports : List (List ℕ)) → BusCounts → Routed
-miniCall text fits rerouters busWires ports held = miniBy rerouters busWires ports held (planning libraryMost fits text)
+miniCall text fits rerouters busWires ports held = miniBy rerouters busWires ports held (planning libraryMost (miniFits rerouters busWires ports held fits) text)
+
+-- How a crowded page is refused, by whether what is handed in fits.
+abbrev pub crowdedAt : Bool → ℕ → BusPlan
+crowdedAt true line = Refused 8 line
+crowdedAt false line = Refused 7 0
 
 -- A board of an accepted sheet, ready for the corner pass whatever is handed in, with rows for the ports that are sorted.
 pub record HeldReady (b : Board) (rows : List (List ℕ)) (counts : Counts) (nodeFacts wireFacts rerouters busWires ports sortRows spare marks : List (List ℕ)) : Type 0 where

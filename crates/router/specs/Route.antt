@@ -10,7 +10,7 @@ use Rattle.routes.specs.Route.{Routed, fitsPlan, routed}
 use Rattle.gutter.specs.declared.bus.BusPlan.{BusPlan}
 use Rattle.gutter.specs.Calls.{busAnswer, reroutersAfter, busWiresAfter, portsAfter, answersAfter}
 
--- Whether what is lent fits a board: the lengths of the four buffers, and of the slices of work space, of which the shortest counts.
+-- S15, S16: whether what is lent fits a board: the lengths of the four buffers, and of the slices of work space, of which the shortest counts.
 abbrev pub planFits : ℕ → ℕ → ℕ → ℕ → List ℕ → Board → Bool
 planFits rerouters busWires ports answers work = fitsPlan rerouters busWires ports answers (shortest work)
 

@@ -1,14 +1,15 @@
 // `lay_mini_bus`: the corners of a sheet's board on a bus that is handed in, and the ports that they suppress.
+use crate::turn::rows_have_room;
 use crate::turn::turn_rows;
 use corners::turn::Turned;
 use gutter::bus::BusPlan;
 use plan::ANSWERS_MOST;
 use plan::Lent;
 use plan::OUT_MOST;
-use plan::TextPlan;
+use plan::TextSurvey;
 use plan::lesser;
-use plan::plan_text;
 use plan::shortest_of;
+use plan::survey_text;
 use ports::settle::settle_ports;
 use sheet::Counts;
 use sheet::library_most;
@@ -17,13 +18,14 @@ ghost use mathlib.Core.List.{List, [], _∷_};
 ghost use Prim.Native.Nat.{_/_, _≤_};
 ghost use lib.ListN.{length};
 ghost use Rattle.board.specs.Board.{Board};
-ghost use Rattle.board.specs.Demands.{PageLanes};
+ghost use Rattle.board.specs.Demands.{PageLanes, planned, planLanes};
 ghost use Rattle.board.specs.Planning.{planning};
 ghost use Rattle.board.specs.Walk.{WithinLibrary};
 ghost use Rattle.plan.specs.TextPlan.{fitsLent, WorkLent};
 ghost use Rattle.gutter.specs.Bus.{BusLent};
 ghost use Rattle.gutter.specs.Calls.{busFits, BusCalled};
-ghost use Rattle.router.specs.Mini.{holds as holdsCounts, miniOf, miniBy, miniCall, HeldReady};
+ghost use Rattle.router.specs.Mini.{holds as holdsCounts, heldFits, miniOn, miniBy, miniFits, miniCall, crowdedAt, HeldReady};
+ghost use Rattle.router.specs.Turn.{RowsKnown};
 
 // How many rerouters, bus wires and suppressed ports are handed in.
 #[repr(C)]
@@ -38,6 +40,45 @@ fn holds(held: BusCounts, rerouters: usize, bus_wires: usize, ports: usize) -> b
     ensures { λ r. ⌜ r ≡ holdsCounts held rerouters «bus_wires» ports ⌝ }
 {
     (held.rerouters <= rerouters) & (held.bus_wires <= bus_wires) & (held.ports <= ports)
+}
+
+// Whether the buffers hold what is handed in, with room for all that may turn on a board whose records stand in rows.
+fn held_fits(
+    held: BusCounts,
+    records: &[[u32; 16]],
+    counts: Counts,
+    wire_facts: &[[u32; 8]],
+    rerouters: &[[u32; 10]],
+    bus_wires: &[[u32; 6]],
+    ports: &[[u32; 2]],
+) -> bool
+    requires { ⌜ ((b : Board) × RowsKnown b (now records) counts (now «wire_facts»)) ⌝ }
+    ensures { λ r. ⌜ ((b : Board) → RowsKnown b (now (records .entry)) counts (now («wire_facts» .entry)) → r ≡ heldFits (now (rerouters .entry)) (now («bus_wires» .entry)) (now (ports .entry)) held b) ⌝ }
+{
+    if !holds(held, rerouters.len(), bus_wires.len(), ports.len()) {
+        return false;
+    }
+    let n = held.rerouters;
+    let k = held.bus_wires;
+    let u = held.ports;
+    rows_have_room(records, counts, wire_facts, n, k, ports, u)
+}
+
+// 8 at a crowded page's line, or 7 where what is handed in does not fit.
+fn refuse_crowded(fits: bool, line: usize) -> BusPlan
+    ensures { λ r. ⌜ r ≡ crowdedAt fits line ⌝ }
+{
+    if fits {
+        BusPlan::Refused {
+            number: 8,
+            place: line,
+        }
+    } else {
+        BusPlan::Refused {
+            number: 7,
+            place: 0,
+        }
+    }
 }
 
 // The corners of a board whose records stand in rows, on the bus that is handed in: 7 where the buffers do not hold it with all that may turn.
@@ -56,7 +97,7 @@ fn turn_held(
 ) -> BusPlan
     requires { ⌜ ((b : Board) × HeldReady b (now records) counts (now «node_facts») (now «wire_facts») (now rerouters) (now «bus_wires») (now ports) (now rows) (now spare) (now marks)) ⌝ }
     ensures { λ r. ⌜ ((b : Board) (ps : List PageLanes) → HeldReady b (now (records .entry)) counts (now («node_facts» .entry)) (now («wire_facts» .entry)) (now (rerouters .entry)) (now («bus_wires» .entry)) (now (ports .entry)) (now (rows .entry)) (now (spare .entry)) (now (marks .entry))
-        → BusCalled (miniOf (now (rerouters .entry)) (now («bus_wires» .entry)) (now (ports .entry)) held b ps) (now (rerouters .entry)) (now («bus_wires» .entry)) (now (ports .entry)) (now (rerouters .exit)) (now («bus_wires» .exit)) (now (ports .exit)) r) ⌝ }
+        → planLanes b ≡ planned ps → BusCalled (miniOn (now (rerouters .entry)) (now («bus_wires» .entry)) (now (ports .entry)) held b) (now (rerouters .entry)) (now («bus_wires» .entry)) (now (ports .entry)) (now (rerouters .exit)) (now («bus_wires» .exit)) (now (ports .exit)) r) ⌝ }
 {
     if !holds(held, rerouters.len(), bus_wires.len(), ports.len()) {
         return BusPlan::Refused {
@@ -117,9 +158,9 @@ fn mini_within(
 ) -> BusPlan
     requires { ⌜ WorkLent (lent .work) (length (now records)) (now «node_facts») (now «wire_facts») (now taps) (now groups) (now «page_facts») (now demands) (now keys) (now spare) ⌝ }
     requires { ⌜ WithinLibrary most × BusLent lent (now marks) (now rerouters) (now «bus_wires») × (lent .ports ≤ length (now ports)) ⌝ }
-    ensures { λ r. ⌜ BusCalled (miniBy (now (rerouters .entry)) (now («bus_wires» .entry)) (now (ports .entry)) held (planning most (fitsLent lent) (now (text .entry)))) (now (rerouters .entry)) (now («bus_wires» .entry)) (now (ports .entry)) (now (rerouters .exit)) (now («bus_wires» .exit)) (now (ports .exit)) r ⌝ }
+    ensures { λ r. ⌜ BusCalled (miniBy (now (rerouters .entry)) (now («bus_wires» .entry)) (now (ports .entry)) held (planning most (miniFits (now (rerouters .entry)) (now («bus_wires» .entry)) (now (ports .entry)) held (fitsLent lent)) (now (text .entry)))) (now (rerouters .entry)) (now («bus_wires» .entry)) (now (ports .entry)) (now (rerouters .exit)) (now («bus_wires» .exit)) (now (ports .exit)) r ⌝ }
 {
-    match plan_text(
+    match survey_text(
         text,
         most,
         lent,
@@ -133,8 +174,20 @@ fn mini_within(
         keys,
         spare,
     ) {
-        TextPlan::Refused { number, place } => BusPlan::Refused { number, place },
-        TextPlan::Laned { counts, taps: _ } => turn_held(
+        TextSurvey::Refused { number, place } => BusPlan::Refused { number, place },
+        TextSurvey::Crowded { counts, place } => {
+            let fits = held_fits(
+                held,
+                records,
+                counts,
+                wire_facts,
+                rerouters,
+                bus_wires,
+                ports,
+            );
+            refuse_crowded(fits, place)
+        }
+        TextSurvey::Laned { counts, taps: _ } => turn_held(
             held,
             records,
             counts,

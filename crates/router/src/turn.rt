@@ -1,15 +1,18 @@
 // The corner pass over a board whose records stand in rows.
 use corners::turn::Turned;
+use corners::turn::has_room_to_turn;
 use corners::turn::turn_corners;
 use sheet::Counts;
+ghost use mathlib.Core.Path.{_≡_};
 ghost use mathlib.Core.List.{List};
-ghost use Prim.Native.Nat.{ℕ};
+ghost use Prim.Native.Nat.{ℕ, _≤_, _<_};
 ghost use lib.ListN.{length};
 ghost use Rattle.board.specs.Board.{Board};
 ghost use Rattle.routes.specs.Bus.{Bus};
+ghost use Rattle.routes.specs.Corners.{turnable};
 ghost use Rattle.corners.specs.Handed.{busIn, Mutes, Handed};
-ghost use Rattle.corners.specs.Turning.{TurnedAs, TurnedFrom};
-ghost use Rattle.router.specs.Turn.{TurnReady};
+ghost use Rattle.corners.specs.Turning.{hasRoom, TurnedAs, TurnedFrom};
+ghost use Rattle.router.specs.Turn.{TurnReady, RowsKnown};
 
 // The corners of a board on n rerouters, k bus wires and u suppressed ports.
 pub fn turn_rows(
@@ -50,5 +53,36 @@ pub fn turn_rows(
         ports,
         u,
         marks,
+    )
+}
+
+// Whether n rerouters, k bus wires and u suppressed ports leave room for all that may turn on a board.
+pub fn rows_have_room(
+    records: &[[u32; 16]],
+    counts: Counts,
+    wire_facts: &[[u32; 8]],
+    n: usize,
+    k: usize,
+    ports: &[[u32; 2]],
+    u: usize,
+) -> bool
+    requires { ⌜ ((b : Board) × RowsKnown b (now records) counts (now «wire_facts»)) ⌝ }
+    requires { ⌜ (u ≤ length (now ports)) × (n < 9223372036854775808) × (k < 9223372036854775808) ⌝ }
+    ensures { λ r. ⌜ ((b : Board) (bus : Bus) → RowsKnown b (now (records .entry)) counts (now («wire_facts» .entry)) → Mutes b bus (now (ports .entry)) u → r ≡ hasRoom (length (b .wires)) n k u (turnable b bus)) ⌝ }
+{
+    let nodes = counts.pages;
+    let chips = nodes + counts.nodes;
+    let inner = chips + counts.chips;
+    let execs = inner + counts.inner;
+    let wires = execs + counts.execs;
+    let end = wires + counts.wires;
+    has_room_to_turn(
+        &records[nodes..chips],
+        &records[wires..end],
+        wire_facts,
+        n,
+        k,
+        ports,
+        u,
     )
 }

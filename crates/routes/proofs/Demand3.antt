@@ -109,6 +109,6 @@ pub demand3 : (b : Board) (ps : List PageLanes) → planLanes b ≡ planned ps �
 unfolding finished
 demand3 b ps lanes gutters = made-demand3 b ps (corners b (busOf b ps)) (corners-made b ps (busOf b ps) (bus-kept b ps lanes gutters .made))
 
--- Gutters are high enough where min_y is missing or as a sheet's numbers are: "x, y, z, down, min_y within ±1,000,000".
+-- S11: gutters are high enough where min_y is missing or in its range.
 pub gutters-in-range : (b : Board) → ((p : ℕ) → p < length (b .pages) → hasGutter b p ≡ true → ORIGIN - COORDINATE_MOST ≤ minYOf b p) → HighGutters b
 gutters-in-range b h = record { high = λ p i g. omega (arith, h p i g) }

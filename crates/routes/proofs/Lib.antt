@@ -9,5 +9,6 @@ pub mod Demand3
 pub mod Room
 pub mod Worked
 pub mod Views
+pub mod Rows
 pub mod Holding
 pub mod Routed

@@ -106,7 +106,7 @@ module _ (b : Board) (ps : List PageLanes) where
     placing : {bus : Bus} → Made bus → (f : Feed) (k : Brick) → PortOrLower (f .end) (length (bus .bricks)) → Stood bus k → Made (place bus f k)
     serving : {bus : Bus} → Made bus → (f : Feed) (w : ℕ) → Served bus f w → Made (deliver b bus f w)
 
-  -- "each rerouter has exactly one bus wire arriving"
+  -- W7: one bus wire and no more arrives at each rerouter.
   pub arrives : {bus : Bus} → Made bus → (n : ℕ)
       → (n < length (bus .bricks) → arriving (bus .wires) n ≡ 1) × (length (bus .bricks) ≤ n → arriving (bus .wires) n ≡ 0)
   unfolding arriving
@@ -176,14 +176,14 @@ module _ (b : Board) (ps : List PageLanes) where
           })
       go (inr i) ih = wire-grows grown w (ih i)
 
-  -- "bus wires = rerouters + deliveries"
+  -- W11: the counts add up.
   pub totals : {bus : Bus} → Made bus → length (bus .wires) ≡ length (bus .bricks) + deliveries bus
   unfolding deliveries
   totals nothing = refl
   totals (placing m f k l s) = let h = totals m in omega arith
   totals (serving m f w s) = let h = totals m in omega arith
 
-  -- "no wire is delivered twice"
+  -- W10: a wire has one delivery at most.
   pub once : {bus : Bus} → Made bus → (k : ℕ) → timesDelivered (bus .wires) k ≤ 1
   unfolding timesDelivered
   once nothing k = omega arith
@@ -197,7 +197,7 @@ module _ (b : Board) (ps : List PageLanes) where
       go (yes e) ih = rw (keep-yes (names k) new (bus .wires) (eq-eqb w k e)) (let z : timesDelivered (bus .wires) k ≡ 0 = rw e at (s .fresh) in omega arith)
       go (no e) ih = rw (keep-no (names k) new (bus .wires) (ne-eqb w k e)) ih
 
-  -- "no two of a page's heads, links and taps overlap": in one lane none is placed near another, and lanes lie 2 apart.
+  -- W14: in one lane no lane brick is placed near another, and lanes lie 2 apart.
   clear-apart : (j k : Brick) → InLane j → InLane k → (Touches (j .page) (j .lane) (j .x) k → ⊥) → Overlap j k → ⊥
   clear-apart j k p q h o =
       h (record {

@@ -1,4 +1,4 @@
--- "Lent for W wires ..: 5W rerouters, 6W bus wires, W suppressed ports": the plan fits, and after `lay_bus` so does all that the corner pass may add.
+-- S15: the plan fits into what is lent, and after `lay_bus` so does all that the corner pass may add.
 use Prim.Native.Nat.{ℕ, zero, suc, _+_, _*_, _≤_, _<_}
 use native.Mathlib.Omega.{arith}
 use native.Mathlib.Decide.{ℕ-discrete}
@@ -15,17 +15,12 @@ use Rattle.board.proofs.Lists.{clash, byTest, keep-yes, keep-no, none-counted, 
 use Rattle.routes.specs.Bus.{Bus, Port, insertPort, samePort, portOf, portFeed, placedFeed, muted}
 use Rattle.routes.specs.Corners.{turns, turnable, turnWire}
 use Rattle.routes.specs.Plan.{deliveries, busOf, finished}
+use Rattle.routes.specs.Route.{Room}
 use Rattle.routes.specs.Demand3.{HighGutters, names, timesDelivered}
 use Rattle.routes.proofs.Made.{Made, nothing, placing, serving, totals}
 use Rattle.routes.proofs.Turned.{not-muted, turns-open, muted-stays, withTurn, turned, turn-wires, corners-made}
 use Rattle.routes.proofs.Laid.{laid-short}
 use Rattle.routes.proofs.Walk.{bus-kept}
-
--- A bus, and u more corners, fit into the buffers lent for a board.
-pub record Room (b : Board) (bus : Bus) (u : ℕ) : Type 0 where
-  pub bricks : length (bus .bricks) + u ≤ 5 * length (b .wires)
-  pub wires : length (bus .wires) + 2 * u ≤ 6 * length (b .wires)
-  pub ports : length (bus .ports) + u ≤ length (b .wires)
 
 -- Counting wires by number.
 length-upto : (n : ℕ) → length (upto n) ≡ n
@@ -104,7 +99,7 @@ module _ (b : Board) (ps : List PageLanes) where
     abbrev Even : ℕ → Bus → Type 0
     Even n r = length (r .bricks) + deliveries (busOf b ps) ≡ length (busOf b ps .bricks) + deliveries r
 
-    -- "5W rerouters, 6W bus wires, W suppressed ports" hold the finished plan.
+    -- S15: what is lent holds the finished plan.
     pub room-finished : Room b (finished b ps) 0
     unfolding finished deliveries
     room-finished =

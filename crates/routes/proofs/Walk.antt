@@ -56,7 +56,7 @@ module _ (b : Board) (ps : List PageLanes) (plan : planLanes b ≡ planned ps) (
           let fits = planned-fits b ps plan (t .page) (t .group) lane e in
           let r = fits .1 in
           let same : laneFor ps t ≡ lane = ap {B = ℕ} (λ f. elim f [ at l ↦ l | none ↦ zero ]) e in
-          record { high = gutters .high (t .page) (fits .0) (r .gutter); most = r .most; opened = rw same (r .inside); height = refl }
+          record { high = gutters .high (t .page) (fits .0) (r .gutter); most = r .most; opened = omega (arith, same, r .inside); height = refl }
 
   module _ (stops : List Stop) where
     abbrev ts : List Tap

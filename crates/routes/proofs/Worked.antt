@@ -4,11 +4,13 @@ use native.Mathlib.Omega.{arith}
 use mathlib.Core.Path.{_≡_, refl}
 use mathlib.Core.Bool.{true}
 use mathlib.Core.List.{List, [], _∷_}
-use Rattle.sheet.specs.Table.{ORIGIN, MISSING, PAGES, NODES, WIRES}
+use Rattle.sheet.specs.Table.{programMost}
+use Rattle.board.specs.Board
 use Rattle.board.specs.Groups
 use Rattle.board.specs.Demands
 use Rattle.board.specs.Rows
 use Rattle.board.specs.Refusals
+use Rattle.board.specs.Refusals.{judged}
 use Rattle.lanes.specs.Lanes
 use Rattle.lanes.specs.Sort
 use Rattle.lanes.specs.Lanes.{laneMost}
@@ -16,23 +18,16 @@ use Rattle.board.specs.Board.{Board, hasGutter, minYOf}
 use Rattle.board.specs.Demands.{BUS_BAND_GUTTER, LANE_PITCH, PageLanes, planned, planLanes}
 use Rattle.routes.specs.Plan.{finished}
 use Rattle.routes.specs.Demand3.{Demand3, HighGutters}
+use Rattle.routes.specs.Examples.{bytes, sheetA, fan}
 use Rattle.routes.proofs.Demand3.{demand3}
 
--- P, N and W as they are held: coordinates from ORIGIN, no line.
-abbrev node : ℕ → ℕ → ℕ → ℕ → ℕ → List ℕ
-node id class x y down =
-    NODES ∷ id ∷ 0 ∷ class ∷ 0 ∷ 2 ∷ 2 ∷ 0 ∷ (ORIGIN + x) ∷ (ORIGIN + y) ∷ 0 ∷ (ORIGIN + down) ∷ MISSING ∷ []
-
 abbrev pub board : Board
-board =
-    record {
-      pages = (PAGES ∷ ORIGIN ∷ (ORIGIN + 10) ∷ []) ∷ [];
-      nodes = node 1 1 20 0 0 ∷ node 2 0 10 8 10 ∷ node 3 0 0 8 20 ∷ [];
-      chips = [];
-      inner = [];
-      execs = [];
-      wires = (WIRES ∷ 1 ∷ 5 ∷ 2 ∷ 1 ∷ []) ∷ (WIRES ∷ 1 ∷ 5 ∷ 3 ∷ 1 ∷ []) ∷ [];
-    }
+board = fan 20 (10 ∷ 0 ∷ [])
+
+-- The sheet of (a) is read as this board.
+pub board-is : judged programMost (bytes sheetA) ≡ Refusals.board board
+unfolding bytes judged Board.section Refusals.nodeTwice Refusals.pageMissing Refusals.rowUnplaced
+board-is = refl
 
 -- One group, in lane 0.
 abbrev pub plannedLanes : List PageLanes

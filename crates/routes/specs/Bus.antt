@@ -21,7 +21,7 @@ pub record Brick : Type 0 where
   pub lane : ℕ
   pub row : ℕ
 
--- "role (0 Gutter, 1 Line, 2 Source)"
+-- P3: the roles.
 abbrev pub roleGutter : ℕ
 roleGutter = 0
 
@@ -31,7 +31,7 @@ roleLine = 1
 abbrev pub roleSource : ℕ
 roleSource = 2
 
--- "part (1 source, 2 head, 3 link, 4 tap, 5 gate-side, 6 corner)"
+-- P3: the parts.
 abbrev pub partSource : ℕ
 partSource = 1
 
@@ -50,12 +50,12 @@ partGateSide = 5
 abbrev pub partCorner : ℕ
 partCorner = 6
 
--- "from and to, each `p` node port or `b` rerouter"
+-- P4: an end of a bus wire: a node's port, or a rerouter.
 pub data End : Type 0 where
   port : ℕ → ℕ → End
   rerouter : ℕ → End
 
--- "a delivery's wire and distance", else nothing.
+-- P4: nothing, or the wire that is delivered and its distance.
 pub data Carries : Type 0 where
   onward : Carries
   delivery : ℕ → ℕ → Carries
@@ -70,7 +70,7 @@ pub record Port : Type 0 where
   pub node : ℕ
   pub port : ℕ
 
--- "suppressed ports ascending", by node and then by port, each once.
+-- P5, R14: a port put among others, by node and then by port, once.
 abbrev pub insertPort : Port → List Port → List Port
 insertPort p [] = p ∷ []
 insertPort p (q ∷ l) =
@@ -86,12 +86,12 @@ pub record Bus : Type 0 where
 abbrev pub emptyBus : Bus
 emptyBus = record { bricks = []; wires = []; ports = [] }
 
--- What a bus wire can leave, with the count of rerouters back to the port, itself included.
+-- W4: what a bus wire can leave, with the count of rerouters back to the port, itself included.
 pub record Feed : Type 0 where
   pub end : End
   pub depth : ℕ
 
--- "A brick placed .., and its one bus wire is written with it."
+-- R13: a brick, and in the same step the bus wire that feeds it.
 abbrev pub place : Bus → Feed → Brick → Bus
 place bus feed brick =
     record {
@@ -104,7 +104,7 @@ place bus feed brick =
 abbrev pub placedFeed : Bus → Feed → Feed
 placedFeed bus feed = record { end = rerouter (length (bus .bricks)); depth = suc (feed .depth) }
 
--- The feed of a wire's source port.
+-- R12: the feed of a wire's source port.
 abbrev pub portFeed : Board → ℕ → Feed
 portFeed b w = record { end = port (sourceNode b w) (sourcePort b w); depth = zero }
 
@@ -112,7 +112,7 @@ portFeed b w = record { end = port (sourceNode b w) (sourcePort b w); depth = ze
 abbrev pub portOf : Board → ℕ → Port
 portOf b w = record { node = targetNode b w; port = targetPort b w }
 
--- A delivery of a wire to its target, with the distance counted so far, "suppressing its target port".
+-- R11: a delivery of a wire to its target, with the distance counted so far. The target's port is suppressed.
 abbrev pub deliver : Board → Bus → Feed → ℕ → Bus
 deliver b bus feed w =
     record {
@@ -121,14 +121,14 @@ deliver b bus feed w =
       ports = insertPort (portOf b w) (bus .ports);
     }
 
--- Whether a wire's target is suppressed.
+-- R14: whether a wire's target is suppressed.
 abbrev pub samePort : Port → Port → Bool
 samePort p q = eqb (p .node) (q .node) && eqb (p .port) (q .port)
 
 unfoldable pub muted : Board → Bus → ℕ → Bool
 muted b bus w = any (samePort (portOf b w)) (bus .ports)
 
--- "clear of that row's cells": those of the row's bricks and of the rerouters placed beside it.
+-- C6: clear of what is booked on a row: its bricks, and the rerouters placed beside it.
 abbrev pub besideRow : ℕ → ℕ → Cell → Brick → Bool
 besideRow p r cell k = eqb (k .page) p && eqb (k .row) r && cellsOverlap (rerouterCell (k .x) (k .y)) cell
 

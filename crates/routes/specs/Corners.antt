@@ -1,4 +1,4 @@
--- Document 01, "Corners" (`lay_mini_bus`).
+-- K, corners (`lay_mini_bus`): which wires turn, and where.
 use Prim.Native.Nat.{ℕ, zero, suc, _+_, _-_}
 use mathlib.Core.Bool.{Bool, true, false, not, _&&_, _||_}
 use mathlib.Core.List.{List, [], _∷_}
@@ -13,7 +13,7 @@ use Rattle.board.specs.Groups.{wireOpen}
 use Rattle.routes.specs.Levels.{levelsIn, lowest, lightest}
 use Rattle.routes.specs.Bus.{Brick, Bus, Feed, clearOfRow, deliver, muted, partCorner, place, placedFeed, portFeed, roleLine}
 
--- A level that a corner of this sink took.
+-- K9: a level that a corner of this sink took.
 pub record Taken : Type 0 where
   pub sink : ℕ
   pub level : ℕ
@@ -24,8 +24,7 @@ pub record Cornering : Type 0 where
   pub taken : List Taken
 
 module _ (b : Board) where
-  -- "a target not at rotation 1; an end without a line, or two lines; an end without a row, or two pages; a source whose down is not less than the
-  -- sink's, or whose y is not greater" is passed over.
+  -- K3: the tests on a source s and a sink t.
   unfoldable pub turnsDown : ℕ → ℕ → Bool
   turnsDown s t =
       eqb (rotationOf b t) 1
@@ -33,7 +32,7 @@ module _ (b : Board) where
       && hasRow b s && hasRow b t && eqb (pageOf b s) (pageOf b t)
       && ltb (downOf b s) (downOf b t) && ltb (yOf b t) (yOf b s)
 
-  -- The corner of source s and sink t at a level: "at the level and the source's y", "with rotation 2, the page's z, the source node's colour".
+  -- K8: the corner of source s and sink t at a level.
   unfoldable pub cornerBrick : ℕ → ℕ → ℕ → Brick
   cornerBrick s t level =
       record {
@@ -49,21 +48,22 @@ module _ (b : Board) where
         row = rowOf b t;
       }
 
+  -- K6: how many of this sink's corners have the level.
   unfoldable pub sinkLoad : List Taken → ℕ → ℕ → ℕ
   sinkLoad taken t level = length (keep (λ k. eqb (k .sink) t && eqb (k .level) level) taken)
 
-  -- "whose cell, at the level and the source's y, is clear of the sink row's cells"
+  -- K5: a corner at this level is clear of the sink's row.
   unfoldable pub cornerClear : Bus → ℕ → ℕ → ℕ → Bool
   cornerClear bus s t level = clearOfRow b bus (pageOf b t) (rowOf b t) (rerouterCell level (yOf b s))
 
-  -- "the lowest not yet used by this sink's corners whose cell .. is clear ..; else the least loaded clear one, lower first; else no corner"
+  -- K5, K6: of the levels of K4 the lowest that is unused and clear, or of the clear ones the least loaded, or none (K7).
   unfoldable pub cornerLevel : Cornering → ℕ → ℕ → Found
   cornerLevel c s t =
       let n : ℕ = levelsIn (xOf b t) (brickCell b t .x1) in
       elim (lowest (λ l. eqb (sinkLoad (c .taken) t l) 0 && cornerClear (c .bus) s t l) (xOf b t) n)
       [ at l ↦ at l | none ↦ lightest (cornerClear (c .bus) s t) (sinkLoad (c .taken) t) (xOf b t) n ]
 
-  -- "A corner joins both lists ..; the source port feeds it, it feeds the target, whose port is suppressed."
+  -- K9, K10: a corner, its delivery, and its level taken.
   unfoldable pub withCorner : Cornering → ℕ → ℕ → ℕ → ℕ → Cornering
   withCorner c w s t level =
       let feed : Feed = portFeed b w in
@@ -72,7 +72,7 @@ module _ (b : Board) where
         taken = record { sink = t; level = level } ∷ c .taken;
       }
 
-  -- "over wires in order, Coerce included. Passed over: .. a suppressed target; an end inline-only or naming no node"
+  -- K2, K7: a wire is passed over, finds no level, or turns.
   unfoldable pub turnWire : Cornering → ℕ → Cornering
   turnWire c w =
       elim (wireOpen b w && not (muted b (c .bus) w)) [
@@ -90,10 +90,11 @@ module _ (b : Board) where
             ]
       ]
 
+  -- K1: all wires, by number.
   unfoldable pub corners : Bus → Bus
   corners bus = fold turnWire (record { bus = bus; taken = [] }) (upto (length (b .wires))) .bus
 
-  -- Whether a wire passes the tests of `turnWire` on a bus: all but that a level is found.
+  -- K2, K3: whether a wire passes the tests of `turnWire` on a bus: all but that a level is found.
   unfoldable pub turns : Bus → ℕ → Bool
   turns bus w =
       elim (wireOpen b w && not (muted b bus w)) [
@@ -103,6 +104,6 @@ module _ (b : Board) where
             [ none ↦ false | at s ↦ elim (bodyOf b (targetNode b w)) [ none ↦ false | at t ↦ turnsDown s t ] ]
       ]
 
-  -- How many wires do: the corner pass adds at most a rerouter, two bus wires and a suppressed port for each.
+  -- E16: how many wires do: the corner pass adds at most a rerouter, two bus wires and a suppressed port for each.
   unfoldable pub turnable : Bus → ℕ
   turnable bus = length (keep (turns bus) (upto (length (b .wires))))

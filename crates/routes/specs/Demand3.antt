@@ -1,4 +1,4 @@
--- Document 01, "Words of demand 3": what holds of the finished plan of every accepted board, said of its rerouters, its bus wires and the board alone.
+-- W, demand 3: what holds of the finished plan of every accepted board, said of its rerouters, its bus wires and the board alone.
 use Prim.Native.Nat.{ℕ, zero, suc, _+_, _*_, _≤_, _<_}
 use mathlib.Core.Path.{_≡_}
 use mathlib.Core.Bool.{Bool, true, false, not, _&&_, _||_}
@@ -14,30 +14,29 @@ use Rattle.board.specs.Demands.{BUS_BAND_GUTTER, LANE_PITCH}
 use Rattle.routes.specs.Bus.{Bus, Brick, BusWire, End, port, rerouter, Carries, onward, delivery, partHead, partLink, partTap, partCorner}
 use Rattle.routes.specs.Plan.{isDelivery, deliveries}
 
--- The brick is the rerouter of that number: lists hold the newest first, and numbers count from 0.
+-- S13: the brick is the rerouter of that number: lists hold the newest first, and numbers count from 0.
 pub data Numbered (n : ℕ) (k : Brick) : List Brick → Type 0 where
   here : {l : List Brick} → n ≡ length l → Numbered n k (k ∷ l)
   there : {j : Brick} {l : List Brick} → Numbered n k l → Numbered n k (j ∷ l)
 
--- How many bus wires arrive at a rerouter.
+-- W7: how many bus wires arrive at a rerouter.
 abbrev pub arrivesAt : ℕ → BusWire → Bool
 arrivesAt n w = elim (w .target) [ port m p ↦ false | rerouter k ↦ eqb k n ]
 
 unfoldable pub arriving : List BusWire → ℕ → ℕ
 arriving ws n = length (keep (arrivesAt n) ws)
 
--- "from a port or a lower-numbered rerouter"
+-- W7: a port, or a rerouter before the n-th.
 abbrev pub PortOrLower : End → ℕ → Type 0
 PortOrLower (port m p) n = Unit {0}
 PortOrLower (rerouter m) n = m < n
 
--- "The way back starts at the rerouter that the delivery leaves and goes on, each time, to what the bus wire arriving there leaves, until that is
--- a port; the distance is the count of rerouters on it." Here: from an end, through so many rerouters, to a node's port.
+-- W4: the way back from an end, through so many rerouters, to a node's port.
 pub data WayBack (ws : List BusWire) : End → ℕ → ℕ → ℕ → Type 0 where
   atPort : {n p : ℕ} → WayBack ws (port n p) zero n p
   through : {k d n p : ℕ} (w : BusWire) → List·Memᴰ w ws → w .target ≡ rerouter k → WayBack ws (w .source) d n p → WayBack ws (rerouter k) (suc d) n p
 
--- How often a wire is delivered.
+-- W10: how often a wire is delivered.
 abbrev pub names : ℕ → BusWire → Bool
 names k w = elim (w .carries) [ onward ↦ false | delivery j d ↦ eqb j k ]
 
@@ -49,19 +48,19 @@ unfoldable pub distinct : List ℕ → List ℕ
 distinct [] = []
 distinct (x ∷ l) = elim (any (eqb x) l) [ true ↦ distinct l | false ↦ x ∷ distinct l ]
 
--- "The rows are the distinct rows of the group's target anchors, up to its own by number"
+-- W5: how many rows the delivery of tap t has.
 unfoldable pub rowsUpTo : List Tap → Tap → ℕ
 rowsUpTo ts t = length (distinct (map (λ u. u .row) (keep (λ u. eqb (u .group) (t .group) && leb (u .row) (t .row)) ts)))
 
--- "the columns, their distinct y on its row"
+-- W5: how many columns it has.
 unfoldable pub columnsOn : List Tap → Tap → ℕ
 columnsOn ts t = length (distinct (map (λ u. u .y) (keep (λ u. eqb (u .group) (t .group) && eqb (u .row) (t .row)) ts)))
 
--- Heads, links and taps.
+-- W6: the lane bricks: heads, links and taps.
 abbrev pub inGutter : Brick → Bool
 inGutter k = eqb (k .part) partHead || eqb (k .part) partLink || eqb (k .part) partTap
 
--- "Two of a page's heads, links and taps overlap when their x differ by less than 2 and their y too."
+-- W6: two bricks of one page whose spans overlap in x and in y.
 pub record Overlap (j k : Brick) : Type 0 where
   pub page : j .page ≡ k .page
   pub left : j .x < k .x + REROUTER_SIZE
@@ -69,13 +68,13 @@ pub record Overlap (j k : Brick) : Type 0 where
   pub below : j .y < k .y + REROUTER_SIZE
   pub above : k .y < j .y + REROUTER_SIZE
 
--- A delivery: "a bus wire ending at a port", which names a wire and a distance.
+-- W3, W9: a bus wire delivers wire k, with distance d.
 pub record Delivered (b : Board) (ws : List BusWire) (w : BusWire) (k d : ℕ) : Type 0 where
   pub onBoard : k < length (b .wires)
   pub toTarget : w .target ≡ port (targetNode b k) (targetPort b k)
   pub back : WayBack ws (w .source) d (sourceNode b k) (sourcePort b k)
 
--- "at most 3 + the group's rows up to its own + its columns on its row", of the wire that the delivery names.
+-- W13: the distance d of wire k's delivery is within the bound.
 pub record Bounded (b : Board) (k d : ℕ) : Type 0 where
   pub tap : Tap
   pub tapOfGroup : List·Memᴰ tap (tapsOf b)
@@ -83,27 +82,26 @@ pub record Bounded (b : Board) (k d : ℕ) : Type 0 where
   pub bound : d ≤ 3 + rowsUpTo (tapsOf b) tap + columnsOn (tapsOf b) tap
 
 pub record Demand3 (b : Board) (bus : Bus) : Type 0 where
-  -- "each rerouter has exactly one bus wire arriving"
+  -- W7: one bus wire and no more arrives at each.
   pub oneArrives : (n : ℕ) → n < length (bus .bricks) → arriving (bus .wires) n ≡ 1
-  -- "from a port or a lower-numbered rerouter"
+  -- W7: it leaves a port or an earlier rerouter.
   pub fromLower : (w : BusWire) (n : ℕ) → List·Memᴰ w (bus .wires) → w .target ≡ rerouter n → PortOrLower (w .source) n
-  -- Only rerouters of the plan are named.
+  -- W7: only rerouters of the plan are named.
   pub onPlan : (w : BusWire) (n : ℕ) → List·Memᴰ w (bus .wires) → w .target ≡ rerouter n → n < length (bus .bricks)
-  -- "A delivery is a bus wire ending at a port", and it leaves a rerouter.
+  -- W2, W8: a bus wire to a port is a delivery, and leaves a rerouter.
   pub portNamed : (w : BusWire) (n p : ℕ) → List·Memᴰ w (bus .wires) → w .target ≡ port n p → isDelivery w ≡ true
   pub leaves : (w : BusWire) → List·Memᴰ w (bus .wires) → isDelivery w ≡ true → (m : ℕ) × (m < length (bus .bricks)) × (w .source ≡ rerouter m)
-  -- "each delivery goes to the target of the wire it names, and the way back ends at that wire's source", "the stored distance is the count of
-  -- rerouters on the way back"
+  -- W9: a delivery has its wire's target and source, and the distance of its way back.
   pub delivered : (w : BusWire) (k d : ℕ) → List·Memᴰ w (bus .wires) → w .carries ≡ delivery k d → Delivered b (bus .wires) w k d
-  -- "no wire is delivered twice"
+  -- W10: a wire has one delivery at most.
   pub once : (k : ℕ) → timesDelivered (bus .wires) k ≤ 1
-  -- "bus wires = rerouters + deliveries"
+  -- W11: the counts add up.
   pub total : length (bus .wires) ≡ length (bus .bricks) + deliveries bus
-  -- "exactly 1 through a corner"
+  -- W12: the distance of a delivery that leaves a corner.
   pub cornerOne : (w : BusWire) (k d m : ℕ) (j : Brick) → List·Memᴰ w (bus .wires) → w .carries ≡ delivery k d → w .source ≡ rerouter m → Numbered m j (bus .bricks) → j .part ≡ partCorner → d ≡ 1
-  -- "otherwise at most 3 + the group's rows up to its own + its columns on its row"
+  -- W13: the bound on that of any other.
   pub otherBound : (w : BusWire) (k d m : ℕ) (j : Brick) → List·Memᴰ w (bus .wires) → w .carries ≡ delivery k d → w .source ≡ rerouter m → Numbered m j (bus .bricks) → (j .part ≡ partCorner → ⊥) → Bounded b k d
-  -- "no two of a page's heads, links and taps overlap"
+  -- W14: lane bricks lie apart.
   pub apart : (m n : ℕ) (j k : Brick) → Numbered m j (bus .bricks) → Numbered n k (bus .bricks) → (m ≡ n → ⊥) → inGutter j ≡ true → inGutter k ≡ true → Overlap j k → ⊥
 
 -- Every page's gutter has room for the most lanes above the lowest number that is held. (A sheet's numbers give this.)

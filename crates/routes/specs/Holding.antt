@@ -1,4 +1,4 @@
--- How the code holds the bus: the buffers' rows, counts by value, feeds. No rule of document 01 stands here.
+-- How the code holds the bus: the buffers' rows, counts by value, feeds. No rule stands here.
 use Prim.Native.Nat.{ℕ, zero, suc, _+_, _<_, _≤_, _%_}
 use mathlib.Core.Path.{_≡_}
 use mathlib.Core.Bool.{Bool, true, false}

@@ -13,7 +13,7 @@ use Rattle.routes.specs.Bus.{Bus, BusWire, Carries, onward, delivery, En
 use Rattle.routes.specs.Rerouters.{emit}
 use Rattle.routes.specs.Corners.{corners}
 
--- The laid groups among taps in order.
+-- P6: the laid groups among taps in order.
 abbrev pub groupCount : List Tap → ℕ
 groupCount [] = zero
 groupCount (t ∷ l) = elim (newGroup l t) [ true ↦ suc (groupCount l) | false ↦ groupCount l ]
@@ -26,13 +26,15 @@ busOf b ps =
     let stops = stopsOf b ps laid in
     emit b ts ps stops laid stops .bus
 
+-- P6: how many groups are laid.
 unfoldable pub laidGroups : Board → List PageLanes → ℕ
 laidGroups b ps = groupCount (laidTaps b (tapsOf b) ps)
 
+-- W1: the finished plan.
 unfoldable pub finished : Board → List PageLanes → Bus
 finished b ps = corners b (busOf b ps)
 
--- "as deliveries the B records naming a wire"
+-- W2, P6: whether a bus wire names a wire, and how many do.
 abbrev pub isDelivery : BusWire → Bool
 isDelivery w = elim (w .carries) [ onward ↦ false | delivery k d ↦ true ]
 

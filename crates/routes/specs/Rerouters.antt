@@ -1,4 +1,4 @@
--- Document 01, "Rerouters" (`emit_lane`): heads, source rerouters, links, taps, gate-sides and deliveries, tap by tap in the order of laying.
+-- R, rerouters (`emit_lane`): heads, source rerouters, links, taps, gate-sides and deliveries, tap by tap in the order of laying.
 use Prim.Native.Nat.{ℕ, zero, suc, _+_, _-_}
 use mathlib.Core.Bool.{Bool, true, false, not, _&&_, _||_}
 use mathlib.Core.List.{List, [], _∷_}
@@ -14,18 +14,19 @@ use Rattle.routes.specs.Stops.{near, newGroup, newRow, newColumn}
 use Rattle.routes.specs.Levels.{Level, dropped, shared, own, Stop, unclaimed, laneFor}
 use Rattle.routes.specs.Bus.{Brick, Bus, Feed, clearOfRow, deliver, emptyBus, partGateSide, partHead, partLink, partSource, partTap, place, placedFeed, port, portFeed, roleGutter, roleSource}
 
+-- R6, R10: how far from its brick a source or gate-side rerouter stands.
 abbrev pub TAP_RESERVE : ℕ
 TAP_RESERVE = 5
 
--- What the walk over the taps holds: the bus, the feed that links and taps hang on, the tap brick of the group's last own level, and the end of
--- the row's chain so far.
+-- R12: what the walk over the taps holds: the bus, the feed of links and taps, the tap brick of the group's last own level, and the end of the row's
+-- chain so far.
 pub record Emission : Type 0 where
   pub bus : Bus
   pub upstream : Feed
   pub stopTap : Feed
   pub rowEnd : Feed
 
--- The span of 2 at x is claimed in a lane's column by a level, or by a head or link placed there.
+-- R8, R13: the span at x is claimed in a lane's column by a level, or by a head or link placed there.
 abbrev pub brickNear : ℕ → ℕ → ℕ → Brick → Bool
 brickNear p lane x k =
     eqb (k .page) p && eqb (k .lane) lane && (eqb (k .part) partHead || eqb (k .part) partLink) && near x (k .x)
@@ -47,12 +48,12 @@ module _ (b : Board) (ts : List Tap) (ps : List PageLanes) where
   abbrev pub source : Tap → ℕ
   source t = sourceAnchor b (t .group)
 
-  -- "Heads and links have rotation 3 when the source is placed and every tap's x is over its x, else 1."
+  -- R4: the rotation of heads and links: whether every tap has a greater x than a placed source.
   unfoldable pub chainRotation : Tap → ℕ
   chainRotation t =
       elim (placed b (source t) && not (any (λ u. not (ltb (xOf b (source t)) (u .x))) (tapsIn b ts (t .group)))) [ true ↦ 3 | false ↦ 1 ]
 
-  -- A head, link or tap at x in the column of the tap's lane.
+  -- R2, R3: a head, link or tap at x in the column of the tap's lane.
   unfoldable pub laneBrick : Tap → ℕ → ℕ → ℕ → Brick
   laneBrick t x rotation part =
       record {
@@ -68,34 +69,36 @@ module _ (b : Board) (ts : List Tap) (ps : List PageLanes) where
         row = MISSING;
       }
 
+  -- R5: a head, at the source anchor's x.
   abbrev pub headBrick : Tap → Brick
   headBrick t = laneBrick t (xOf b (source t)) (chainRotation t) partHead
 
-  -- "a link at level + 2", "a tap at level, rotation 0"
+  -- R8: a link, just above its tap.
   abbrev pub linkBrick : Tap → ℕ → Brick
   linkBrick t level = laneBrick t (level + REROUTER_SIZE) (chainRotation t) partLink
 
+  -- R9: a tap, at its level.
   abbrev pub tapBrick : Tap → ℕ → Brick
   tapBrick t level = laneBrick t level 0 partTap
 
-  -- A rerouter beside a row of the tap's page.
+  -- R3: a rerouter beside a row of the tap's page.
   unfoldable pub rowBrick : Tap → ℕ → ℕ → ℕ → ℕ → ℕ → ℕ → Brick
   rowBrick t r x y rotation role part =
       record
       { x = x; y = y; z = zOf b (t .page); rotation = rotation; role = role; part = part; colour = idOf b (source t); page = t .page; lane = MISSING; row = r }
 
-  -- "a source rerouter stands at x, y − 5, rotation 2"
+  -- R6: a source rerouter, beside the source anchor.
   abbrev pub sourceBrick : Tap → ℕ → Brick
   sourceBrick t r = rowBrick t r (xOf b (source t)) (yOf b (source t) - TAP_RESERVE) 2 roleSource partSource
 
-  -- "a gate-side rerouter at level, y − 5, rotation 0"
+  -- R10: a gate-side rerouter, beside the tap's target.
   abbrev pub gateSideBrick : Tap → ℕ → Brick
   gateSideBrick t level = rowBrick t (t .row) level (t .y - TAP_RESERVE) 0 roleGutter partGateSide
 
   abbrev pub clearFor : Bus → Brick → Bool
   clearFor bus k = clearOfRow b bus (k .page) (k .row) (rerouterCell (k .x) (k .y))
 
-  -- The emission with a brick placed at a feed, on which links and taps hang from then on; or which is the stop's tap; or which the row's chain ends in.
+  -- R12: the emission with a brick placed at a feed, which feeds links and taps from then on; or which is the stop's tap; or which the row's chain ends in.
   abbrev pub hangOn : Emission → Feed → Brick → Emission
   hangOn e feed k = record { bus = place (e .bus) feed k; upstream = placedFeed (e .bus) feed; stopTap = e .stopTap; rowEnd = e .rowEnd }
 
@@ -106,7 +109,7 @@ module _ (b : Board) (ts : List Tap) (ps : List PageLanes) where
   abbrev pub chainOn : Emission → Brick → Emission
   chainOn e k = record { bus = place (e .bus) (e .rowEnd) k; upstream = e .upstream; stopTap = e .stopTap; rowEnd = placedFeed (e .bus) (e .rowEnd) }
 
-  -- "Just before that head, where the source row is known, a source rerouter .. if clear of that row's cells." It feeds the head.
+  -- R6: a source rerouter, where there is a source row and it is clear of that. It feeds the head.
   unfoldable pub withSource : Emission → Tap → Emission
   withSource e t =
       elim (sourceRow b (t .group) (t .page)) [
@@ -114,35 +117,36 @@ module _ (b : Board) (ts : List Tap) (ps : List PageLanes) where
         | at r ↦ elim (clearFor (e .bus) (sourceBrick t r)) [ true ↦ hangOn e (e .upstream) (sourceBrick t r) | false ↦ e ]
       ]
 
-  -- A group begins at its port. "A source placed at x, y gets a head at x if x to x + 2 is unclaimed in the column."
+  -- R5: a group begins at its port, with a head where the source is placed and the span there unclaimed.
   unfoldable pub startGroup : List Stop → Emission → Tap → Emission
   startGroup stops e t =
       let e′ : Emission = record { bus = e .bus; upstream = portFeed b (t .group); stopTap = e .stopTap; rowEnd = e .rowEnd } in
       elim (placed b (source t) && columnFree stops (e .bus) (t .page) (laneFor ps t) (xOf b (source t)))
       [ true ↦ let s = withSource e′ t in hangOn s (s .upstream) (headBrick t) | false ↦ e′ ]
 
-  -- "each other kept stop gets a link at level + 2, if level + 2 to level + 4 is unclaimed"
+  -- R8: a link, unless its span is claimed.
   unfoldable pub withLink : List Stop → Emission → Tap → ℕ → Emission
   withLink stops e t level =
       elim (columnFree stops (e .bus) (t .page) (laneFor ps t) (level + REROUTER_SIZE))
       [ true ↦ hangOn e (e .upstream) (linkBrick t level) | false ↦ e ]
 
-  -- "A kept stop shares the last kept one's brick exactly when it took over its level; each other kept stop gets a link .., then a tap."
+  -- R7: a level of its own has a link and a tap; one taken over goes by the tap of the stop it was taken from.
   unfoldable pub startRow : List Stop → Emission → Tap → Level → Emission
   startRow stops e t dropped = e
   startRow stops e t (shared level) = record { bus = e .bus; upstream = e .upstream; stopTap = e .stopTap; rowEnd = e .stopTap }
   startRow stops e t (own level) = tapOff (withLink stops e t level) (tapBrick t level)
 
-  -- "for each y a gate-side rerouter at level, y − 5, rotation 0, if clear of the row's cells"
+  -- R10: it is placed if it is clear of the row.
   unfoldable pub withGateSide : Emission → Tap → ℕ → Emission
   withGateSide e t level = elim (clearFor (e .bus) (gateSideBrick t level)) [ true ↦ chainOn e (gateSideBrick t level) | false ↦ e ]
 
-  -- "then that y's deliveries": "deliveries leave its end so far".
+  -- R11: a tap's delivery, in a new column after the gate-side rerouter.
   unfoldable pub serve : Emission → Tap → Bool → ℕ → Emission
   serve e t fresh level =
       let e′ : Emission = elim fresh [ true ↦ withGateSide e t level | false ↦ e ] in
       record { bus = deliver b (e′ .bus) (e′ .rowEnd) (t .wire); upstream = e′ .upstream; stopTap = e′ .stopTap; rowEnd = e′ .rowEnd }
 
+  -- R1: what the tap begins, and its delivery unless its stop is dropped (V9).
   unfoldable pub emitTap : List Stop → Emission → List Tap → Tap → Level → Emission
   emitTap stops e l t level =
       let begun : Emission = elim (newGroup l t) [ true ↦ startGroup stops e t | false ↦ e ] in
@@ -152,7 +156,7 @@ module _ (b : Board) (ts : List Tap) (ps : List PageLanes) where
   abbrev pub noFeed : Feed
   noFeed = record { end = port 0 0; depth = 0 }
 
-  -- The taps in order, with all stops, whose levels are claimed, and the stops up to the newest tap's.
+  -- R1: the taps in order, with all stops, whose levels are claimed, and the stops up to the newest tap's.
   unfoldable pub emit : List Stop → List Tap → List Stop → Emission
   emit stops [] sofar = record { bus = emptyBus; upstream = noFeed; stopTap = noFeed; rowEnd = noFeed }
   emit stops (t ∷ l) sofar = emitTap stops (emit stops l (stopsBefore (newRow l t) sofar)) l t (levelHere sofar)

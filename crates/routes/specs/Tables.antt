@@ -1,4 +1,4 @@
--- How the code holds stops, rerouters and bus wires in tables of rows of numbers. No rule of document 01 stands here.
+-- How the code holds stops, rerouters and bus wires in tables of rows of numbers. Of the rules only P8 stands here.
 use Prim.Native.Nat.{ℕ, zero, suc, _+_, _<_}
 use mathlib.Core.Path.{_≡_}
 use mathlib.Core.Bool.{Bool, true, false}
@@ -12,7 +12,7 @@ use Rattle.board.specs.Demands.{PageLanes, laneOf, noLanes}
 use Rattle.board.specs.Tables.{held}
 use Rattle.routes.specs.Levels.{Level, dropped, shared, own, Stop}
 
--- A list written over a table, its oldest element in row 0: the rows written, then the old rest.
+-- P8: a list written over a table, its oldest element in row 0: the rows written, then the old rest.
 abbrev pub writtenOver {ℓ} : {A : Type ℓ} → (A → List ℕ) → List A → List (List ℕ) → List (List ℕ)
 writtenOver row [] old = old
 writtenOver row (x ∷ l) old = set (writtenOver row l old) (length l) (row x)

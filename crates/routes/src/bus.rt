@@ -79,7 +79,7 @@ fn end_port(end: End) -> u32
     }
 }
 
-// "A brick placed .., and its one bus wire is written with it." Its depth is one more than its feeder's.
+// R13: a brick, and in the same step the bus wire that feeds it. Its depth is one more than its feeder's.
 pub fn push_bus_node(
     rerouters: &mut [[u32; 10]],
     bus_wires: &mut [[u32; 6]],

@@ -1,4 +1,4 @@
--- What the calls answer: for each case of an answer the number and the values of document 01.
+-- What the calls answer: for each case of an answer its number and its values.
 use mathlib.Core.Bool.{Bool, true, false}
 use mathlib.Core.List.{List, [], _∷_, _++_}
 use mathlib.Core.Path.{_≡_}

@@ -1,6 +1,6 @@
--- The definitions of the crate `sheet`, in the order of the port's rules: the board sheet (Text, Number, Table, Record), what turns a board away
--- (Reading), what the calls answer (Answer), what accepted rows hold (Range), how the calls inside go along a text (Walk), the plan sheet's numbers (Written),
--- the exported calls (Export), worked examples (Examples).
+-- The definitions of the crate `sheet`, in the order of the rules: the board sheet (Text, Number, Table, Record), what turns a board away (Reading),
+-- what the calls answer (Answer), what accepted rows hold (Range), how the calls inside go along a text (Walk), the plan sheet's numbers (Written),
+-- worked examples (Examples).
 pub mod Text
 pub mod Number
 pub mod Table

@@ -1,4 +1,4 @@
--- The board sheet: "A number has at most ten decimal digits, no leading zero, `-` only before a nonzero number; `-` alone means missing."
+-- S, the board sheet: the number that a field writes.
 use mathlib.Core.Bool.{Bool, true, false, _&&_, not}
 use mathlib.Core.List.{List, [], _∷_}
 use Prim.Native.Nat.{ℕ, _+_, _-_, _*_}
@@ -15,6 +15,7 @@ ZERO = 48
 abbrev pub NINE : ℕ
 NINE = 57
 
+-- S2: the first digit, and nine behind it
 abbrev pub digitsMost : ℕ
 digitsMost = 10
 
@@ -37,27 +38,29 @@ unfoldable pub valueFrom : ℕ → List ℕ → ℕ
 valueFrom v [] = v
 valueFrom v (b ∷ bs) = valueFrom (v * 10 + (b - ZERO)) bs
 
--- no leading zero: `0` alone, or a first digit that is not 0
+-- S2: `0` alone, or a first digit that is not 0
 unfoldable pub noLeadingZero : List ℕ → Bool
 noLeadingZero [] = false
 noLeadingZero (b ∷ []) = true
 noLeadingZero (b ∷ c ∷ bs) = not (eqb b ZERO)
 
--- one to ten decimal digits without a leading zero
+-- S2: one to ten digits, as a number is written without its sign
 unfoldable pub plain : List ℕ → Bool
 unfolding allDigits noLeadingZero
 plain bs = allDigits bs && noLeadingZero bs && leb (length bs) digitsMost
 
+-- S2: a number without a sign
 unfoldable pub unsigned : List ℕ → Number
 unfolding plain valueFrom
 unsigned bs = elim (plain bs) [ true ↦ plus (valueFrom 0 bs) | false ↦ bad ]
 
--- what follows a `-`: nothing, or a nonzero number
+-- S2, S3: what follows a `-`: nothing, or a number other than 0
 unfoldable pub signed : List ℕ → Number
 unfolding plain valueFrom
 signed [] = missing
 signed (b ∷ bs) = elim (plain (b ∷ bs) && not (eqb (valueFrom 0 (b ∷ bs)) 0)) [ true ↦ minus (valueFrom 0 (b ∷ bs)) | false ↦ bad ]
 
+-- S2, S3: a number, with or without a sign, or a missing one
 unfoldable pub number : List ℕ → Number
 unfolding unsigned signed
 number [] = bad

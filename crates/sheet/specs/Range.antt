@@ -7,7 +7,7 @@ use lib.ListN.{getD, length}
 use Rattle.sheet.specs.Table.{Column, MISSING, NEVER, SECTIONS, columnsOf, id}
 use Rattle.sheet.specs.Reading.{sectionIn}
 
--- a number that a column may hold
+-- S3, S11: a number that a column may hold
 abbrev pub Held : Column → ℕ → Type 0
 Held c v = ((v ≡ MISSING) × (c .gap ≡ NEVER → ⊥)) ⊎ ((c .low ≤ v) × (v ≤ c .high))
 

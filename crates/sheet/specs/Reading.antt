@@ -1,4 +1,4 @@
--- What turns a board away: refusals 1 to 3, "tried in this order, each over all records", with the first such line, counted from 1.
+-- E, what turns a board away: refusals 1 to 3 in their order, each with the first line that meets it.
 use mathlib.Core.Bool.{Bool, true, false, not}
 use mathlib.Core.List.{List, [], _∷_, map}
 use Prim.Native.Nat.{ℕ, zero, suc}
@@ -9,7 +9,7 @@ use Rattle.sheet.specs.Text.{NEWLINE, parts}
 use Rattle.sheet.specs.Table.{SECTIONS}
 use Rattle.sheet.specs.Record.{Line, unread, row, lineRead}
 
--- the lines of a sheet, each read. What stands after the last byte 10 is a line that can't be read, unless it is nothing
+-- S1, E1: the lines of a sheet, each read. What stands after the last byte 10 is a line that can't be read, unless it is nothing
 unfoldable pub linesRead : List (List ℕ) → List Line
 unfolding lineRead
 linesRead [] = []
@@ -17,6 +17,7 @@ linesRead ([] ∷ []) = []
 linesRead ((b ∷ bs) ∷ []) = unread ∷ []
 linesRead (p ∷ q ∷ ps) = lineRead p ∷ linesRead (q ∷ ps)
 
+-- S1: the same of a text
 unfoldable pub sheetLines : List ℕ → List Line
 unfolding linesRead parts
 sheetLines text = linesRead (parts NEWLINE text)
@@ -51,22 +52,22 @@ after b (row fits r) = record { section = sectionIn r; counts = counted (b .coun
 abbrev pub noLines : Before
 noLines = record { section = 0; counts = replicate SECTIONS 0 }
 
--- 1: "line that can't be read, wrong field count, section out of order, half a pair, `-` in a field that may not be missing"
+-- E1: not read, or of a section that comes before that of the line before
 unfoldable pub unreadable : Before → Line → Bool
 unreadable b unread = true
 unreadable b (row fits r) = ltb (sectionIn r) (b .section)
 
--- 2: "a record over its most"
+-- E2: its section has its most records already
 unfoldable pub overMost : List ℕ → Before → Line → Bool
 overMost most b unread = false
 overMost most b (row fits r) = leb (getD most (sectionIn r) 0) (getD (b .counts) (sectionIn r) 0)
 
--- 3: "number out of range"
+-- E3: a number outside its range
 unfoldable pub outOfRange : Before → Line → Bool
 outOfRange b unread = false
 outOfRange b (row fits r) = not fits
 
--- the first line that meets a condition, the lines counted from `n`; NO_LINE where none does
+-- E10: the first line that meets a condition, the lines counted from `n`; NO_LINE where none does
 abbrev pub NO_LINE : ℕ
 NO_LINE = 0
 
@@ -83,7 +84,7 @@ pub data Reading : Type 0 where
   refused : (number line : ℕ) → Reading
   rows : List (List ℕ) → Reading
 
--- the first of three refusals that there is, by the first line of each
+-- E9: the first of three refusals that there is, by the first line of each
 unfoldable pub refusals : ℕ → ℕ → ℕ → Reading → Reading
 refusals one two three accepted =
     elim (eqb one NO_LINE) [
@@ -91,6 +92,7 @@ refusals one two three accepted =
       | true ↦ elim (eqb two NO_LINE) [ false ↦ refused 2 two | true ↦ elim (eqb three NO_LINE) [ false ↦ refused 3 three | true ↦ accepted ] ]
     ]
 
+-- E9: a refusal is tried on all lines before the next one
 unfoldable pub readLines : List ℕ → List Line → Reading
 unfolding refusals first unreadable overMost outOfRange rowOf
 readLines most lines =

@@ -1,4 +1,4 @@
--- The board sheet: a line is one record. What its fields hold, by its section's table, makes a row of sixteen numbers: the section's number,
+-- S, the board sheet: a line is one record. What its fields hold, by its section's table, makes a row of sixteen numbers: the section's number,
 -- the fields in the sheet's order, then zeros.
 use mathlib.Core.Bool.{Bool, true, false, _&&_, not, Bool·beq}
 use mathlib.Core.List.{List, [], _∷_}
@@ -11,13 +11,12 @@ use Rattle.sheet.specs.Text.{TAB, parts}
 use Rattle.sheet.specs.Number.{Number, bad, missing, plus, minus, number}
 use Rattle.sheet.specs.Table.{Column, MISSING, NEVER, AS_BEFORE, SECTIONS, letters, columnsOf}
 
--- "No other field may be missing"; "The pairs x y and page down are missing together or not": whether a field that is missing (`gone`) or not
--- may stand in a column, after a field that is missing (`before`) or not
+-- S3: whether a field that is missing (`gone`) or not may stand in a column, after a field that is missing (`before`) or not
 unfoldable pub allowed : ℕ → Bool → Bool → Bool
 allowed gap before gone =
     elim (eqb gap NEVER) [ true ↦ not gone | false ↦ elim (eqb gap AS_BEFORE) [ true ↦ Bool·beq before gone | false ↦ true ] ]
 
--- a number that is held as `v`, if it `fits` and lies in the range
+-- S11: a number that is held as `v`, if it `fits` and lies in the range
 unfoldable pub within : (low high : ℕ) → Bool → ℕ → Cell
 within low high fits v = elim (fits && leb low v && leb v high) [ true ↦ Holds v | false ↦ OutOfRange ]
 
@@ -34,7 +33,7 @@ isMissing missing = true
 isMissing (plus v) = false
 isMissing (minus v) = false
 
--- what a field holds
+-- S3, S11: what a field holds
 unfoldable pub cellOf : Column → Bool → Number → Cell
 unfolding allowed present
 cellOf c before n = elim (allowed (c .gap) before (isMissing n)) [ true ↦ present c n | false ↦ Malformed ]
@@ -44,7 +43,7 @@ pub data Line : Type 0 where
   unread : Line
   row : Bool → List ℕ → Line
 
--- the fields of a record by its columns, the first of them the row's k-th number. As many fields as columns, none malformed
+-- E1: the fields of a record by its columns, the first of them the row's k-th number. As many fields as columns, none malformed
 unfoldable pub fieldsRead : List Column → List (List ℕ) → (before fits : Bool) (k : ℕ) → List ℕ → Line
 unfolding cellOf number
 fieldsRead [] [] before fits k r = row fits r
@@ -62,7 +61,7 @@ unfoldable pub placeOf : ℕ → List ℕ → ℕ → ℕ
 placeOf b [] s = SECTIONS
 placeOf b (l ∷ ls) s = elim (eqb b l) [ true ↦ s | false ↦ placeOf b ls (suc s) ]
 
--- the section that a line's first field names: its one byte is a section's letter
+-- S4: the section that a line's first field names: its one byte is a section's letter
 unfoldable pub sectionOf : List ℕ → ℕ
 unfolding placeOf
 sectionOf [] = SECTIONS
@@ -73,6 +72,7 @@ sectionOf (b ∷ c ∷ bs) = SECTIONS
 abbrev pub emptyRow : ℕ → List ℕ
 emptyRow s = s ∷ replicate 15 0
 
+-- E1: the fields of a line: a section's letter, then that section's fields
 unfoldable pub recordRead : List (List ℕ) → Line
 unfolding sectionOf fieldsRead
 recordRead [] = unread
@@ -80,7 +80,7 @@ recordRead (l ∷ fs) =
     let s = sectionOf l in
     elim (eqb s SECTIONS) [ true ↦ unread | false ↦ fieldsRead (columnsOf s) fs false true 1 (emptyRow s) ]
 
--- a line, without its byte 10
+-- S1: a line, without its byte 10
 unfoldable pub lineRead : List ℕ → Line
 unfolding recordRead parts
 lineRead bytes = recordRead (parts TAB bytes)

@@ -1,4 +1,4 @@
--- The board sheet: the sections' letters, and one table of fields for each section with the ranges of document 01.
+-- S, the board sheet: the sections' letters, and one table of fields for each section with their ranges.
 -- A coordinate c (x, y, z, down, min_y) is held as c + ORIGIN, so that no number held is negative; a missing field is held as MISSING.
 use mathlib.Core.List.{List, [], _∷_}
 use Prim.Native.Nat.{ℕ, zero, suc, _+_, _-_}
@@ -11,10 +11,11 @@ ORIGIN = 2000000
 abbrev pub MISSING : ℕ
 MISSING = 4294967295
 
--- x, y, z, down and min_y are within this of 0
+-- S11: how far x, y, z, down and min_y may lie from 0
 abbrev pub COORDINATE_MOST : ℕ
 COORDINATE_MOST = 1000000
 
+-- S11: the greatest id and line, port, half size and page
 abbrev pub ID_MOST : ℕ
 ID_MOST = 1000000
 
@@ -27,7 +28,7 @@ HALF_MOST = 1000
 abbrev pub PAGE_MOST : ℕ
 PAGE_MOST = 63
 
--- whether a field may be missing: never; it may; it is missing exactly when the field before it is (x y, page down)
+-- S3: whether a field may be missing: never; it may; exactly when the field before it is (y after x, down after page)
 abbrev pub NEVER : ℕ
 NEVER = 0
 
@@ -44,13 +45,16 @@ pub record Column : Type 0 where
   pub high : ℕ
   pub gap : ℕ
 
+-- S11: a field whose number is held as it is
 abbrev pub between : ℕ → ℕ → ℕ → Column
 between low high gap = record { origin = 0; low = low; high = high; gap = gap }
 
+-- S11: a coordinate
 abbrev pub coordinate : ℕ → Column
 coordinate gap =
     record { origin = ORIGIN; low = ORIGIN - COORDINATE_MOST; high = ORIGIN + COORDINATE_MOST; gap = gap }
 
+-- S11: an id, a port, a half size, a class
 abbrev pub id : Column
 id = between 0 ID_MOST NEVER
 
@@ -63,7 +67,7 @@ half = between 1 HALF_MOST NEVER
 abbrev pub class : Column
 class = between 0 2 NEVER
 
--- the sections' numbers: the order in which the sections stand in a sheet
+-- S4: the sections' numbers: the order in which they stand in a sheet
 abbrev pub PAGES : ℕ
 PAGES = 0
 
@@ -86,33 +90,33 @@ WIRES = 5
 abbrev pub SECTIONS : ℕ
 SECTIONS = 6
 
--- the letters P, N, C, F, X, W
+-- S4: the letters P, N, C, F, X, W
 abbrev pub letters : List ℕ
 letters = 80 ∷ 78 ∷ 67 ∷ 70 ∷ 88 ∷ 87 ∷ []
 
--- P: min_y, z
+-- S5: the fields of P: min_y, z
 abbrev pub pageColumns : List Column
 pageColumns = coordinate MAY ∷ coordinate NEVER ∷ []
 
--- N: id, kind, class, pin, half x, half y, rotation, x, y, page, down, line
+-- S6: the fields of N: id, kind, class, pin, half_x, half_y, rotation, x, y, page, down, line
 abbrev pub nodeColumns : List Column
 nodeColumns =
     id ∷ between 0 5 NEVER ∷ class ∷ between 0 1 NEVER ∷ half ∷ half ∷ between 0 3 NEVER
     ∷ coordinate MAY ∷ coordinate AS_BEFORE ∷ between 0 PAGE_MOST MAY ∷ coordinate AS_BEFORE ∷ between 0 ID_MOST MAY ∷ []
 
--- C: id, parent
+-- S7: the fields of C: id, parent
 abbrev pub chipColumns : List Column
 chipColumns = id ∷ between 0 ID_MOST MAY ∷ []
 
--- F: id, chip, class
+-- S8: the fields of F: id, chip, class
 abbrev pub innerColumns : List Column
 innerColumns = id ∷ id ∷ class ∷ []
 
--- X: node, port
+-- S9: the fields of X: node, port
 abbrev pub execColumns : List Column
 execColumns = id ∷ port ∷ []
 
--- W: source node, source port, target node, target port
+-- S10: the fields of W: source_node, source_port, target_node, target_port
 abbrev pub wireColumns : List Column
 wireColumns = id ∷ port ∷ id ∷ port ∷ []
 
@@ -123,7 +127,7 @@ tables = pageColumns ∷ nodeColumns ∷ chipColumns ∷ innerColumns ∷ execCo
 abbrev pub columnsOf : ℕ → List Column
 columnsOf s = getD tables s []
 
--- "Most records: P 64, N 4,096, C 256, F 4,096, X 4,096, W 8,192; the program takes 8, 48, 8, 24, 24, 56."
+-- S12: how many records of each section the library takes, and the program
 abbrev pub libraryMost : Counts
 libraryMost = record { pages = 64; nodes = 4096; chips = 256; inner = 4096; execs = 4096; wires = 8192 }
 

@@ -1,9 +1,10 @@
--- The board sheet: "one record a line, fields parted by one tab, each line ended by byte 10".
+-- S, the board sheet: a text's lines and their fields.
 use mathlib.Core.Bool.{Bool, true, false, _||_}
 use mathlib.Core.List.{List, [], _∷_}
 use Prim.Native.Nat.{ℕ}
 use lib.Dec.{eqb}
 
+-- S1: the byte between two fields, and the byte that ends a line
 abbrev pub TAB : ℕ
 TAB = 9
 
@@ -15,7 +16,7 @@ unfoldable pub onFirst : ℕ → List (List ℕ) → List (List ℕ)
 onFirst b [] = (b ∷ []) ∷ []
 onFirst b (p ∷ ps) = (b ∷ p) ∷ ps
 
--- the parts of a text that the byte `s` parts: one part more than there are bytes `s`
+-- S1: the parts of a text that the byte `s` parts: one part more than there are bytes `s`
 unfoldable pub parts : ℕ → List ℕ → List (List ℕ)
 unfolding onFirst
 parts s [] = [] ∷ []
@@ -26,12 +27,12 @@ unfoldable pub firstPart : List (List ℕ) → List ℕ
 firstPart [] = []
 firstPart (p ∷ ps) = p
 
--- the line at the front of a text, without its byte 10
+-- S1: the line at the front of a text, without its byte 10
 unfoldable pub lineOf : List ℕ → List ℕ
 unfolding firstPart parts
 lineOf t = firstPart (parts NEWLINE t)
 
--- the field at the front of a text: the bytes before the first tab or byte 10
+-- S1: the field at the front of a text: the bytes before the first tab or byte 10
 unfoldable pub fieldOf : List ℕ → List ℕ
 fieldOf [] = []
 fieldOf (b ∷ t) = elim (eqb b TAB || eqb b NEWLINE) [ true ↦ [] | false ↦ b ∷ fieldOf t ]

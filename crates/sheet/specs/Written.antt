@@ -1,4 +1,4 @@
--- The plan sheet: numbers and lines as bytes. Numbers are written as the board sheet's are read.
+-- P, the plan sheet: numbers and lines as bytes. Numbers are written as the board sheet's are read.
 use mathlib.Core.Bool.{Bool, true, false}
 use mathlib.Core.List.{List, [], _∷_, _++_}
 use mathlib.Core.Path.{_≡_}
@@ -14,23 +14,23 @@ unfoldable pub digitsOf : (most : ℕ) → ℕ → List ℕ
 digitsOf zero n = []
 digitsOf (suc most) n = elim (ltb n 10) [ true ↦ (ZERO + n) ∷ [] | false ↦ digitsOf most (n / 10) ++ ((ZERO + n % 10) ∷ []) ]
 
--- a number of at most ten digits
+-- P1: a number of at most ten digits
 unfoldable pub decimal : ℕ → List ℕ
 unfolding digitsOf
 decimal n = digitsOf digitsMost n
 
--- a held coordinate, as the number that it holds
+-- P1: a held coordinate, as the number that it holds
 unfoldable pub coordinateText : ℕ → List ℕ
 unfolding decimal
 coordinateText held =
     elim (ltb held ORIGIN) [ true ↦ MINUS ∷ decimal (ORIGIN - held) | false ↦ decimal (held - ORIGIN) ]
 
--- a number, or `-` for one that is missing
+-- P1: a number, or `-` for one that is missing
 unfoldable pub numberText : ℕ → List ℕ
 unfolding decimal
 numberText n = elim (eqb n MISSING) [ true ↦ MINUS ∷ [] | false ↦ decimal n ]
 
--- a field after the first: a tab, then the field
+-- P1: a field after the first: a tab, then the field
 abbrev pub tabbed : List ℕ → List ℕ
 tabbed bytes = TAB ∷ bytes
 

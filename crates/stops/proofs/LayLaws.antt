@@ -15,6 +15,7 @@ use Rattle.board.specs.Demands.{PageLanes}
 use Rattle.board.specs.Tables.{view, tapIn}
 use Rattle.board.specs.Index.{link}
 use Rattle.board.proofs.Newest.{pick-true, pick-false}
+use Rattle.board.proofs.Views.{view-more}
 use Rattle.routes.specs.Stops.{newRow, stopX}
 use Rattle.routes.specs.Levels.{Level, dropped, shared, own, Stop, previousStop, levelWithBase, levelOf, stopFor, stopsOf, laneFor}
 use Rattle.routes.specs.Tables.{stopIn}
@@ -22,7 +23,6 @@ use Rattle.stops.specs.Laying.{stopAnswer, keptEnd, Ends, StopIndex, NoM
 use Rattle.stops.specs.Marks.{Marks, markIn, marksOf, marksWith}
 use Rattle.stops.specs.declared.levels.StopLevel.{StopLevel}
 use Rattle.stops.specs.declared.levels.StopLevel.the-variants.{Dropped, Shared, Own}
-use Rattle.routes.proofs.Views.{view-more}
 
 -- Every answer is that of a level.
 abbrev levelFrom : StopLevel → Level

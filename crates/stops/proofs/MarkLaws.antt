@@ -15,9 +15,9 @@ use Rattle.board.specs.Tables.{view}
 use Rattle.board.specs.Index.{link}
 use Rattle.board.proofs.Lists.{and-left, and-right, count-le}
 use Rattle.board.proofs.Newest.{Following, Implies, chain-start, chain-next, chain-falls, chained-more, chained-same, link-held, link-below, follow-found, follow-end, pick-true, pick-false}
+use Rattle.board.proofs.Views.{view-set, view-more}
 use Rattle.stops.specs.Marks.{Marks, markIn, nextIn, markBucket, sameMark, countOf, MARK_BUCKETS}
 use Rattle.stops.specs.declared.marks.Mark.{Mark}
-use Rattle.routes.proofs.Views.{view-set, view-more}
 
 module _ {A : Type 0} (read : List ℕ → A) (s : List (List ℕ)) (p : A → Bool) where
   abbrev rowTest : ℕ → Bool

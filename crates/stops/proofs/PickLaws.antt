@@ -14,8 +14,9 @@ use Rattle.board.specs.Board.{Board}
 use Rattle.board.specs.Groups.{Tap}
 use Rattle.board.specs.Demands.{PageLanes}
 use Rattle.board.specs.Tables.{view, tapIn, tapRow}
+use Rattle.board.proofs.Views.{view-take}
 use Rattle.routes.specs.Stops.{tapBefore, isLaid, laidTaps}
-use Rattle.routes.proofs.Views.{view-take, taps-sorted, taps-read, tap-row}
+use Rattle.routes.proofs.Views.{taps-sorted, taps-read, tap-row}
 
 -- The first n rows picked are those of the taps kept that lie at or above row k.
 pub record Picked (p : Tap → Bool) (taps : List (List ℕ)) (m : ℕ) (laid : List (List ℕ)) (n k : ℕ) : Type 0 where

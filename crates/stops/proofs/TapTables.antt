@@ -19,10 +19,10 @@ use Rattle.board.specs.Index.{link}
 use Rattle.board.proofs.Lists.{never, and-left, and-right, byTest, byFound, in-keep, in-sorted, in-reverse}
 use Rattle.board.proofs.Taps.{taps-of}
 use Rattle.board.proofs.Newest.{link-below}
+use Rattle.board.proofs.Views.{view-mem}
 use Rattle.routes.specs.Stops.{isLaid, laidTaps, tapBefore}
 use Rattle.routes.specs.Levels.{laneFor}
 use Rattle.stops.specs.Laying.{Tabled, LaidFacts}
-use Rattle.routes.proofs.Views.{view-mem}
 use Rattle.routes.proofs.Laid.{of-laid}
 
 -- An anchor is one of the nodes.

@@ -1,4 +1,4 @@
--- How the code of stops and levels holds its taps and marks. No rule of document 01 stands here.
+-- How the code of stops and levels holds its taps and marks. No rule stands here.
 use Prim.Native.Nat.{ℕ, suc, _*_, _≤_, _<_}
 use mathlib.Core.Path.{_≡_}
 use mathlib.Core.Bool.{true, false}
@@ -21,7 +21,7 @@ use Rattle.stops.specs.declared.levels.Level.the-variants.{None, At}
 use Rattle.stops.specs.declared.levels.StopLevel.{StopLevel}
 use Rattle.stops.specs.declared.levels.StopLevel.the-variants.{Dropped, Shared, Own}
 
--- "W 8,192"
+-- The most wires (S12).
 abbrev pub WIRES_MOST : ℕ
 WIRES_MOST = 8192
 

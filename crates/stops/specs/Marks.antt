@@ -1,4 +1,4 @@
--- How the code finds what stands at a level of a row or of a lane's column: marks, chained by bucket. No rule of document 01 stands here.
+-- How the code finds what stands at a level of a row or of a lane's column: marks, chained by bucket. No rule stands here.
 use Prim.Native.Nat.{ℕ, suc, _+_, _*_, _%_, _<_}
 use mathlib.Core.Path.{_≡_}
 use mathlib.Core.Bool.{Bool, _&&_}

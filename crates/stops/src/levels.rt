@@ -25,7 +25,7 @@ use crate::marks::is_marked;
 use crate::stops::MISSING;
 use crate::stops::group_of;
 
-// A rerouter is 2 by 2: `2 * REROUTER_HALF`.
+// C2: a rerouter's extent in x and in y, `2 * REROUTER_HALF`.
 pub const REROUTER_SIZE: u32 = 2;
 
 // The most wires, and so the most groups.
@@ -109,7 +109,7 @@ pub fn is_unclaimed(
     )
 }
 
-// Unused on the row and unclaimed in the lane's column.
+// V4: load 0 on the row, and its span unclaimed.
 fn is_free(
     marks: &[[u32; 8]],
     heads: &[u32],
@@ -149,7 +149,7 @@ pub fn is_within(level: u32, top: u32) -> bool
     STAGGER_STEP <= top - level
 }
 
-// The lowest level that is free, or none.
+// V3: the lowest free level, or none.
 fn lowest_free(
     marks: &[[u32; 8]],
     heads: &[u32],
@@ -186,7 +186,7 @@ pub fn levels_in(base: u32, top: u32) -> u32
     (top - base) / STAGGER_STEP
 }
 
-// The least loaded level that is unclaimed, the lowest of equals, or none. It goes from the highest down, so that the last one taken is the lowest.
+// V7: the least loaded level that is unclaimed, the lowest of equals, or none. It goes from the highest down, so that the last one taken is the lowest.
 fn least_loaded(
     marks: &[[u32; 8]],
     heads: &[u32],
@@ -228,7 +228,7 @@ fn least_loaded(
     best
 }
 
-// The lowest free level; else the least loaded that can be claimed; else base, if that can.
+// V3, V8: the lowest free level; else the least loaded that can be claimed (V7); else base, if that can.
 pub fn find_level(
     marks: &[[u32; 8]],
     heads: &[u32],
@@ -262,7 +262,7 @@ pub struct StopCounts {
     pub marks: usize,
 }
 
-// "under 2 from the previous stop's x it takes that x"; `previous` is one more than that x, or 0.
+// T4: a stop's base; `previous` is one more than the previous stop's, or 0.
 fn stop_x(previous: u32, x: u32) -> u32
     requires { ⌜ x < MISSING ⌝ }
     ensures { λ r. ⌜ (r < MISSING) × ((f : Found) → previous ≡ link f → r ≡ stopX f x) ⌝ }
@@ -277,7 +277,7 @@ fn stop_x(previous: u32, x: u32) -> u32
     x
 }
 
-// Whether two x are under 2 apart.
+// T4: whether two x are less than 2 apart.
 fn is_near(x: u32, p: u32) -> bool
     ensures { λ r. ⌜ r ≡ near x p ⌝ }
 {

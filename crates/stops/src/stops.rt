@@ -30,7 +30,7 @@ fn greater(a: u32, b: u32) -> u32
     if a < b { b } else { a }
 }
 
-// Whether the source anchor of group `g` is unplaced, or its x range with the taps is long enough.
+// T1: whether the source anchor of group `g` is unplaced, or taps and source lie far enough apart.
 pub fn long_enough(
     nodes: &[[u32; 16]],
     wire_facts: &[[u32; 8]],

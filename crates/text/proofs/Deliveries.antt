@@ -12,12 +12,13 @@ use Rattle.sheet.specs.Table.{MISSING}
 use Rattle.board.specs.Lists.{keep}
 use Rattle.board.specs.Tables.{view}
 use Rattle.board.proofs.Lists.{keep-yes, keep-no}
+use Rattle.board.proofs.Views.{view-more}
 use Rattle.routes.specs.Bus.{BusWire, End, port, rerouter, Carries, onward, delivery}
 use Rattle.routes.specs.Buffers.{endRow, carriesRow, wireRow}
 use Rattle.routes.specs.Tables.{writtenOver}
 use Rattle.routes.specs.Plan.{isDelivery, deliveries}
-use Rattle.text.proofs.PlanText.{CarriesFit, WireFits}
-use Rattle.routes.proofs.Views.{view-more, rows-written}
+use Rattle.routes.proofs.Rows.{CarriesFit, WireFits}
+use Rattle.routes.proofs.Views.{rows-written}
 use Rattle.text.specs.Held.{namesWire, deliveryRows}
 use Rattle.text.proofs.Ranges.{All}
 

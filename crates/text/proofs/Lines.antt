@@ -16,7 +16,8 @@ use Rattle.sheet.specs.Table.{MISSING}
 use Rattle.sheet.specs.Written.{Wrote, decimal, coordinateText, numberText, tabbed}
 use Rattle.sheet.proofs.Writing.{wrote-more, decimal-length, coordinate-below, coordinate-above, number-missing, number-given, wrote-nothing, coordinate-length, number-length}
 use Rattle.routes.specs.PlanSheet.{line, fields, numbered, brickLine}
-use Rattle.text.specs.Fields.{fieldText, inward, brickLineIn, letterOf, wireText, linesIn, WroteLines}
+use Rattle.routes.specs.Buffers.{inward}
+use Rattle.text.specs.Fields.{fieldText, brickLineIn, letterOf, wireText, linesIn, WroteLines}
 
 module _ (what : ℕ) where
   pub text-decimal : (how : ℕ) → how ≡ 0 → fieldText (how ∷ what ∷ []) ≡ decimal what

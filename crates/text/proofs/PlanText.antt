@@ -21,47 +21,10 @@ use Rattle.routes.specs.Plan.{deliveries}
 use Rattle.text.specs.declared.plan_sheet.Totals.{Totals}
 use Rattle.routes.specs.Tables.{writtenOver}
 use Rattle.routes.proofs.Views.{rows-written}
+use Rattle.routes.proofs.Rows.{BrickFits, EndFit, CarriesFit, WireFits, brick-back}
 use Rattle.routes.specs.PlanSheet.{line, numbered, laneLine, brickLine, wireLine, portLine, endFields, carriesFields, planSheet, totalLine}
 use Rattle.text.proofs.Lines.{letter-port}
-use Rattle.text.specs.Fields.{inward, brickIn, brickLineIn, wireText, wireTextIn, portLineIn, laneLineIn, letterOf, linesIn, totalText, planText}
-
--- A coordinate goes out as 32 bits and comes back.
-pub inward-outward : (c : ℕ) → c < 4294967296 → inward (outward c) ≡ c
-inward-outward c h = omega arith
-
--- What a rerouter's row can hold, and a bus wire's.
-pub record BrickFits (k : Brick) : Type 0 where
-  pub x : k .x < 4294967296
-  pub y : k .y < 4294967296
-  pub z : k .z < 4294967296
-
-pub brick-back : (k : Brick) → BrickFits k → brickIn (brickRow k) ≡ k
-brick-back k f i =
-    record {
-      x = inward-outward (k .x) (f .x) i;
-      y = inward-outward (k .y) (f .y) i;
-      z = inward-outward (k .z) (f .z) i;
-      rotation = k .rotation;
-      role = k .role;
-      part = k .part;
-      colour = k .colour;
-      page = k .page;
-      lane = k .lane;
-      row = k .row;
-    }
-
-abbrev pub EndFit : End → Type 0
-EndFit (port n p) = p < MISSING
-EndFit (rerouter k) = Unit {0}
-
-abbrev pub CarriesFit : Carries → Type 0
-CarriesFit onward = Unit {0}
-CarriesFit (delivery w d) = (w < MISSING) × (d < MISSING)
-
-pub record WireFits (w : BusWire) : Type 0 where
-  pub source : EndFit (w .source)
-  pub target : EndFit (w .target)
-  pub carries : CarriesFit (w .carries)
+use Rattle.text.specs.Fields.{brickLineIn, wireText, wireTextIn, portLineIn, laneLineIn, letterOf, linesIn, totalText, planText}
 
 -- Lines by rows are lines by elements, where each row gives its element's line.
 pub numbered-rows {ℓ} : {A : Type ℓ} (row : A → List ℕ) (oneIn : ℕ → List ℕ → List ℕ) (one : ℕ → A → List ℕ) (Fits : A → Type 0)

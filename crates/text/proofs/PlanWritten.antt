@@ -22,7 +22,8 @@ use Rattle.routes.specs.Plan.{deliveries, groupCount, finished, laidGroups}
 use Rattle.routes.specs.PlanSheet.{planSheet}
 use Rattle.text.specs.declared.plan_sheet.Totals.{Totals}
 use Rattle.routes.proofs.Views.{rows-written}
-use Rattle.text.proofs.PlanText.{BrickFits, EndFit, CarriesFit, WireFits, Holds, plan-text}
+use Rattle.routes.proofs.Rows.{BrickFits, EndFit, CarriesFit, WireFits}
+use Rattle.text.proofs.PlanText.{Holds, plan-text}
 use Rattle.routes.proofs.Laid.{laid-short}
 use Rattle.text.specs.Held.{deliveryRows, totalsOf, PlanHeld}
 use Rattle.text.proofs.Ranges.{All, ranged}
@@ -31,7 +32,7 @@ use Rattle.text.proofs.PlanRange.{plan-in-range}
 use Rattle.text.proofs.Deliveries.{rows-deliver}
 
 -- What is in range fits the rows of the buffers.
-brick-fits : (k : Brick) → BrickInRange k → BrickFits k
+pub brick-fits : (k : Brick) → BrickInRange k → BrickFits k
 brick-fits k h = record { x = omega (arith, h .x); y = omega (arith, h .y); z = omega (arith, h .z) }
 
 end-fits : (n : ℕ) (e : End) → EndInRange n e → EndFit e
@@ -42,7 +43,7 @@ carries-fit : (wires n : ℕ) → wires < MISSING → n < MISSING → (c : Carri
 carries-fit wires n h k onward r = tt
 carries-fit wires n h k (delivery w d) r = (omega (arith, r .0), omega (arith, r .1))
 
-wire-fits : (wires n : ℕ) → wires < MISSING → n < MISSING → (w : BusWire) → WireInRange wires n w → WireFits w
+pub wire-fits : (wires n : ℕ) → wires < MISSING → n < MISSING → (w : BusWire) → WireInRange wires n w → WireFits w
 wire-fits wires n h k w r =
     record { source = end-fits n (w .source) (r .source); target = end-fits n (w .target) (r .target); carries = carries-fit wires n h k (w .carries) (r .carries) }
 

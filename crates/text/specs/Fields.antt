@@ -1,15 +1,15 @@
--- How the code holds the fields of a line before they are written: a row of two numbers each, how it is written and what. No rule of document 01 stands here.
+-- How the code holds the fields of a line before they are written: a row of two numbers each, how it is written and what. No rule stands here.
 use Prim.Native.Nat.{ℕ, _+_, _*_, _%_, _≤_, _<_}
 use Prim.Native.Char.{code}
 use mathlib.Core.Bool.{Bool, true, false}
 use mathlib.Core.List.{List, [], _∷_, _++_, map}
 use lib.Dec.{eqb}
 use lib.ListN.{getD, take, length}
-use Rattle.sheet.specs.Table.{ORIGIN, MISSING}
+use Rattle.sheet.specs.Table.{MISSING}
 use Rattle.sheet.specs.Written.{decimal, coordinateText, numberText, Wrote}
-use Rattle.routes.specs.Bus.{Brick, BusWire, End, port, rerouter, Carries, onward, delivery, Port}
+use Rattle.routes.specs.Buffers.{brickIn, portIn}
 use Rattle.text.specs.declared.plan_sheet.Totals.{Totals}
-use Rattle.routes.specs.PlanSheet.{line, numbered, brickLine, wireLine, portLine}
+use Rattle.routes.specs.PlanSheet.{line, numbered, brickLine, portLine}
 
 -- 0 a number, 1 a held coordinate, 2 a number or `-`, 3 a letter.
 unfoldable pub fieldText : List ℕ → List ℕ
@@ -21,39 +21,6 @@ fieldText f =
           [ true ↦ coordinateText (getD f 1 0) | false ↦ elim (eqb (getD f 0 0) 2) [ true ↦ numberText (getD f 1 0) | false ↦ (getD f 1 0 % 256) ∷ [] ] ]
     ]
 
--- A coordinate of 32 bits, as it is held.
-abbrev pub inward : ℕ → ℕ
-inward c = (c + ORIGIN) % 4294967296
-
--- A rerouter, a bus wire and a port as their rows in the buffers say.
-abbrev pub brickIn : List ℕ → Brick
-brickIn r =
-    record {
-      x = inward (getD r 0 0);
-      y = inward (getD r 1 0);
-      z = inward (getD r 2 0);
-      rotation = getD r 3 0;
-      role = getD r 4 0;
-      part = getD r 5 0;
-      colour = getD r 6 0;
-      page = getD r 7 0;
-      lane = getD r 8 0;
-      row = getD r 9 0;
-    }
-
-abbrev pub endIn : ℕ → ℕ → End
-endIn n p = elim (eqb p MISSING) [ true ↦ rerouter n | false ↦ port n p ]
-
-abbrev pub carriesIn : ℕ → ℕ → Carries
-carriesIn w d = elim (eqb w MISSING) [ true ↦ onward | false ↦ delivery w d ]
-
-abbrev pub wireIn : List ℕ → BusWire
-wireIn r =
-    record { source = endIn (getD r 0 0) (getD r 1 0); target = endIn (getD r 2 0) (getD r 3 0); carries = carriesIn (getD r 4 0) (getD r 5 0) }
-
-abbrev pub portIn : List ℕ → Port
-portIn r = record { node = getD r 0 0; port = getD r 1 0 }
-
 -- A page's line by its row: lanes, band.
 abbrev pub laneLineIn : ℕ → List ℕ → List ℕ
 laneLineIn p r = line (code "L") (decimal p ∷ decimal (getD r 0 0) ∷ decimal (getD r 1 0) ∷ [])
@@ -64,9 +31,6 @@ linesIn line rows n = numbered line 0 (take n rows)
 
 abbrev pub brickLineIn : ℕ → List ℕ → List ℕ
 brickLineIn n r = brickLine n (brickIn r)
-
-abbrev pub wireLineIn : ℕ → List ℕ → List ℕ
-wireLineIn n r = wireLine n (wireIn r)
 
 abbrev pub portLineIn : ℕ → List ℕ → List ℕ
 portLineIn n r = portLine n (portIn r)

@@ -1,4 +1,4 @@
--- How the buffers hold a finished plan. No rule of document 01 stands here.
+-- How the buffers hold a finished plan. No rule stands here.
 use Prim.Native.Nat.{ℕ, _-_}
 use mathlib.Core.Path.{_≡_}
 use mathlib.Core.Bool.{Bool}

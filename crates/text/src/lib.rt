@@ -42,7 +42,7 @@ fn less(a: usize, b: usize) -> usize
     if a < b { 0 } else { a - b }
 }
 
-// The counts of the last line. "direct is wires less deliveries."
+// P6: the counts of the last line.
 fn totals(n: usize, k: usize, deliveries: usize, wires: usize, groups: usize) -> Totals
     requires { ⌜ (n < 4294967295) × (k < 4294967295) × (deliveries ≤ k) × (wires < 4294967295) × (groups < 4294967295) ⌝ }
     ensures { λ r. ⌜ r ≡ totalsOf n k deliveries wires groups ⌝ }

@@ -10,7 +10,8 @@ ghost use lib.ListN.{length, getD};
 ghost use Rattle.sheet.specs.Text.{NEWLINE};
 ghost use Rattle.sheet.specs.Written.{Wrote, tabbed};
 ghost use Rattle.routes.specs.PlanSheet.{line as lineText, refusalSheet};
-ghost use Rattle.text.specs.Fields.{fieldText, inward as held, laneLineIn, brickLineIn, portLineIn, letterOf, wireTextIn, LinesFit, WroteLines, totalText, busText, endText, planText, BusFits, EndFits, PlanFits};
+ghost use Rattle.routes.specs.Buffers.{inward as held};
+ghost use Rattle.text.specs.Fields.{fieldText, laneLineIn, brickLineIn, portLineIn, letterOf, wireTextIn, LinesFit, WroteLines, totalText, busText, endText, planText, BusFits, EndFits, PlanFits};
 
 const TAB: u8 = 9;
 
@@ -70,7 +71,7 @@ fn put_line(out: &mut [u8], at: usize, letter: u8, fields: &[[u32; 2]]) -> usize
     put_byte(out, next, NEWLINE)
 }
 
-// "L, one a page: page, lanes, band."
+// P2: a page's line.
 fn put_lane_line(out: &mut [u8], at: usize, pages: &[[u32; 2]], p: usize) -> usize
     requires { ⌜ at + 128 ≤ length (now out) ⌝ }
     requires { ⌜ (p < length (now pages)) × (p < 4294967295) ⌝ }
@@ -93,7 +94,7 @@ fn inward(c: u32) -> u32
     std::num::wrapping_add_u32(c, ORIGIN)
 }
 
-// "R: number, x, y, z, rotation, role, part, colour node, page, lane"
+// P3: a rerouter's line.
 fn put_brick_line(out: &mut [u8], at: usize, rerouters: &[[u32; 10]], n: usize) -> usize
     requires { ⌜ at + 128 ≤ length (now out) ⌝ }
     requires { ⌜ (n < length (now rerouters)) × (n < 4294967295) ⌝ }
@@ -124,7 +125,7 @@ fn end_letter(port: u32) -> u32
     if port == MISSING { 98 } else { 112 }
 }
 
-// "B: from and to, each `p` node port or `b` rerouter `-`; then a delivery's wire and distance, else `-` twice."
+// P4: a bus wire's line.
 fn put_wire_line(out: &mut [u8], at: usize, wires: &[[u32; 6]], n: usize) -> usize
     requires { ⌜ at + 128 ≤ length (now out) ⌝ }
     requires { ⌜ n < length (now wires) ⌝ }
@@ -145,7 +146,7 @@ fn put_wire_line(out: &mut [u8], at: usize, wires: &[[u32; 6]], n: usize) -> usi
     put_line(out, at, b'B', &fields)
 }
 
-// "U: suppressed ports ascending."
+// P5: a suppressed port's line.
 fn put_port_line(out: &mut [u8], at: usize, ports: &[[u32; 2]], n: usize) -> usize
     requires { ⌜ at + 128 ≤ length (now out) ⌝ }
     requires { ⌜ n < length (now ports) ⌝ }
@@ -218,7 +219,7 @@ pub struct Totals {
     pub laid: u32,
 }
 
-// "T: rerouters, bus wires, deliveries, direct, laid groups"
+// P6: the last line, with the counts.
 fn put_total_line(out: &mut [u8], at: usize, t: Totals) -> usize
     requires { ⌜ at + 128 ≤ length (now out) ⌝ }
     ensures { λ r. ⌜ Wrote (now (out .entry)) at (totalText t) (now (out .exit)) r ⌝ }
@@ -234,7 +235,7 @@ fn put_total_line(out: &mut [u8], at: usize, t: Totals) -> usize
     put_line(out, at, b'T', &fields)
 }
 
-// "`E`, number, line"
+// E12: the E line.
 pub fn put_refusal(out: &mut [u8], at: usize, number: u32, place: u32) -> usize
     requires { ⌜ at + 128 ≤ length (now out) ⌝ }
     ensures { λ r. ⌜ Wrote (now (out .entry)) at (refusalSheet number place) (now (out .exit)) r ⌝ }

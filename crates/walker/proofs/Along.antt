@@ -7,16 +7,14 @@ use native.Mathlib.Nat.{add-suc}
 use native.Mathlib.Numerals.{add-one}
 use native.Mathlib.Omega.{arith}
 use lib.Dec.{ltb}
-use lib.ListN.{length, drop, getD, drop-of-length-le}
+use lib.ListN.{length, drop, drop-of-length-le}
 use lib.Seq.{drop-drop}
 use borrow.Author.Tests.{ltb-true, ltb-false}
-use Rattle.sheet.specs.Text.{TAB, fieldOf, lineOf}
-use Rattle.sheet.specs.Record.{lineRead}
-use Rattle.sheet.specs.Reading.{sheetLines}
-use Rattle.sheet.specs.Walk.{ended, fieldsOf}
+use Rattle.sheet.specs.Text.{fieldOf, lineOf}
+use Rattle.sheet.specs.Walk.{startsWith, fieldsOf}
 use Rattle.sheet.proofs.Fields.{After, nothing, tab, newline, after-field}
 use Rattle.sheet.proofs.Lines.{lines-ended}
-use Rattle.walker.specs.Places.{lineEnd, behindEnd, behindField, behindLine}
+use Rattle.walker.specs.Places.{lineEnd, behindEnd, behindLine, goesOn, Along}
 
 -- The place behind a line's start is beyond it, and not past the end.
 pub line-beyond : (t : List ℕ) (at : ℕ) → at < length t → (at < behindLine t at) × (behindLine t at ≤ length t)
@@ -37,26 +35,26 @@ behind-rest t end = go (ltb end (length t)) refl
 behind-part : (t : List ℕ) (at n : ℕ) → drop (behindEnd (length t) (at + n)) t ≡ drop (suc n) (drop at t)
 behind-part t at n = behind-rest t (at + n) ∙ (ap (λ (k : ℕ). drop k t) (sym (add-suc at n)) ∙ sym (drop-drop (suc n) at t))
 
--- From a line that is ended on, the sheet's lines are the walker's line, read, and the lines from its next line on.
-pub line-by-line : (t : List ℕ) (at : ℕ) → ended (drop at t) ≡ true
-    → sheetLines (drop at t) ≡ lineRead (lineOf (drop at t)) ∷ sheetLines (drop (behindLine t at) t)
-line-by-line t at e = rw (behind-part t at (length (lineOf (drop at t)))) (lines-ended (drop at t) e)
-
 one-more : {b : ℕ} {v : List ℕ} (t : List ℕ) (n : ℕ) → drop n t ≡ b ∷ v → drop (suc n) t ≡ v
 one-more t n p = ap (λ (m : ℕ). drop m t) (sym (add-one n)) ∙ (sym (drop-drop 1 n t) ∙ ap (drop 1) p)
 
--- From a field that a tab ends on, the line's fields are the walker's field and the fields from its next field on.
-pub field-by-field : (t u : List ℕ) (at : ℕ) → drop (length (fieldOf (drop at t))) (drop at t) ≡ TAB ∷ u
-    → fieldsOf (drop at t) ≡ fieldOf (drop at t) ∷ fieldsOf (drop (behindField t at) t)
-field-by-field t u at e = rw (behind-part t at n) (go refl (after-field s) e)
+-- Behind a field that is not its line's last stand the others; one that byte 10 ends, or nothing, is the last.
+next-fields : (s : List ℕ) → goesOn (drop (length (fieldOf s)) s) ≡ true → fieldsOf s ≡ fieldOf s ∷ fieldsOf (drop (suc (length (fieldOf s))) s)
+unfolding startsWith
+next-fields s e = go refl (after-field s) e
   where
-    s : List ℕ
-    s = drop at t
-
     n : ℕ
     n = length (fieldOf s)
 
-    go : {l : List ℕ} → drop n s ≡ l → After s l → l ≡ TAB ∷ u → fieldsOf s ≡ fieldOf s ∷ fieldsOf (drop (suc n) s)
-    go p (nothing d) e = absurd (omega (arith, ap length e))
+    go : {l : List ℕ} → drop n s ≡ l → After s l → goesOn l ≡ true → fieldsOf s ≡ fieldOf s ∷ fieldsOf (drop (suc n) s)
+    go p (nothing d) e = let z : _≡_ {A = ℕ} 0 1 = cc in absurd (omega arith)
     go p (tab v f d l) e = f ∙ ap (λ (x : List ℕ). fieldOf s ∷ fieldsOf x) (sym (one-more s n p))
-    go p (newline v f d l) e = absurd (omega (arith, ap (λ (x : List ℕ). getD x 0 0) e))
+    go p (newline v f d l) e = let z : _≡_ {A = ℕ} 0 1 = cc in absurd (omega arith)
+
+pub along : (t : List ℕ) (at : ℕ) → Along t at
+along t at =
+    let n = length (fieldOf (drop at t)) in
+    record {
+      lines = λ e. rw (behind-part t at (length (lineOf (drop at t)))) (lines-ended (drop at t) e);
+      fields = λ e. rw (behind-part t at n) (next-fields (drop at t) (rw (drop-drop n at t) e));
+    }

@@ -91,7 +91,8 @@ fn turn<'a>(work: &Work<'a>, wire: usize) -> Result<Turn<'a>, Option<Branch>> {
     })
 }
 
-/// The lowest unused clear level, else the least loaded clear one.
+/// K5, K6: the lowest level that is unused and clear, or of the clear ones the
+/// least loaded.
 fn level(work: &Work, turn: &Turn, taken: &[i32]) -> Option<(i32, Branch)> {
     let end = cell(turn.sink, (turn.sink_x, 0)).1;
     let cells = &work.row_cells[&turn.row];

@@ -130,7 +130,7 @@ fn pair(
     (hang, tap)
 }
 
-/// One row's gate-sides and deliveries, by y, x, node, port.
+/// R10, R11: one row's gate-sides and deliveries, in the order of T2.
 fn row(work: &mut Work, group: &Group, common: &Common, tap: Feed, stop: &Stop) {
     let wires = &work.facts.board.wires;
     let mut taps: Vec<&Tap> = group.taps.iter().filter(|t| t.row == stop.row).collect();

@@ -1,4 +1,4 @@
-//! Stops and levels of one page, before any of its rerouters.
+//! V1: stops and levels of one page. Its rerouters come after all of them.
 
 use super::branch::Branch;
 use super::{Lane, Work};

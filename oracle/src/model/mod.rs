@@ -82,20 +82,44 @@ impl Work<'_> {
     }
 }
 
-/// The plan by document 01's rules, or refusal 8, and the branches met.
-pub fn run(board: &Board) -> (Result<Plan, Refusal>, Counts) {
-    let facts = Facts::new(board);
-    let groups = facts.groups();
-    let mut work = Work {
-        facts: &facts,
-        groups: &groups,
+fn new_work<'a>(facts: &'a Facts<'a>, groups: &'a [Group]) -> Work<'a> {
+    Work {
+        facts,
+        groups,
         plan: Plan::default(),
         row_cells: HashMap::new(),
         row_top: HashMap::new(),
         suppressed: HashSet::new(),
         delivered: HashSet::new(),
         counts: Counts::default(),
-    };
+    }
+}
+
+/// The corner pass alone, on a bus that is handed in.
+pub fn turn(board: &Board, handed: &Handed) -> Vec<Corner> {
+    let facts = Facts::new(board);
+    let mut work = new_work(&facts, &[]);
+    bricks(&mut work);
+    for b in &handed.beside {
+        let cells = work.row_cells.entry((b.page, b.row)).or_default();
+        cells.push((b.x, b.x + 2, b.y, b.y + 2));
+    }
+    work.suppressed.extend(&handed.suppressed);
+    corners::lay(&mut work);
+    let wires = work.plan.bus_wires.iter().filter_map(|b| b.delivery);
+    (work.plan.rerouters.iter().zip(wires))
+        .map(|(brick, (wire, _))| Corner {
+            brick: brick.clone(),
+            wire,
+        })
+        .collect()
+}
+
+/// The plan by document 01's rules, or refusal 8, and the branches met.
+pub fn run(board: &Board) -> (Result<Plan, Refusal>, Counts) {
+    let facts = Facts::new(board);
+    let groups = facts.groups();
+    let mut work = new_work(&facts, &groups);
     count_wires(&mut work);
     bricks(&mut work);
     let pages: Vec<Vec<Lane>> = (0..board.pages.len())
@@ -219,7 +243,7 @@ fn demands(work: &mut Work, page: usize) -> Vec<Lane> {
     lanes
 }
 
-/// First fit, in order of span down, consumers down, first wire up.
+/// L2, L3: the order of packing, then first fit.
 fn pack(work: &mut Work, lanes: &mut [Lane]) -> usize {
     let groups = work.groups;
     let mut order: Vec<usize> = (0..lanes.len()).collect();
@@ -250,7 +274,7 @@ fn pack(work: &mut Work, lanes: &mut [Lane]) -> usize {
     last_rows.len()
 }
 
-/// Laid when the source anchor is unplaced or the x range is at least 6.
+/// T1: the source is unplaced, or it and the taps lie far enough apart.
 fn is_laid(work: &mut Work, lane: &Lane) -> bool {
     let g = &work.groups[lane.group];
     let Some((x, _)) = work.facts.body(g.source_anchor).and_then(|n| n.at) else {

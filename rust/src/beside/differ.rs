@@ -1,6 +1,9 @@
 //! Many sheets, or demand lists, of a seed and size through both sides.
 
-use super::room::{Lending, Room};
+use super::both::Both;
+use super::buses::{self, Case};
+use super::handed::{self, Cause, Due};
+use super::room::{Lending, Reports, Room, Way};
 use super::truth::Truth;
 use super::{lists, reading, sheets, typed};
 use oracle::plan::Plan;
@@ -24,7 +27,27 @@ pub struct Tally {
     totals: [usize; 5],
     pages: usize,
     pages_with_lanes: usize,
+    /// How often each of the three calls was refused.
+    refused: [usize; 3],
+    pub handed: HandedTally,
     pub different: usize,
+}
+
+/// What came of the buses that were handed to `lay_mini_bus`.
+#[derive(Clone, Debug, Default)]
+pub struct HandedTally {
+    /// Refused with 7: a short buffer, a count above its buffer's length, too
+    /// little room; of these by a single row.
+    pub causes: [usize; 3],
+    pub by_a_row: usize,
+    /// Of the last two, with a 513th lane besides.
+    pub crowded_too: usize,
+    /// Accepted with a buffer filled to its last named row by the bus and all
+    /// that may turn.
+    pub tight: usize,
+    /// Accepted, and a corner was laid; and how many were.
+    pub cornered: usize,
+    pub corners: usize,
 }
 
 /// A difference made small.
@@ -54,11 +77,13 @@ pub fn run(
     tell: &mut dyn FnMut(&Difference),
 ) -> Option<Tally> {
     let mut tally = Tally::default();
+    let mut both = both_of(memory);
     let mut room = room_of(memory);
     for item in 0..count {
         let difference = match size {
             "lanes" => one_list(&mut tally, seed, item),
-            _ => one_sheet(&mut tally, &mut room, seed, item, size, memory)?,
+            "handed" => one_bus(&mut tally, &mut room, seed, item, memory),
+            _ => one_sheet(&mut tally, &mut both, seed, item, size, memory)?,
         };
         if let Some(difference) = difference {
             tell(&difference);
@@ -74,28 +99,35 @@ fn room_of(memory: Memory) -> Room {
     }
 }
 
+fn both_of(memory: Memory) -> Both {
+    match memory {
+        Memory::Reused => Both::default(),
+        Memory::Anew => Both::anew(),
+    }
+}
+
 /// Everything that can differ on a sheet.
-fn faults(room: &mut Room, sheet: &[u8], lending: &Lending, limits: &Limits) -> Vec<String> {
-    all_faults(room, sheet, &Truth::of(sheet), lending, limits)
+fn faults(both: &mut Both, sheet: &[u8], lending: &Lending, limits: &Limits) -> Vec<String> {
+    all_faults(both, sheet, &Truth::of(sheet), lending, limits)
 }
 
 fn all_faults(
-    room: &mut Room,
+    both: &mut Both,
     sheet: &[u8],
     truth: &Truth,
     lending: &Lending,
     limits: &Limits,
 ) -> Vec<String> {
     let mut faults = reading::faults(sheet, limits);
-    let found = room.call(sheet, lending);
-    faults.extend(truth.faults(&found, lending));
+    let pair = both.call(sheet, lending);
+    faults.extend(pair.faults(truth, lending));
     faults.extend(typed::faults(sheet, truth));
     faults
 }
 
 fn one_sheet(
     tally: &mut Tally,
-    room: &mut Room,
+    both: &mut Both,
     seed: u64,
     item: u64,
     size: &str,
@@ -110,7 +142,7 @@ fn one_sheet(
     };
     let truth = Truth::of(&sheet);
     tally.add(&truth, &lending);
-    let found = all_faults(room, &sheet, &truth, &lending, &limits);
+    let found = all_faults(both, &sheet, &truth, &lending, &limits);
     if found.is_empty() {
         return Some(None);
     }
@@ -120,13 +152,13 @@ fn one_sheet(
     }
     // Each try has buffers of its own: a difference that hangs on what an
     // earlier sheet left in them is told as it is.
-    let again = |s: &[u8]| faults(&mut room_of(memory), s, &lending, &limits);
+    let again = |s: &[u8]| faults(&mut both_of(memory), s, &lending, &limits);
     let small = shrink::sheet(&sheet, |s| !again(s).is_empty());
     let told = format!(
         "{found:?}\nshrunk, {lending:?}: {:?}\noriginal: {}\nlibrary: {:?}",
         again(&small),
         answer(&Truth::of(&small)),
-        room_of(memory).call(&small, &lending)
+        both_of(memory).call(&small, &lending)
     );
     Some(Some(Difference {
         item,
@@ -140,6 +172,54 @@ fn answer(truth: &Truth) -> String {
         Ok(_) => format!("\n{}", truth.sheet()),
         Err(refusal) => format!("{refusal:?}"),
     }
+}
+
+/// A bus that is handed to `lay_mini_bus`. It is made from the sheet and the
+/// item's number, so that of a smaller sheet it can be made again.
+fn one_bus(
+    tally: &mut Tally,
+    room: &mut Room,
+    seed: u64,
+    item: u64,
+    memory: Memory,
+) -> Option<Difference> {
+    let case = Case::of(&buses::sheet(seed, item), seed, item);
+    let due = Due::of(&case);
+    tally.add_handed(&due);
+    let found = handed::faults(room, &case, &due);
+    if found.is_empty() {
+        return None;
+    }
+    tally.different += 1;
+    if tally.different > TOLD {
+        return None;
+    }
+    let again = |s: &[u8]| {
+        let case = Case::of(s, seed, item);
+        handed::faults(&mut room_of(memory), &case, &Due::of(&case))
+    };
+    let small = shrink::sheet(&case.sheet, |s| !again(s).is_empty());
+    let made = Case::of(&small, seed, item);
+    let due = Due::of(&made);
+    // The buffers can be made again from the seed: long ones are not shown.
+    let content = match made.content.ports.len() {
+        0..9 => format!("{:?}", made.content),
+        _ => "long buffers".to_string(),
+    };
+    let told = format!(
+        "{found:?}\nshrunk, {:?}, {:?}: {:?}\ndue: {:?}, by {:?}, a 513th lane {}\nhanded: {content}",
+        made.held,
+        made.lending,
+        again(&small),
+        due.report,
+        due.cause,
+        due.crowded
+    );
+    Some(Difference {
+        item,
+        small: String::from_utf8_lossy(&small).into_owned(),
+        told,
+    })
 }
 
 fn one_list(tally: &mut Tally, seed: u64, item: u64) -> Option<Difference> {
@@ -171,11 +251,40 @@ fn one_list(tally: &mut Tally, seed: u64, item: u64) -> Option<Difference> {
 
 impl Tally {
     fn add(&mut self, truth: &Truth, lending: &Lending) {
-        let refusal = truth.asked(lending).0.refusal;
+        let refusals = |way| Reports::refusals(&truth.reports(lending, way));
+        let refusal = refusals(Way::Route)[0].0;
         self.outcomes[refusal] += 1;
+        for (sum, (number, _)) in self.refused.iter_mut().zip(refusals(Way::Apart)) {
+            *sum += usize::from(number != 0);
+        }
         if let (Ok(plan), 0) = (&truth.plan, refusal) {
             self.add_plan(plan);
         }
+    }
+
+    fn add_handed(&mut self, due: &Due) {
+        self.outcomes[due.report.refusal] += 1;
+        let h = &mut self.handed;
+        let at_fault = match due.cause {
+            None => false,
+            Some(Cause::Buffer) => {
+                h.causes[0] += 1;
+                false
+            }
+            Some(Cause::Count) => {
+                h.causes[1] += 1;
+                true
+            }
+            Some(Cause::Room) => {
+                h.causes[2] += 1;
+                h.by_a_row += usize::from(due.fit.over == 1);
+                true
+            }
+        };
+        h.crowded_too += usize::from(at_fault && due.crowded);
+        h.tight += usize::from(due.report.refusal == 0 && due.fit.tight);
+        h.cornered += usize::from(due.corners > 0);
+        h.corners += due.corners;
     }
 
     fn add_plan(&mut self, plan: &Plan) {
@@ -191,23 +300,6 @@ impl Tally {
         self.pages += plan.pages.len();
         self.pages_with_lanes += plan.pages.iter().filter(|p| p.lanes > 0).count();
     }
-
-    /// Adds another run's counts.
-    pub fn join(&mut self, other: &Self) {
-        let add = |to: &mut [usize], from: &[usize]| {
-            for (sum, n) in to.iter_mut().zip(from) {
-                *sum += n;
-            }
-        };
-        add(&mut self.outcomes, &other.outcomes);
-        add(&mut self.parts, &other.parts);
-        add(&mut self.totals, &other.totals);
-        self.laid += other.laid;
-        self.cornered += other.cornered;
-        self.pages += other.pages;
-        self.pages_with_lanes += other.pages_with_lanes;
-        self.different += other.different;
-    }
 }
 
 impl fmt::Display for Tally {
@@ -217,6 +309,9 @@ impl fmt::Display for Tally {
         for (i, n) in refused.iter().enumerate().filter(|(_, n)| **n > 0) {
             write!(f, "; refused with {}: {n}", i + 1)?;
         }
+        if self.handed.causes != [0; 3] || self.handed.corners > 0 {
+            write!(f, "\n{}", self.handed)?;
+        }
         if self.totals == [0; 5] {
             return Ok(());
         }
@@ -224,12 +319,33 @@ impl fmt::Display for Tally {
         let (pages, with_lanes) = (self.pages, self.pages_with_lanes);
         let [rerouters, bus_wires, deliveries, direct, groups] = self.totals;
         let [_, source, head, link, tap, gate_side, corner] = self.parts;
+        let [plan_bus, lay_bus, lay_mini_bus] = self.refused;
         write!(
             f,
             "
   plans with rerouters {laid}, with corners {cornered}; pages {pages}, with lanes {with_lanes}
   rerouters {rerouters}, bus wires {bus_wires}, deliveries {deliveries}, direct {direct}, groups {groups}
-  sources {source}, heads {head}, links {link}, taps {tap}, gate-sides {gate_side}, corners {corner}"
+  sources {source}, heads {head}, links {link}, taps {tap}, gate-sides {gate_side}, corners {corner}
+  of the three calls refused: plan_bus {plan_bus}, lay_bus {lay_bus}, lay_mini_bus {lay_mini_bus}"
+        )
+    }
+}
+
+impl fmt::Display for HandedTally {
+    fn fmt(&self, f: &mut fmt::Formatter<'_>) -> fmt::Result {
+        let [buffer, count, room] = self.causes;
+        let Self {
+            by_a_row,
+            crowded_too,
+            tight,
+            cornered,
+            corners,
+            ..
+        } = self;
+        write!(
+            f,
+            "  7 for a short buffer {buffer}, a count over its buffer {count}, too little room {room}, of these by one row {by_a_row}
+  counts at fault and a 513th lane {crowded_too}; accepted with not a row to spare {tight}, with corners {cornered}, corners {corners}"
         )
     }
 }

@@ -1,7 +1,10 @@
 //! The library beside the original: the same sheets through both, with every
 //! length and poison in every buffer.
 
+pub mod both;
+pub mod buses;
 pub mod differ;
+pub mod handed;
 pub mod lists;
 pub mod plain;
 pub mod reading;

@@ -1,11 +1,11 @@
 //! Sheets of each size, from a seed.
 
-use super::room::{Lending, Rows, SLICES, Way};
+use super::room::{Lending, Rows, SLICES};
 use oracle::rng::Rng;
 use oracle::{Limits, r#gen};
 
 /// The sizes that `differ` takes besides the generator's boards.
-pub const OTHERS: [&str; 4] = ["damaged", "scratched", "to-the-most", "lanes"];
+pub const OTHERS: [&str; 5] = ["damaged", "scratched", "to-the-most", "lanes", "handed"];
 
 /// Sheet `i` of a seed and size, or `None` where the word names no size.
 pub fn sheet(seed: u64, i: u64, size: &str) -> Option<Vec<u8>> {
@@ -17,23 +17,22 @@ pub fn sheet(seed: u64, i: u64, size: &str) -> Option<Vec<u8>> {
     }
 }
 
-/// The lengths of the slices, what stands in them beforehand, and the calls,
-/// for sheet `i` of a seed.
+/// The lengths of the slices and what stands in them beforehand, for sheet `i`
+/// of a seed: poison in the output buffers.
 pub fn lending(seed: u64, i: u64) -> Lending {
     let rng = &mut Rng::for_item(!seed, i);
-    let fills = [None, Some(0), Some(u32::MAX), Some(0xdead_beef)];
+    let poison = [0, u32::MAX, 0xdead_beef, rng.number() as u32];
     Lending {
         rows: rows(rng),
-        output: rng.pick(&fills),
-        work: rng.pick(&fills),
-        way: rng.pick(&[Way::Route, Way::Route, Way::Apart, Way::Pages]),
+        output: Some(rng.pick(&poison)),
+        work: rng.pick(&[None, Some(0), Some(u32::MAX), Some(0xdead_beef)]),
     }
 }
 
 /// Rows more or fewer than named. Of ten sheets six have slices of just the
 /// length named; two have one slice a row short, one of these beside a long
 /// one; and two have one a row long.
-fn rows(rng: &mut Rng) -> Rows {
+pub fn rows(rng: &mut Rng) -> Rows {
     let mut rows = [0; SLICES];
     let way = rng.below(10);
     if matches!(way, 7..=9) {

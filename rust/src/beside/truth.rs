@@ -1,11 +1,12 @@
 //! What the library has to answer: the oracle's reader, then the original's
 //! three calls, and refusal 7 from the lengths lent.
 
-use super::room::{Found, Lending, Lines, Way};
-use crate::calls::{PageRow, PlanNumbers};
+use super::room::{Found, Lending, Lines, Reports, Rows, Way};
+use crate::calls::{BusCounts, MiniNumbers, PageRow, PagesNumbers, PlanNumbers, PortRow};
 use oracle::board::{self, Board, Lent, Limits, Refusal};
-use oracle::plan::Plan;
+use oracle::plan::{End, PART_CORNER, PageAnswer, Plan};
 use oracle::{check3, harness};
+use std::collections::BTreeSet;
 
 /// A sheet's board, or its refusal by 1 to 6; and the board's plan, or its
 /// refusal by 8.
@@ -13,9 +14,7 @@ pub struct Truth {
     pub board: Result<Board, Refusal>,
     pub plan: Result<Plan, Refusal>,
     lines: Lines,
-    /// The plan's sheet, and the clauses of demand 3 that it breaks.
     plan_sheet: String,
-    broken: Vec<String>,
 }
 
 impl Truth {
@@ -25,18 +24,12 @@ impl Truth {
             Ok(board) => harness::run_plan(board),
             Err(refusal) => Err(*refusal),
         };
-        let mut truth = Self {
+        Self {
             lines: Lines::of(sheet),
-            plan_sheet: String::new(),
-            broken: Vec::new(),
+            plan_sheet: plan.as_ref().map(Plan::sheet).unwrap_or_default(),
             board,
             plan,
-        };
-        if let (Ok(board), Ok(plan)) = (&truth.board, &truth.plan) {
-            truth.plan_sheet = plan.sheet();
-            truth.broken = broken(board, &truth.plan_sheet);
         }
-        truth
     }
 
     /// The plan sheet, empty on a refusal.
@@ -44,81 +37,83 @@ impl Truth {
         &self.plan_sheet
     }
 
-    /// The refusal that slices of these lengths bring, if they do: 1 to 7. Of
-    /// the work space only the rows of the shortest slice count, of the marks
-    /// half of them.
-    fn turned_away(&self, lending: &Lending, pages: bool, bus: bool) -> Option<Refusal> {
-        let board = match &self.board {
-            Ok(board) => board,
-            Err(refusal) => return Some(*refusal),
+    /// The refusal that is due from a call which is lent page answers, or the
+    /// buffers of a bus, or both: 1 to 8.
+    fn refusal(&self, rows: &Rows, pages: bool, bus: bool) -> Option<Refusal> {
+        let short = match &self.board {
+            Ok(board) => too_short(board, &self.lines, rows, pages, bus),
+            Err(refusal) => Some(*refusal),
         };
-        let asked = Lent::for_board(board);
-        let [
-            rerouters,
-            bus_wires,
-            suppressed,
-            lent_pages,
-            work @ ..,
-            marks,
-        ] = self.lines.lengths(&lending.rows);
-        let rows = work.into_iter().min().unwrap_or(0);
-        let mut lent = Lent {
-            work: 96 * rows,
-            ..asked
-        };
-        if pages {
-            lent.pages = lent_pages;
-        }
-        if bus {
-            lent.work = 96 * rows.min(marks / 2);
-            lent.rerouters = rerouters;
-            lent.bus_wires = bus_wires;
-            lent.suppressed = suppressed;
-        }
-        board::too_short(board, &lent)
+        short.or(self.plan.as_ref().err().copied())
     }
 
-    /// The refusal that is due, and how many pages are answered all the same:
-    /// where the calls run apart, `plan_bus` may be accepted and `lay_bus` not.
-    fn due(&self, lending: &Lending) -> (Option<Refusal>, usize) {
-        let crowded = self.plan.as_ref().err().copied();
-        let first = match lending.way {
-            Way::Route => self.turned_away(lending, true, true),
-            Way::Apart | Way::Pages => self.turned_away(lending, true, false),
+    /// What the calls have to answer.
+    pub fn reports(&self, lending: &Lending, way: Way) -> Reports {
+        let refusal = |pages, bus| {
+            let refusal = self.refusal(&lending.rows, pages, bus);
+            refusal.map_or((0, 0), |r| (r.number as usize, r.line))
         };
-        if let Some(refusal) = first.or(crowded) {
-            return (Some(refusal), 0);
-        }
-        match lending.way {
-            Way::Apart => (self.turned_away(lending, false, true), self.lines.pages),
-            Way::Route | Way::Pages => (None, self.lines.pages),
+        // A plan that no call is to lay is as none.
+        let plan = self.plan.as_ref().ok();
+        let whole = plan.map(numbers).unwrap_or_default();
+        let corners = plan.map_or(0, corners);
+        match way {
+            Way::Route => Reports::Route(match refusal(true, true) {
+                (0, _) => whole,
+                (refusal, place) => refused(refusal, place),
+            }),
+            Way::Apart => {
+                let (number, place) = refusal(true, false);
+                let planned = PagesNumbers {
+                    refusal: number,
+                    place,
+                    pages: if number == 0 { self.lines.pages } else { 0 },
+                };
+                let (number, place) = refusal(false, true);
+                let (laid, turned) = match number {
+                    // Each corner has two bus wires and a port of its own.
+                    0 => (
+                        PlanNumbers {
+                            rerouters: whole.rerouters - corners,
+                            bus_wires: whole.bus_wires - 2 * corners,
+                            ports: whole.ports - corners,
+                            ..whole
+                        },
+                        BusCounts {
+                            rerouters: whole.rerouters,
+                            bus_wires: whole.bus_wires,
+                            ports: whole.ports,
+                        },
+                    ),
+                    _ => (refused(number, place), BusCounts::default()),
+                };
+                let turned = MiniNumbers {
+                    refusal: number,
+                    place,
+                    counts: turned,
+                };
+                Reports::Apart {
+                    planned,
+                    laid,
+                    turned,
+                }
+            }
         }
     }
 
-    /// Report and page answers that are due.
-    pub fn asked(&self, lending: &Lending) -> (PlanNumbers, Vec<PageRow>) {
-        let (refusal, pages) = self.due(lending);
-        let answer = |p: &oracle::plan::PageAnswer| [p.lanes as u32, p.band as u32];
-        let answers = match &self.plan {
-            Ok(plan) => plan.pages.iter().take(pages).map(answer).collect(),
-            Err(_) => Vec::new(),
+    /// The ports that `lay_bus` has to leave: those to which the bus wires
+    /// before the first corner deliver.
+    fn laid_ports(&self, laid: &PlanNumbers) -> Vec<PortRow> {
+        let Ok(plan) = &self.plan else {
+            return Vec::new();
         };
-        let report = match (refusal, &self.plan) {
-            (Some(refusal), _) => PlanNumbers {
-                refusal: refusal.number as usize,
-                place: refusal.line,
-                ..PlanNumbers::default()
-            },
-            (None, Ok(plan)) if lending.way != Way::Pages => PlanNumbers {
-                rerouters: plan.rerouters.len(),
-                bus_wires: plan.bus_wires.len(),
-                ports: plan.suppressed.len(),
-                groups: plan.totals[4],
-                ..PlanNumbers::default()
-            },
-            _ => PlanNumbers::default(),
+        let port = |end: &End| match end {
+            End::Port(p) => Some([p.node, u32::from(p.port)]),
+            End::Bus(_) => None,
         };
-        (report, answers)
+        let wires = plan.bus_wires.iter().take(laid.bus_wires);
+        let ports: BTreeSet<PortRow> = wires.filter_map(|b| port(&b.to)).collect();
+        ports.into_iter().collect()
     }
 
     /// In words, what is not as it has to be; empty where nothing is.
@@ -126,31 +121,121 @@ impl Truth {
         let mut faults: Vec<String> = (found.spoilt.iter())
             .map(|what| format!("written: {what}"))
             .collect();
-        let (report, pages) = self.asked(lending);
-        if found.report != report {
-            faults.push(format!("report: {:?}, not {report:?}", found.report));
+        let way = match found.reports {
+            Reports::Route(_) => Way::Route,
+            Reports::Apart { .. } => Way::Apart,
+        };
+        let due = self.reports(lending, way);
+        if found.reports != due {
+            faults.push(format!("answers: {:?}, not {due:?}", found.reports));
         }
-        if found.pages != pages {
-            faults.push(format!("pages: {:?}, not {pages:?}", found.pages));
-        }
-        if report.refusal != 0 || lending.way == Way::Pages {
-            return faults;
-        }
-        if found.plan == self.plan_sheet {
-            faults.extend(self.broken.iter().cloned());
-        } else {
-            faults.push("plan sheet: another than the original's".to_string());
-            if let Ok(board) = &self.board {
-                faults.extend(broken(board, &found.plan));
+        let (pages, bus) = match due {
+            Reports::Route(r) => (r.refusal == 0, r.refusal == 0),
+            Reports::Apart {
+                planned,
+                laid,
+                turned,
+            } => {
+                if found.laid_ports != self.laid_ports(&laid) {
+                    faults.push(format!("ports after lay_bus: {:?}", found.laid_ports));
+                }
+                (planned.refusal == 0, turned.refusal == 0)
             }
+        };
+        let answers = if pages { self.answers() } else { Vec::new() };
+        if found.pages != answers {
+            faults.push(format!("pages: {:?}, not {answers:?}", found.pages));
+        }
+        let sheet = match (bus, pages) {
+            (false, _) => "",
+            (true, true) => &self.plan_sheet,
+            // `plan_bus` alone is refused, for its page answers: the plan has
+            // all but these, which stand in front.
+            (true, false) => {
+                let front = self.plan_sheet.split_inclusive('\n');
+                let front = front.take_while(|line| line.starts_with('L'));
+                &self.plan_sheet[front.map(str::len).sum()..]
+            }
+        };
+        if found.plan != sheet {
+            faults.push("plan sheet: another than the original's".to_string());
         }
         faults
     }
+
+    fn answers(&self) -> Vec<PageRow> {
+        let answer = |p: &PageAnswer| [p.lanes as u32, p.band as u32];
+        match &self.plan {
+            Ok(plan) => plan.pages.iter().map(answer).collect(),
+            Err(_) => Vec::new(),
+        }
+    }
+
+    /// The clauses of demand 3 that a plan sheet breaks.
+    pub fn broken(&self, plan: &str) -> Vec<String> {
+        let Ok(board) = &self.board else {
+            return Vec::new();
+        };
+        (check3::check_sheet(board, plan.as_bytes()).iter())
+            .map(|f| format!("check3 {}: {}", f.clause, f.what))
+            .collect()
+    }
 }
 
-/// The clauses of demand 3 that a plan sheet breaks.
-fn broken(board: &Board, plan: &str) -> Vec<String> {
-    (check3::check_sheet(board, plan.as_bytes()).iter())
-        .map(|f| format!("check3 {}: {}", f.clause, f.what))
-        .collect()
+/// Refusal 7, where slices of these lengths bring it. Of the work space only
+/// the rows of the shortest slice count, of the marks half of them; without a
+/// bus there are no marks.
+pub fn too_short(
+    board: &Board,
+    lines: &Lines,
+    rows: &Rows,
+    pages: bool,
+    bus: bool,
+) -> Option<Refusal> {
+    let [
+        rerouters,
+        bus_wires,
+        suppressed,
+        lent_pages,
+        work @ ..,
+        marks,
+    ] = lines.lengths(rows);
+    let rows = work.into_iter().min().unwrap_or(0);
+    let mut lent = Lent {
+        work: 96 * rows,
+        ..Lent::for_board(board)
+    };
+    if pages {
+        lent.pages = lent_pages;
+    }
+    if bus {
+        lent.work = 96 * rows.min(marks / 2);
+        lent.rerouters = rerouters;
+        lent.bus_wires = bus_wires;
+        lent.suppressed = suppressed;
+    }
+    board::too_short(board, &lent)
+}
+
+fn refused(refusal: usize, place: usize) -> PlanNumbers {
+    PlanNumbers {
+        refusal,
+        place,
+        ..PlanNumbers::default()
+    }
+}
+
+fn numbers(plan: &Plan) -> PlanNumbers {
+    PlanNumbers {
+        rerouters: plan.rerouters.len(),
+        bus_wires: plan.bus_wires.len(),
+        ports: plan.suppressed.len(),
+        groups: plan.totals[4],
+        ..PlanNumbers::default()
+    }
+}
+
+fn corners(plan: &Plan) -> usize {
+    let corner = |r: &&oracle::plan::Rerouter| r.part == PART_CORNER;
+    plan.rerouters.iter().filter(corner).count()
 }

@@ -3,7 +3,7 @@
 use oracle::rng::Rng;
 use oracle::{Board, Limits, board, r#gen, harness, lanes};
 use original::layout::bus::allocate_lanes;
-use panzhyqur::beside::room::{Lending, Room};
+use panzhyqur::beside::room::{Lending, Room, Way};
 use panzhyqur::beside::truth::Truth;
 use panzhyqur::beside::{plain, typed};
 use panzhyqur::calls::{self, Counts};
@@ -212,7 +212,7 @@ fn times(board: &Board, effort: Effort) -> Times {
 /// Whether the library's plan of a board is the original's.
 fn is_same(sheet: &[u8]) -> bool {
     let lending = Lending::default();
-    let found = Room::default().call(sheet, &lending);
+    let found = Room::default().call(sheet, &lending, Way::Route);
     Truth::of(sheet).faults(&found, &lending).is_empty()
 }
 

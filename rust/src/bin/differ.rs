@@ -11,27 +11,35 @@ const USAGE: &str = "\
 differ SEED COUNT SIZE [--anew]: the library beside the original
 
 COUNT sheets of a seed and size go through the library and through the original
-behind the oracle's reader: refusal and line, counts, page answers, the whole
-plan byte for byte, what must stay untouched in every buffer, demand 3; and the
-typed calls, the board's writer and the plan's reader. Slices are just as long as
-named, or one a row short or long. What differs is shrunk and printed, and the
-status is then 1.
+behind the oracle's reader. Each goes through `route`, and from the same poison
+through `plan_bus`, `lay_bus` and `lay_mini_bus` one after the other, the last
+with the counts and buffers that `lay_bus` left. Both are compared with the
+original: each call's refusal and line, counts, page answers, the whole plan byte
+for byte, what must stay untouched in every buffer, after each call; and with each
+other: answers, refusals, every row of the four output buffers. Demand 3 is
+checked on the plan of the three calls. Then the typed calls, the board's writer
+and the plan's reader. Slices are just as long as named, or one a row short or
+long. What differs is shrunk and printed, and the status is then 1.
 
 SIZE    tiny program medium full many-lanes
         full-typical full-random hot-rows tall-lanes crowded-corners
         damaged scratched to-the-most
         lanes   demand lists through the lane call
-        all     COUNT each of tiny, damaged, scratched and lanes, a tenth of
-                that program, a hundredth to-the-most, a 400th each of full
+        handed  `lay_mini_bus` on buffers with any content and counts that fit,
+                just fit or are at fault, some with a 513th lane besides: its
+                refusals by a model of the rule, its corners by the original
+        all     COUNT each of tiny, damaged, scratched, lanes and handed, a tenth
+                of that program, a hundredth to-the-most, a 400th each of full
                 and many-lanes
 --anew  makes the buffers of each sheet anew with just their length";
 
 /// Sizes of `all`, with what COUNT is divided by.
-const ALL: [(&str, u64); 8] = [
+const ALL: [(&str, u64); 9] = [
     ("tiny", 1),
     ("damaged", 1),
     ("scratched", 1),
     ("lanes", 1),
+    ("handed", 1),
     ("program", 10),
     ("to-the-most", 100),
     ("full", 400),

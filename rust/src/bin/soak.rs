@@ -2,7 +2,7 @@
 
 use oracle::rng::Rng;
 use oracle::shrink;
-use panzhyqur::beside::room::{Lending, Room, SLICES, Way};
+use panzhyqur::beside::room::{Found, Lending, Room, SLICES, Way};
 use panzhyqur::beside::sheets;
 use panzhyqur::beside::truth::Truth;
 use panzhyqur::stack::with_stack;
@@ -116,7 +116,7 @@ fn size_of(seed: u64, i: u64) -> &'static str {
 
 /// The lendings of one save: named lengths, each slice short, each long; on
 /// some boards again with the calls apart.
-fn lendings(rng: &mut Rng) -> Vec<Lending> {
+fn lendings(rng: &mut Rng) -> Vec<(Lending, Way)> {
     let mut all = Vec::new();
     let ways: &[Way] = match rng.below(4) {
         0 => &[Way::Route, Way::Apart],
@@ -129,10 +129,9 @@ fn lendings(rng: &mut Rng) -> Vec<Lending> {
                     rows: [0; SLICES],
                     output: Some(rng.number() as u32),
                     work: Some(rng.number() as u32),
-                    way: *way,
                 };
                 lending.rows[slice] = more;
-                all.push(lending);
+                all.push((lending, *way));
             }
         }
     }
@@ -148,33 +147,47 @@ fn save(tally: &mut Tally, room: &mut Room, sheet: &[u8], rng: &mut Rng, before:
         tally.deliveries += plan.totals[2];
     }
     let mut told = false;
-    for (k, lending) in lendings(rng).iter().enumerate() {
+    for (k, (lending, way)) in lendings(rng).iter().enumerate() {
         let start = Instant::now();
-        let found = room.call(sheet, lending);
+        let found = room.call(sheet, lending, *way);
+        let took = start.elapsed();
+        tally.calls += found.reports.refusals().len();
+        let mut faults = truth.faults(&found, lending);
         if k == 0 {
-            tally.longest = tally.longest.max(start.elapsed());
-            tally.outcomes[found.report.refusal.min(8)] += 1;
+            tally.longest = tally.longest.max(took);
+            tally.outcomes[found.reports.refusals()[0].0.min(8)] += 1;
+            // The other plans of the board are the same, or are told.
+            faults.extend(broken(&truth, &found));
         }
-        tally.calls += 1;
-        let faults = truth.faults(&found, lending);
         if !faults.is_empty() && !told {
             told = true;
             tally.different += 1;
             if before + tally.different <= TOLD {
-                tell(sheet, lending, &faults);
+                tell(sheet, lending, *way, &faults);
             }
         }
     }
 }
 
-fn tell(sheet: &[u8], lending: &Lending, faults: &[String]) {
+/// What a whole plan breaks of demand 3.
+fn broken(truth: &Truth, found: &Found) -> Vec<String> {
+    match found.reports.plan() {
+        Some(_) => truth.broken(&found.plan),
+        None => Vec::new(),
+    }
+}
+
+fn tell(sheet: &[u8], lending: &Lending, way: Way, faults: &[String]) {
     let again = |s: &[u8]| {
-        let found = Room::default().call(s, lending);
-        Truth::of(s).faults(&found, lending)
+        let found = Room::default().call(s, lending, way);
+        let truth = Truth::of(s);
+        let mut faults = truth.faults(&found, lending);
+        faults.extend(broken(&truth, &found));
+        faults
     };
     let small = shrink::sheet(sheet, |s| !again(s).is_empty());
     println!(
-        "differs: {faults:?}\nshrunk, {lending:?}: {:?}",
+        "differs: {faults:?}\nshrunk, {way:?}, {lending:?}: {:?}",
         again(&small)
     );
     println!("{}", String::from_utf8_lossy(&small));

@@ -1,95 +1,20 @@
-use native.Mathlib.Omega.{arith}
-use mathlib.Core.Path.{_≡_, refl, sym, ap, _∙_}
 use borrow.Author.Needs.{needs}
-use Rattle.board.specs.Board.{Board}
-use Rattle.board.proofs.Faults.{fresh-zeros}
-use Rattle.plan.specs.TextPlan.{BoardChecked, fitsLent}
-use Rattle.plan.proofs.Reading.{planning-refused, planning-fine, board-refused, board-fine}
+use Rattle.plan.specs.TextPlan.{fitsLent}
+use Rattle.plan.proofs.Surveying.{text-planned}
 use Rattle.plan.proofs.plan_text.Statement.{statement}
 use Rattle.plan.proofs.plan_text.Tie as tie
-use Rattle.plan.proofs.plan_text.Reads as reads
-use Rattle.plan.proofs.plan_text.Lts as lts
-use Rattle.board.proofs.refusals.check_board.Reads as check-board-reads
-use Rattle.plan.proofs.plan_fitting.Reads as plan-fitting-reads
 
-abbrev start : tie.After-plan-fitting-arg9 → tie.Start
-start c = c .before .before .before .before .before .before .before .before .before .before .before .before .before .before .before .before .before .before .before .before .before .before .before .before .before .before .before .before .before .before .before .before .before .before .before .before .before .before
+survey-text-requires : tie.Need-survey-text-requires
+survey-text-requires c κs = search needs
 
-checked : (c : tie.After-plan-fitting-arg9)
-    → (b : Board) × BoardChecked b (start c .args .most) (start c .args .text .now) (c .before .before .before .before .before .before .before .before .before .before .before .before .before .before .before .before .counts .given .0 .0) (c .before .before .before .before .before .before .before .before .before .before .before .before .before .before .before .before .before .before .before .before .before .before .before .before .before .before .before .check-board .last .1 .1 .0) (c .before .before .before .before .before .before .before .before .before .before .before .before .before .before .before .before .before .before .before .before .before .before .before .before .before .before .before .check-board .last .1 .1 .1 .0) (c .before .before .before .before .before .before .before .before .before .before .before .before .before .before .before .before .before .before .before .before .before .before .before .before .before .before .before .check-board .last .1 .1 .1 .1 .0)
-    (c .before .before .before .before .before .before .before .before .before .before .before .before .before .before .before .before .before .before .before .before .before .before .before .before .before .before .before .check-board .last .1 .1 .1 .1 .1 .1 .1 .1 .0) (c .before .before .before .before .before .before .before .before .before .before .before .before .before .before .before .before .before .before .before .before .before .before .before .before .before .before .before .check-board .last .1 .1 .1 .1 .1 .1 .1 .1 .1 .0) (c .before .before .before .before .before .before .before .before .before .before .before .before .before .before .before .before .before .before .before .before .before .before .before .before .before .before .before .check-board .last .1 .1 .1 .1 .1 .1 .1 .1 .1 .1 .0)
-checked c =
-    let d = c .before .before .before .before .before .before .before .before .before .before .before .before .before .before .before .before .before .before .before .before .before .before .before .before .before .before .before .check-board in
-    board-fine (start c .args .most) (start c .args .text .now) (d .last .1 .1 .0) (d .last .1 .1 .1 .0) (d .last .1 .1 .1 .1 .0) (d .last .1 .1 .1 .1 .1 .0) (d .last .1 .1 .1 .1 .1 .1 .0) (d .last .1 .1 .1 .1 .1 .1 .1 .0) (d .last .1 .1 .1 .1 .1 .1 .1 .1 .0) (d .last .1 .1 .1 .1 .1 .1 .1 .1 .1 .0) (d .last .1 .1 .1 .1 .1 .1 .1 .1 .1 .1 .0) (c .before .before .before .before .before .before .before .before .before .before .before .before .before .before .before .before .counts .given .0 .0) (start c .pre .1) (sym (c .before .before .before .before .before .before .before .before .before .before .before .before .before .before .before .before .counts .given .1) ∙ d .ensures .0) (d .ensures .1)
-
-slice-aggregate-check-board : tie.Need-slice-aggregate-check-board
-slice-aggregate-check-board c = search needs
-
-slice-aggregate-check-board-2 : tie.Need-slice-aggregate-check-board-2
-slice-aggregate-check-board-2 c = search needs
-
-slice-aggregate-check-board-3 : tie.Need-slice-aggregate-check-board-3
-slice-aggregate-check-board-3 c = search needs
-
-slice-aggregate-check-board-4 : tie.Need-slice-aggregate-check-board-4
-slice-aggregate-check-board-4 c = search needs
-
-slice-aggregate-check-board-5 : tie.Need-slice-aggregate-check-board-5
-slice-aggregate-check-board-5 c = search needs
-
-slice-aggregate-check-board-6 : tie.Need-slice-aggregate-check-board-6
-slice-aggregate-check-board-6 c = search needs
-
-slice-aggregate-check-board-7 : tie.Need-slice-aggregate-check-board-7
-slice-aggregate-check-board-7 c = search needs
-
-slice-aggregate-check-board-8 : tie.Need-slice-aggregate-check-board-8
-slice-aggregate-check-board-8 c = search needs
-
-slice-aggregate-check-board-9 : tie.Need-slice-aggregate-check-board-9
-slice-aggregate-check-board-9 c = search needs
-
-check-board-requires : tie.Need-check-board-requires
-check-board-requires c κs =
-    (c .before .before .before .before .before .before .before .before .before .before .pre .1, (fresh-zeros 4096 4096 4096 4096 (omega arith) (omega arith) (omega arith), (fresh-zeros 256 256 4096 256 (omega arith) (omega arith) (omega arith), fresh-zeros 4096 4096 4096 4096 (omega arith) (omega arith) (omega arith))))
-
-enum-known-number : tie.Need-enum-known-number
-enum-known-number c = search needs
-
-enum-known-counts : tie.Need-enum-known-counts
-enum-known-counts c = search needs
-
-slice-aggregate-plan-fitting : tie.Need-slice-aggregate-plan-fitting
-slice-aggregate-plan-fitting c = search needs
-
-slice-aggregate-plan-fitting-2 : tie.Need-slice-aggregate-plan-fitting-2
-slice-aggregate-plan-fitting-2 c = search needs
-
-slice-aggregate-plan-fitting-3 : tie.Need-slice-aggregate-plan-fitting-3
-slice-aggregate-plan-fitting-3 c = search needs
-
-slice-aggregate-plan-fitting-4 : tie.Need-slice-aggregate-plan-fitting-4
-slice-aggregate-plan-fitting-4 c = search needs
-
-slice-aggregate-plan-fitting-5 : tie.Need-slice-aggregate-plan-fitting-5
-slice-aggregate-plan-fitting-5 c = search needs
-
-slice-aggregate-plan-fitting-6 : tie.Need-slice-aggregate-plan-fitting-6
-slice-aggregate-plan-fitting-6 c = search needs
-
-plan-fitting-requires : tie.Need-plan-fitting-requires
-plan-fitting-requires c κs = (start c .pre .0, (start c .pre .1, checked c))
-
-returns : tie.Need-returns
-returns c =
-    let s = c .before .before .before .before .before .before .before .before .before .before .before .before .before .before .before .before .before .before .before .before .before .before .before in
-    rw (planning-refused (s .args .most) (s .args .text .now) (fitsLent (s .args .lent)) _ _ (board-refused (s .args .most) (s .args .text .now) _ _ (sym (c .before .number .given .1) ∙ c .before .before .before .before .before .before .before .before .before .before .before .before .check-board .ensures .0))) refl
+refuse-crowded-requires : tie.Need-refuse-crowded-requires
+refuse-crowded-requires c κs = search needs
 
 same-length : tie.Need-same-length
 same-length c = search needs
 
 same-length-2 : tie.Need-same-length-2
-same-length-2 c = c .before .before .before .before .before .before .before .before .before .plan-fitting .kept .1 .1 .1 .1 .1 .1 .1 .1 .1 .1 .1 .0
+same-length-2 c = search needs
 
 same-length-3 : tie.Need-same-length-3
 same-length-3 c = search needs
@@ -112,36 +37,18 @@ same-length-8 c = search needs
 same-length-9 : tie.Need-same-length-9
 same-length-9 c = search needs
 
-returns-2 : tie.Need-returns-2
-returns-2 c =
-    let d = c .before .before .before .before .before .before .before .before .before .before in
-    let s = start d in
-    rw (planning-fine (s .args .most) (s .args .text .now) (fitsLent (s .args .lent)) (checked d .0) (checked d .1 .fine)) (c .before .before .before .before .before .before .before .before .before .plan-fitting .ensures (checked d .0) (checked d .1))
+returns : tie.Need-returns
+returns c =
+    let s = c .before .before .before .before .before .before .before .before .before .before .before .before .before .before .before .before .before .before .before .before .before in
+    let d = c .before .before .before .before .before .before .before .before .before .before .survey-text in
+    text-planned (d .last .1 .1 .1 .0) (d .last .1 .1 .1 .1 .0) (d .last .1 .1 .1 .1 .1 .0) (d .last .1 .1 .1 .1 .1 .1 .0) (d .last .1 .1 .1 .1 .1 .1 .1 .0) (d .last .1 .1 .1 .1 .1 .1 .1 .1 .0) (s .args .most) (fitsLent (s .args .lent)) (s .args .text .now) (d .result) (c .refuse-crowded .result) (d .ensures) (c .refuse-crowded .ensures)
 
 pub plan-text-spec : {M : Type 1} → statement M
 plan-text-spec =
     tie.close
     (tie.spec
-    slice-aggregate-check-board
-    slice-aggregate-check-board-2
-    slice-aggregate-check-board-3
-    slice-aggregate-check-board-4
-    slice-aggregate-check-board-5
-    slice-aggregate-check-board-6
-    slice-aggregate-check-board-7
-    slice-aggregate-check-board-8
-    slice-aggregate-check-board-9
-    check-board-requires
-    enum-known-number
-    enum-known-counts
-    slice-aggregate-plan-fitting
-    slice-aggregate-plan-fitting-2
-    slice-aggregate-plan-fitting-3
-    slice-aggregate-plan-fitting-4
-    slice-aggregate-plan-fitting-5
-    slice-aggregate-plan-fitting-6
-    plan-fitting-requires
-    returns
+    survey-text-requires
+    refuse-crowded-requires
     same-length
     same-length-2
     same-length-3
@@ -151,4 +58,4 @@ plan-text-spec =
     same-length-7
     same-length-8
     same-length-9
-    returns-2)
+    returns)

@@ -21,7 +21,7 @@ pub mod pages {
     }
 }
 
-use gutter::{Body, chip_owners, lay_bus, lay_mini_bus, plan_bus};
+use gutter::{Body, ChipSubtree, chip_owners, lay_bus, lay_mini_bus, plan_bus};
 use pages::PageInfo;
 
 /// A code body with its placements final, pins included.
@@ -42,18 +42,33 @@ pub struct Routed {
     pub laid: usize,
 }
 
+impl LaidBody {
+    fn body<'a>(&'a self, owners: &'a ChipSubtree) -> Body<'a> {
+        Body {
+            module: &self.module,
+            placements: &self.placements,
+            rotations: &self.rotations,
+            node_row: &self.node_row,
+            page_infos: &self.page_infos,
+            owners,
+        }
+    }
+}
+
+/// `lay_mini_bus` without `lay_bus` before it, on a bus that is handed in: the
+/// cells of a row are those of the body.
+pub fn turn(laid_body: &LaidBody, bus: &mut BusLayout) {
+    let owners = chip_owners(&laid_body.module);
+    let body = laid_body.body(&owners);
+    let mut plan = plan_bus(&body);
+    lay_mini_bus(bus, &body, &laid_body.node_line, &mut plan);
+}
+
 /// `plan_bus`, then `lay_bus`, then `lay_mini_bus`, as `layout_code` runs them.
 /// Where `accept` turns the band widths away nothing more is laid.
 pub fn route(laid_body: &LaidBody, accept: impl Fn(&[i32]) -> bool) -> Routed {
     let owners = chip_owners(&laid_body.module);
-    let body = Body {
-        module: &laid_body.module,
-        placements: &laid_body.placements,
-        rotations: &laid_body.rotations,
-        node_row: &laid_body.node_row,
-        page_infos: &laid_body.page_infos,
-        owners: &owners,
-    };
+    let body = laid_body.body(&owners);
     let mut plan = plan_bus(&body);
     let band_widths: Vec<i32> = plan.pages.iter().map(|p| p.band_width).collect();
     if !accept(&band_widths) {

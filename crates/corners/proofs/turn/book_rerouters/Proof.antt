@@ -1,7 +1,7 @@
 -- Row after row goes in front of its chain.
 use borrow.Author.Needs.{needs}
-use Rattle.corners.proofs.HandedLaws.{rows-none, rows-more}
-use Rattle.corners.specs.Handed.{Rows}
+use Rattle.routes.proofs.Rows.{rows-none, rows-more}
+use Rattle.routes.specs.Buffers.{Rows}
 use Rattle.cells.proofs.Walks.{chained-none}
 use Rattle.cells.specs.Chains.{Walkable, brickBucket}
 use native.Mathlib.Omega.{arith}

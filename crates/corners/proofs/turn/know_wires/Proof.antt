@@ -1,7 +1,7 @@
 -- Row after row.
 use borrow.Author.Needs.{needs}
-use Rattle.corners.proofs.HandedLaws.{rows-none, rows-more}
-use Rattle.corners.specs.Handed.{Rows}
+use Rattle.routes.proofs.Rows.{rows-none, rows-more}
+use Rattle.routes.specs.Buffers.{Rows}
 use native.Mathlib.Omega.{arith}
 use native.Mathlib.Numerals.{add-one}
 use mathlib.Core.Path.{_≡_, subst}

@@ -1,5 +1,5 @@
 -- The wires that turn; where there is room for all of them, their corners.
-use Rattle.corners.proofs.TurnLaws.{lay-fits, corner-facts, flagged-in, turners-in, turning-count}
+use Rattle.corners.proofs.TurnLaws.{fresh-lists, lay-fits, corner-facts, flagged-in, turners-in, room-asked}
 use Rattle.corners.proofs.HandedLaws.{handed-in, mutes-in}
 use Rattle.board.specs.Board.{Board}
 use Rattle.routes.specs.Bus.{Bus}
@@ -9,8 +9,8 @@ use Rattle.corners.specs.Turning.{hasRoom, BoardOf}
 use Rattle.corners.specs.Handed.{busIn, Mutes, Handed}
 use borrow.Author.Tests.{not-true, not-false}
 use native.Mathlib.Omega.{arith}
-use lib.ListN.{length, length-replicate, getD-replicate}
-use mathlib.Core.Path.{_≡_, refl, ap, sym, _∙_}
+use lib.ListN.{length, length-replicate}
+use mathlib.Core.Path.{_≡_, refl, sym, _∙_}
 use Prim.Native.Nat.{ℕ}
 use mathlib.Core.List.{List}
 use borrow.Author.Needs.{needs}
@@ -27,22 +27,23 @@ slice-aggregate-find-turners-3 : tie.Need-slice-aggregate-find-turners-3
 slice-aggregate-find-turners-3 c = search needs
 
 find-turners-requires : tie.Need-find-turners-requires
-find-turners-requires c κs = let s = c .before .before .before in let few = s .pre .0 .wiresFew in ((few, s .pre .0 .endsLong, s .pre .1 .muted), ((simp length-replicate few, simp length-replicate few, simp length-replicate few), λ k h. getD-replicate 8192 k 0 0 (omega arith)))
+find-turners-requires c κs = let s = c .before .before .before in let few = s .pre .0 .wiresFew in ((few, s .pre .0 .endsLong, s .pre .1 .muted), fresh-lists (length (s .args .wires .now)) few)
 
 has-room-requires : tie.Need-has-room-requires
 has-room-requires c κs = search needs
 
--- Of any bus whose suppressed ports are those handed in: how many wires turn.
-turning : (c : tie.After-find-turners) (b : Board) → BoardOf b (c .before .before .before .before .args .pages .now) (c .before .before .before .before .args .nodes .now) (c .before .before .before .before .args .wires .now) (c .before .before .before .before .args .node-facts .now) (c .before .before .before .before .args .wire-facts .now)
-    → (bus : Bus) → Mutes b bus (c .before .before .before .before .args .ports .now) (c .before .before .before .before .args .u) → c .find-turners .result ≡ turnable b bus
-turning c b is bus mutes = let a = c .before .before .before .before .args in turning-count b (a .pages .now) (a .nodes .now) (a .wires .now) (a .node-facts .now) (a .wire-facts .now) is bus (a .ports .now) (a .u) mutes _ _ _ _ (c .find-turners .ensures)
+-- Of any bus whose suppressed ports are those handed in: whether there is room for what turns.
+room : (c : tie.After-find-turners) (b : Board) → BoardOf b (c .before .before .before .before .args .pages .now) (c .before .before .before .before .args .nodes .now) (c .before .before .before .before .args .wires .now) (c .before .before .before .before .args .node-facts .now) (c .before .before .before .before .args .wire-facts .now)
+    → (bus : Bus) → Mutes b bus (c .before .before .before .before .args .ports .now) (c .before .before .before .before .args .u)
+    → hasRoom (length (c .before .before .before .before .args .wires .now)) (c .before .before .before .before .args .n) (c .before .before .before .before .args .k) (c .before .before .before .before .args .u) (turnable b bus) ≡ hasRoom (length (c .before .before .before .before .args .wires .now)) (c .before .before .before .before .args .n) (c .before .before .before .before .args .k) (c .before .before .before .before .args .u) (c .find-turners .result)
+room c b is bus mutes = let a = c .before .before .before .before .args in room-asked b (a .pages .now) (a .nodes .now) (a .wires .now) (a .node-facts .now) (a .wire-facts .now) is bus (a .ports .now) (a .u) mutes _ _ _ _ (c .find-turners .ensures) (a .n) (a .k)
 
 returns : tie.Need-returns
 returns c =
     let a = c .before .before .before .before .before .before .before .before .before .args in
     let no = sym (c .before .has-room .ensures) ∙ not-true _ (c .if1 .taken) in (
-      λ b is. (ap (hasRoom (length (a .wires .now)) (a .n) (a .k) (a .u)) (sym (turning (c .before .before .before .before .before) b is (busIn (a .rerouters .now) (a .n) (a .bus-wires .now) (a .k) (a .ports .now) (a .u)) (mutes-in b (a .rerouters .now) (a .n) (a .bus-wires .now) (a .k) (a .ports .now) (a .u)))) ∙ no, refl, refl),
-      λ b bus old oldWires is mutes handed. ap (hasRoom (length (a .wires .now)) (a .n) (a .k) (a .u)) (sym (turning (c .before .before .before .before .before) b is bus mutes)) ∙ no,
+      λ b is. (room (c .before .before .before .before .before) b is (busIn (a .rerouters .now) (a .n) (a .bus-wires .now) (a .k) (a .ports .now) (a .u)) (mutes-in b (a .rerouters .now) (a .n) (a .bus-wires .now) (a .k) (a .ports .now) (a .u)) ∙ no, refl, refl),
+      λ b bus old oldWires is mutes handed. room (c .before .before .before .before .before) b is bus mutes ∙ no,
     )
 
 know-wires-requires : tie.Need-know-wires-requires
@@ -92,7 +93,7 @@ returns-2 c =
     let e = c .before .before .before .before in
     let yes′ = sym (c .before .before .before .before .before .before .before .before .before .before .before .before .before .before .has-room .ensures) ∙ not-false _ (c .before .before .before .before .before .before .before .before .before .before .before .before .before .if1 .left) in
     let own = handed-in (a .rerouters .now) (a .n) (a .bus-wires .now) (a .k) (a .ports .now) (a .u) (s .pre .1 .bricks) (s .pre .1 .wires) (e .lay-turners .ensures .0) (c .before .before .before .before .before .before .before .before .before .before .before .know-wires .ensures) in (
-      λ b is. (ap (hasRoom (length (a .wires .now)) (a .n) (a .k) (a .u)) (sym (turning (c .before .before .before .before .before .before .before .before .before .before .before .before .before .before .before .before .before .before) b is (busIn (a .rerouters .now) (a .n) (a .bus-wires .now) (a .k) (a .ports .now) (a .u)) (mutes-in b (a .rerouters .now) (a .n) (a .bus-wires .now) (a .k) (a .ports .now) (a .u)))) ∙ yes′, laid e b (busIn (a .rerouters .now) (a .n) (a .bus-wires .now) (a .k) (a .ports .now) (a .u)) (a .rerouters .now) (a .bus-wires .now) is (mutes-in b (a .rerouters .now) (a .n) (a .bus-wires .now) (a .k) (a .ports .now) (a .u)) own),
+      λ b is. (room (c .before .before .before .before .before .before .before .before .before .before .before .before .before .before .before .before .before .before) b is (busIn (a .rerouters .now) (a .n) (a .bus-wires .now) (a .k) (a .ports .now) (a .u)) (mutes-in b (a .rerouters .now) (a .n) (a .bus-wires .now) (a .k) (a .ports .now) (a .u)) ∙ yes′, laid e b (busIn (a .rerouters .now) (a .n) (a .bus-wires .now) (a .k) (a .ports .now) (a .u)) (a .rerouters .now) (a .bus-wires .now) is (mutes-in b (a .rerouters .now) (a .n) (a .bus-wires .now) (a .k) (a .ports .now) (a .u)) own),
       λ b bus old oldWires is mutes h. laid e b bus old oldWires is mutes h,
     )
 

@@ -7,9 +7,10 @@ use lib.ListN.{length, getD, length-set}
 use Rattle.board.specs.Board.{Board, field}
 use Rattle.board.specs.Groups.{Tap, tapsOf}
 use Rattle.board.specs.Tables.{view, tapIn, WireFacts}
+use Rattle.board.proofs.Views.{view-mem}
 use Rattle.collect.specs.Collecting.{headPage, GroupSums}
 use Rattle.collect.proofs.Filling.{filled-more}
-use Rattle.demands.proofs.GroupLaws.{Known, known, view-mem, source-held, source-below, row-first, row-last, row-crosses}
+use Rattle.demands.proofs.GroupLaws.{Known, known, source-held, source-below, row-first, row-last, row-crosses}
 use Rattle.demands.proofs.demands.mark_heads.Statement.{statement}
 use Rattle.demands.proofs.demands.mark_heads.Tie as tie
 

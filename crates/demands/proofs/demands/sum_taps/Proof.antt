@@ -1,4 +1,4 @@
-use Rattle.demands.proofs.GroupLaws.{Known, known, row-none, row-in, view-mem, sums-more, counts-more}
+use Rattle.demands.proofs.GroupLaws.{Known, known, row-none, row-in, sums-more, counts-more}
 use native.Mathlib.Omega.{arith}
 use borrow.Author.Needs.{needs}
 use Prim.Native.Nat.{ℕ, _+_, _-_, _≤_, _<_}
@@ -9,6 +9,7 @@ use Rattle.sheet.specs.Table.{MISSING}
 use Rattle.board.specs.Board.{Board, field}
 use Rattle.board.specs.Groups.{Tap, tapsOf}
 use Rattle.board.specs.Tables.{view, tapIn, groupRow, WireFacts}
+use Rattle.board.proofs.Views.{view-mem}
 use Rattle.demands.proofs.demands.sum_taps.Statement.{statement}
 use Rattle.demands.proofs.demands.sum_taps.Tie as tie
 

@@ -4,7 +4,8 @@ use mathlib.Core.Path.{_≡_, sym, ap, _∙_}
 use mathlib.Core.List.{[], _∷_, _++_}
 use native.Mathlib.Omega.{arith}
 use lib.ListN.{getD, take}
-use Rattle.ports.specs.Settling.{portIn, sortRow}
+use Rattle.routes.specs.Buffers.{portIn}
+use Rattle.ports.specs.Settling.{sortRow}
 use Rattle.ports.proofs.Filling.{Filled, filled-behind, filled-room, filled-more, filled-front, handedFrom, handed-length, handed-next, handed-done}
 use borrow.Author.Needs.{needs}
 use Rattle.ports.proofs.settle.add_ports.Statement.{statement}

@@ -5,7 +5,8 @@ use mathlib.Core.List.{List, _++_, map}
 use native.Mathlib.Omega.{arith}
 use lib.ListN.{length, take, drop}
 use lib.Seq.{length-take-le, take-at}
-use Rattle.ports.specs.Settling.{portIn, unique, settled, portsOver}
+use Rattle.routes.specs.Buffers.{portIn}
+use Rattle.ports.specs.Settling.{unique, settled, portsOver}
 use Rattle.ports.proofs.SetLaws.{settled-once}
 use borrow.Author.Needs.{needs}
 use Rattle.ports.proofs.settle.settle_ports.Statement.{statement}

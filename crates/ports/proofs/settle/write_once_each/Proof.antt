@@ -4,8 +4,8 @@ use mathlib.Core.Path.{_≡_, refl, sym, _∙_}
 use mathlib.Core.List.{[], _∷_, map}
 use native.Mathlib.Omega.{arith}
 use lib.ListN.{length, getD, length-map}
-use Rattle.routes.specs.Buffers.{portRow}
-use Rattle.ports.specs.Settling.{portIn, unique}
+use Rattle.routes.specs.Buffers.{portRow, portIn}
+use Rattle.ports.specs.Settling.{unique}
 use Rattle.ports.proofs.Filling.{Filled, filled-none, filled-room, filled-more, filled-same, filled-ports, onceFrom, once-last, once-again, once-done}
 use borrow.Author.Needs.{needs}
 use Rattle.ports.proofs.settle.write_once_each.Statement.{statement}

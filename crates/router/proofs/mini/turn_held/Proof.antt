@@ -1,14 +1,14 @@
 -- What is handed in, turned; then its ports.
-use mathlib.Core.Path.{_≡_, refl, sym, _∙_}
+use mathlib.Core.Path.{_≡_, sym, _∙_}
 use mathlib.Core.Bool.{true}
-use mathlib.Core.List.{[]}
 use lib.ListN.{length}
+use native.Mathlib.Omega.{arith}
 use borrow.Author.Needs.{needs}
 use borrow.Author.Tests.{not-true, not-false}
 use Rattle.board.specs.Board.{Board}
 use Rattle.corners.specs.Turning.{TurnedAs}
-use Rattle.router.specs.Mini.{holds, busHeld, HeldReady}
-use Rattle.router.proofs.MiniLaws.{held-within, called-away, unheld, mini-short, settle, mini-laid}
+use Rattle.router.specs.Mini.{holds, busGiven, HeldReady}
+use Rattle.router.proofs.MiniLaws.{held-within, unheld, mini-unfit, mini-short, settle, mini-laid}
 use Rattle.router.proofs.mini.turn_held.Statement.{statement}
 use Rattle.router.proofs.mini.turn_held.Tie as tie
 
@@ -23,7 +23,7 @@ fit : (c : tie.After-turn-rows) → holds (start c .args .held) (length (start c
 fit c = sym (c .before .before .before .before .before .before .holds .ensures) ∙ not-false _ (c .before .before .before .before .before .if1 .left)
 
 turned : (c : tie.After-turn-rows) (b : Board) → Ready (start c) b
-    → TurnedAs b (busHeld (start c .args .rerouters .now) (start c .args .bus-wires .now) (start c .args .ports .now) (start c .args .held)) (length (b .wires)) (start c .args .rerouters .now) (start c .args .bus-wires .now) (start c .args .held .rerouters) (start c .args .held .«bus_wires») (start c .args .held .ports)
+    → TurnedAs b (busGiven (start c .args .rerouters .now) (start c .args .bus-wires .now) (start c .args .ports .now) (start c .args .held)) (length (b .wires)) (start c .args .rerouters .now) (start c .args .bus-wires .now) (start c .args .held .rerouters) (start c .args .held .«bus_wires») (start c .args .held .ports)
     (c .turn-rows .last .1 .1 .1 .1 .0) (c .turn-rows .last .1 .1 .1 .1 .1 .1 .0) (c .turn-rows .result)
 turned c b rd = let a = start c .args in let w = held-within (a .held) (length (a .rerouters .now)) (length (a .bus-wires .now)) (length (a .ports .now)) (fit c) in c .turn-rows .ensures .0 b (rd .ready (a .held .rerouters) (a .held .«bus_wires») (a .held .ports) (w .0) (w .1) (w .2))
 
@@ -34,14 +34,14 @@ returns : tie.Need-returns
 returns c =
     let a = c .before .before .args in
     let no = sym (c .before .holds .ensures) ∙ not-true _ (c .if1 .taken) in
-    λ b ps rd. called-away _ (a .rerouters .now) (a .bus-wires .now) (a .ports .now) (a .rerouters .now) (a .bus-wires .now) (a .ports .now) 7 0 (unheld (a .rerouters .now) (a .bus-wires .now) (a .ports .now) (a .held) b ps no) refl refl refl
+    λ b ps rd lanes. mini-unfit (a .rerouters .now) (a .bus-wires .now) (a .ports .now) (a .held) b (unheld (a .rerouters .now) (a .bus-wires .now) (a .ports .now) (a .held) b no)
 
 turn-rows-requires : tie.Need-turn-rows-requires
 turn-rows-requires c κs =
     let s = c .before .before .before .before .before .before in
     let a = s .args in
     let w = held-within (a .held) (length (a .rerouters .now)) (length (a .bus-wires .now)) (length (a .ports .now)) (sym (c .before .before .before .before .before .holds .ensures) ∙ not-false _ (c .before .before .before .before .if1 .left)) in
-    (s .pre .0, s .pre .1 .ready (a .held .rerouters) (a .held .«bus_wires») (a .held .ports) (w .0) (w .1) (w .2))
+    (s .pre .0, s .pre .1 .ready _ _ _ (omega (arith, w .0)) (omega (arith, w .1)) (omega (arith, w .2)))
 
 enum-told : tie.Need-enum-told
 enum-told c = search needs
@@ -54,7 +54,7 @@ settle-ports-requires c κs =
     let e = c .before .before .before .before .before .before .before .before .before .before in
     let s = start e in
     let a = s .args in
-    settle (a .rerouters .now) (a .bus-wires .now) (a .ports .now) (a .held) (s .pre .0) [] (fit e) (s .pre .1) (e .turn-rows .last .1 .1 .1 .1 .0) (e .turn-rows .last .1 .1 .1 .1 .1 .1 .0) (e .turn-rows .result) _ (turned e (s .pre .0) (s .pre .1)) (c .before .before .before .before .before .count .given .1)
+    settle (a .rerouters .now) (a .bus-wires .now) (a .ports .now) (a .held) (s .pre .0) (fit e) (s .pre .1) (e .turn-rows .last .1 .1 .1 .1 .0) (e .turn-rows .last .1 .1 .1 .1 .1 .1 .0) (e .turn-rows .result) _ (turned e (s .pre .0) (s .pre .1)) (c .before .before .before .before .before .count .given .1)
 
 same-length : tie.Need-same-length
 same-length c = search needs
@@ -72,7 +72,7 @@ returns-2 : tie.Need-returns-2
 returns-2 c =
     let e = c .before .before .before .before .before in
     let a = start e .args in
-    λ b ps rd. mini-short (a .rerouters .now) (a .bus-wires .now) (a .ports .now) (a .held) b ps (fit e) (e .turn-rows .last .1 .1 .1 .1 .0) (e .turn-rows .last .1 .1 .1 .1 .1 .1 .0) (e .turn-rows .result) (turned e b rd) (c .enum-told .given .1)
+    λ b ps rd lanes. mini-short (a .rerouters .now) (a .bus-wires .now) (a .ports .now) (a .held) b (fit e) (e .turn-rows .last .1 .1 .1 .1 .0) (e .turn-rows .last .1 .1 .1 .1 .1 .1 .0) (e .turn-rows .result) (turned e b rd) (c .enum-told .given .1)
 
 same-length-5 : tie.Need-same-length-5
 same-length-5 c = search needs
@@ -97,7 +97,7 @@ returns-3 c =
     let e = c .before .before .before .before .before .before .before .before .before .before .before .before .before .before in
     let a = start e .args in
     let u = c .before .before .before .settle-ports in
-    λ b ps rd. mini-laid (a .rerouters .now) (a .bus-wires .now) (a .ports .now) (a .held) b ps (fit e) rd (e .turn-rows .last .1 .1 .1 .1 .0) (e .turn-rows .last .1 .1 .1 .1 .1 .1 .0) (e .turn-rows .result) _ (turned e b rd) (c .before .before .before .before .before .before .before .before .before .count .given .1) (u .last .1 .1 .1 .0) (u .result) (u .ensures)
+    λ b ps rd lanes. mini-laid (a .rerouters .now) (a .bus-wires .now) (a .ports .now) (a .held) b (fit e) rd (e .turn-rows .last .1 .1 .1 .1 .0) (e .turn-rows .last .1 .1 .1 .1 .1 .1 .0) (e .turn-rows .result) _ (turned e b rd) (c .before .before .before .before .before .before .before .before .before .count .given .1) ps lanes (u .last .1 .1 .1 .0) (u .result) (u .ensures)
 
 pub turn-held-spec : {M : Type 1} → statement M
 turn-held-spec =

@@ -7,9 +7,9 @@ use lib.ListN.{length, length-set, getD}
 use Rattle.board.specs.Board.{Board}
 use Rattle.board.specs.Demands.{PageLanes}
 use Rattle.board.specs.Tables.{view, tapIn}
+use Rattle.board.proofs.Views.{view-mem}
 use Rattle.routes.specs.Stops.{isLaid}
 use Rattle.stops.specs.Laying.{Tabled}
-use Rattle.routes.proofs.Views.{view-mem}
 use Rattle.stops.proofs.PickLaws.{Picked, picked-more, picked-less, picked-all}
 use borrow.Author.Needs.{needs}
 use Rattle.stops.proofs.stops.pick_laid.Statement.{statement}

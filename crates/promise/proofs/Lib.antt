@@ -1,0 +1,3 @@
+pub mod ReadBack
+pub mod Promise
+pub mod ThreeCalls
