@@ -35,3 +35,12 @@ pub fn answer(text: &[u8], limits: &Limits) -> String {
         Err(refusal) => refusal.line_of_text(),
     }
 }
+
+/// The same by the second model instead of the original: what the records hold
+/// after a change of a rule that leaves the original behind.
+pub fn model_answer(text: &[u8], limits: &Limits) -> String {
+    match board::parse(text, limits).and_then(|b| model::run(&b).0) {
+        Ok(plan) => plan.sheet(),
+        Err(refusal) => refusal.line_of_text(),
+    }
+}

@@ -154,6 +154,11 @@ pub fn lists() -> Vec<Vec<u32>> {
 
 /// Cases as one stream: sheet, `%%plan`, answer, `%%`.
 pub fn cases(sheets: &[Vec<u8>]) -> Vec<u8> {
+    cases_by(sheets, answer)
+}
+
+/// The same with answers of one's choice.
+pub fn cases_by(sheets: &[Vec<u8>], answer: fn(&[u8], &Limits) -> String) -> Vec<u8> {
     let mut stream = Vec::new();
     for sheet in sheets {
         text::add(&mut stream, sheet, "%%plan");

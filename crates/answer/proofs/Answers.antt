@@ -18,12 +18,12 @@ use Rattle.plan.specs.declared.Lent.{Lent}
 use Rattle.plan.specs.TextPlan.{fitsLent, LINE_MOST}
 use Rattle.plan.proofs.Fitting.{fits-all}
 use Rattle.plan.proofs.Planned.{planned-counts}
-use Rattle.plan.proofs.Reading.{lanes-from}
+use Rattle.board.proofs.Planning.{lanes-from}
 use Rattle.routes.specs.Plan.{finished, laidGroups}
 use Rattle.routes.specs.PlanSheet.{refusalSheet, planSheet}
 use Rattle.routes.specs.Route.{Routed, turnedAway, plan, routedBy, routed, sheetOf}
 use Rattle.routes.proofs.Room.{room-finished}
-use Rattle.routes.proofs.Routed.{judged-gutters}
+use Rattle.board.proofs.Accepting.{sheet-accepted}
 use Rattle.text.specs.Held.{PlanHeld}
 use Rattle.router.specs.Finish.{BusStands, PlanTexted}
 use Rattle.gutter.specs.declared.bus.BusText.{BusText}
@@ -137,10 +137,7 @@ module _ (most : Counts) (text : List ℕ) (lent : Lent) (low : WithinLibrary mo
       let from = lanes-from most text (fitsLent lent) b ps (t .is) in
       let s = t .stands in
       record {
-        most = most;
-        text = text;
-        within = low;
-        accepted = from .accepted;
+        accepted = sheet-accepted most text b low (from .accepted);
         lanes = from .lanes;
         restAnswers = drop (length ps) oldAnswers;
         pageRows = t .answers-are;
@@ -162,7 +159,7 @@ module _ (most : Counts) (text : List ℕ) (lent : Lent) (low : WithinLibrary mo
       let ps = t .lanes in
       let from = lanes-from most text (fitsLent lent) b ps (t .is) in
       let fit = fits-all lent b (from .fitting) in
-      let room = room-finished b ps (from .lanes) (judged-gutters most text b (from .accepted)) in
+      let room = room-finished b ps (from .lanes) (sheet-accepted most text b low (from .accepted)) in
       let pages : c .pages ≡ length (b .pages) = ap (λ (d : Counts). d .pages) (t .counted) in
       let s = t .stands in
       let sb = s .bricks in let sw = s .wires in let su = s .suppressed in

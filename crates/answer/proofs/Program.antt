@@ -14,23 +14,13 @@ use Rattle.board.specs.Refusals.{board, judged}
 use Rattle.board.specs.Planning.{Planning, planning}
 use Rattle.board.specs.Walk.{WithinLibrary}
 use Rattle.plan.specs.TextPlan.{LINE_MOST, hasRoom, fitsCounts, fitsLent}
-use Rattle.plan.proofs.Fine.{fine}
+use Rattle.board.proofs.Accepting.{from-sheet}
 use Rattle.promise.proofs.ThreeCalls.{planning-all}
 use Rattle.routes.specs.Plan.{finished}
 use Rattle.routes.specs.Route.{turnedAway, routedBy, routed}
 use Rattle.plan.specs.declared.Lent.{Lent}
 use Rattle.answer.specs.declared.Answer.{Answer}
 use Rattle.answer.specs.Answering.{Told, Answered, INPUT_MOST, inputCall, answerCall, programCall, programRouted, programLent}
-
--- The program's limits are below the library's.
-pub within-program : WithinLibrary programMost
-within-program zero = omega arith
-within-program (suc zero) = omega arith
-within-program (suc (suc zero)) = omega arith
-within-program (suc (suc (suc zero))) = omega arith
-within-program (suc (suc (suc (suc zero)))) = omega arith
-within-program (suc (suc (suc (suc (suc zero))))) = omega arith
-within-program (suc (suc (suc (suc (suc (suc s)))))) = omega arith
 
 -- An input that is too long, and one that is not.
 pub too-long : (text : List ℕ) (lent : Lent) → INPUT_MOST < length text → (before after : List ℕ) (r : Answer) → Told (turnedAway 2 0) before after r
@@ -52,7 +42,7 @@ not-long text lent h most e {before} {after} {old} {oldWires} {oldPorts} {oldAns
 program-room : (text : List ℕ) (out : ℕ) → 87168 ≤ out → (b : Board) → judged programMost text ≡ board b → fitsLent (programLent out) b ≡ true
 unfolding fitsLent fitsCounts hasRoom
 program-room text out h b e =
-    let k = fine programMost text b e .known in
+    let k = from-sheet programMost text b e .known in
     let p = k .few-pages in let n = k .few-nodes in let c = k .few-chips in let i = k .few-inner in let x = k .few-execs in let w = k .few-wires in
     let wires : ℕ = length (b .wires) in
     let all : ℕ = length (b .pages) + length (b .nodes) + length (b .chips) + length (b .inner) + length (b .execs) + length (b .wires) in

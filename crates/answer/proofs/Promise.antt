@@ -16,9 +16,11 @@ use Rattle.board.proofs.Lists.{never}
 use Rattle.plan.specs.declared.Lent.{Lent}
 use Rattle.plan.specs.TextPlan.{fitsLent, LINE_MOST}
 use Rattle.plan.proofs.Fitting.{fits-all}
-use Rattle.plan.proofs.Reading.{LanesFrom, lanes-from}
+use Rattle.board.proofs.Planning.{LanesFrom, lanes-from}
 use Rattle.board.specs.Planning.{Planning, refused, lanesFor, planning}
 use Rattle.board.specs.Walk.{WithinLibrary}
+use Rattle.board.specs.Accepted.{Accepted}
+use Rattle.board.proofs.Accepting.{sheet-accepted, within-program}
 use Rattle.routes.specs.Plan.{finished}
 use Rattle.routes.specs.Bus.{Bus}
 use Rattle.routes.specs.Buffers.{brickRow, wireRow, busHeld}
@@ -70,7 +72,7 @@ plan-made most text lent b ps bus laid e = go (planning most (fitsLent lent) tex
           bus-is = sym bus-same ∙ (λ i. finished (board-same i) (lanes-same i));
         }
 
-module _ (most : Counts) (text : List ℕ) (lent : Lent) (before after : List ℕ) (r : Answer) (room : lent .out ≡ length before)
+module _ (most : Counts) (low : WithinLibrary most) (text : List ℕ) (lent : Lent) (before after : List ℕ) (r : Answer) (room : lent .out ≡ length before)
     (b : Board) (ps : List PageLanes) (bus : Bus) (laid : ℕ) (e : answerCall most text lent ≡ plan b ps bus laid) where
   made : PlanMade most text lent b ps bus
   made = plan-made most text lent b ps bus laid e
@@ -86,15 +88,18 @@ module _ (most : Counts) (text : List ℕ) (lent : Lent) (before after : List �
       record {
         answer = told .answer ∙ ap (λ (t : Bool). answerOf t (planSheet b ps bus laid)) yes;
         text-is = told .text-is ∙ ap (λ (t : Bool). textAfter t (planSheet b ps bus laid) before) yes;
-        demand3 = routed-demand3 most (fitsLent lent) text b ps bus laid e;
+        demand3 = routed-demand3 most low (fitsLent lent) text b ps bus laid e;
       }
 
   -- The rows in the buffers are the plan's.
-  module _ (low : WithinLibrary most) (old oldWires oldPorts oldAnswers rerouters busWires ports answers : List (List ℕ))
+  module _ (old oldWires oldPorts oldAnswers rerouters busWires ports answers : List (List ℕ))
       (rl : lent .rerouters ≤ length old) (wl : lent .«bus_wires» ≤ length oldWires) (pl : lent .ports ≤ length oldPorts)
       (done : Answered (answerCall most text lent) before old oldWires oldPorts oldAnswers after rerouters busWires ports answers r) where
     said : Answered (plan b ps bus laid) before old oldWires oldPorts oldAnswers after rerouters busWires ports answers r
     said = subst (λ (c : Routed). Answered c before old oldWires oldPorts oldAnswers after rerouters busWires ports answers r) e done
+
+    accepted : Accepted b
+    accepted = sheet-accepted most text b low (made .from .accepted)
 
     abbrev n : ℕ
     n = length (bus .bricks)
@@ -123,11 +128,11 @@ module _ (most : Counts) (text : List ℕ) (lent : Lent) (before after : List �
     held : busHeld rerouters n busWires k ports u ≡ bus
     held =
         (λ i. busHeld (same i) (length (made .bus-is i .bricks)) (sameWires i) (length (made .bus-is i .wires)) (samePorts i) (length (made .bus-is i .ports)))
-        ∙ (done-back most text low b (made .from .accepted) ps (made .from .lanes) old oldWires oldPorts (long .0) (long .1) (long .2) ∙ sym (made .bus-is))
+        ∙ (done-back b accepted ps (made .from .lanes) old oldWires oldPorts (long .0) (long .1) (long .2) ∙ sym (made .bus-is))
 
     rows-promised : Promised b rerouters n busWires k ports u
     rows-promised =
-        let there = done-promised most text low b (made .from .accepted) ps (made .from .lanes) old oldWires oldPorts (long .0) (long .1) (long .2) in
+        let there = done-promised b accepted ps (made .from .lanes) old oldWires oldPorts (long .0) (long .1) (long .2) in
         let back : (c : Bus) → c ≡ finished b ps
         → Promised b (writtenOver brickRow (finished b ps .bricks) old) (length (c .bricks)) (writtenOver wireRow (finished b ps .wires) oldWires) (length (c .wires)) (portsOver (finished b ps .ports) oldPorts) (length (c .ports))
         = λ c is. subst (λ (d : Bus). Promised b (writtenOver brickRow (finished b ps .bricks) old) (length (d .bricks)) (writtenOver wireRow (finished b ps .wires) oldWires) (length (d .wires)) (portsOver (finished b ps .ports) oldPorts) (length (d .ports))) (sym is) there in
@@ -148,5 +153,5 @@ pub program-demand3 : (text : List ℕ) (lent : Lent) (before after : List ℕ) 
     → (b : Board) (ps : List PageLanes) (bus : Bus) (laid : ℕ) → programCall text lent ≡ plan b ps bus laid → SheetPromised b ps bus laid before after r
 unfolding programCall
 program-demand3 text lent before after r room told b ps bus laid e =
-    sheet-promised programMost text lent before after r room b ps bus laid (input-plan (ltb INPUT_MOST (length text)) (answerCall programMost text lent) b ps bus laid e)
+    sheet-promised programMost within-program text lent before after r room b ps bus laid (input-plan (ltb INPUT_MOST (length text)) (answerCall programMost text lent) b ps bus laid e)
     (subst (λ (c : Routed). Told c before after r) e told)

@@ -8,3 +8,6 @@ pub mod Lists
 pub mod Taps
 pub mod LanesFit
 pub mod Views
+pub mod Accepting
+pub mod Planning
+pub mod Reach

@@ -23,11 +23,17 @@ abbrev pub crowding : Board → Planned → Planning
 crowding b (crowded p) = refused 8 (suc p)
 crowding b (planned ps) = lanesFor b ps
 
--- E7, E9: 1 to 6 of the sheet; 7, whose place is 0, where the buffers do not fit the board; 8.
+-- E7, E8: refusals 7 and 8 of a board, by a test of what is lent.
+abbrev pub fitted : (Board → Bool) → Board → Planning
+fitted fits b = elim (fits b) [ true ↦ crowding b (planLanes b) | false ↦ refused 7 0 ]
+
+abbrev pub judgedFor : (Board → Bool) → Judged → Planning
+judgedFor fits (turnedAway n l) = refused n l
+judgedFor fits (board b) = fitted fits b
+
+-- E9: 1 to 6 of the sheet; 7, whose place is 0; 8.
 unfoldable pub planning : Counts → (Board → Bool) → List ℕ → Planning
-planning most fits text =
-    elim (judged most text)
-    [ turnedAway n l ↦ refused n l | board b ↦ elim (fits b) [ true ↦ crowding b (planLanes b) | false ↦ refused 7 0 ] ]
+planning most fits text = judgedFor fits (judged most text)
 
 -- S15, S16: page answers and work space, which is lent in slices of rows, each with a row for each record; the least of them counts.
 unfoldable pub fitsPages : ℕ → ℕ → Board → Bool

@@ -1,2 +1,3 @@
-// Questions for claimed columns and booked cells.
+// Questions for claimed columns and booked cells, and rerouters placed there.
 pub mod cells;
+pub mod place;

@@ -15,7 +15,8 @@ use Rattle.lanes.specs.Sort.{lexLess, sortedRows, sorted}
 use Rattle.lanes.proofs.SortLaws.{clash, lex-order}
 use Rattle.collect.specs.declared.rows.Run.{Run}
 use Rattle.board.specs.Board.{Board, field, given, hasRow, pageOf, downOf}
-use Rattle.board.specs.Accepted.{NodesRanged}
+use Rattle.board.specs.Accepted.{AcceptedNodes}
+use Rattle.board.proofs.Accepting.{nodes-half-x, nodes-half-y, nodes-x}
 use Rattle.board.specs.Rows.{turned, brickCell, bricksIn, nodesOn, downsOn, rowOf, rowTop}
 use Rattle.board.specs.Tables.{nodesAlone, NodeFacts}
 use Rattle.collect.specs.Collecting.{rowKey, END_MOST, Ranked, runAfter}
@@ -415,13 +416,13 @@ unfolding rowOf downsOn nodesOn rowTop bricksIn brickCell
 facts-of-nodes b nodes facts e f = let g : NodeFacts (nodesAlone (b .nodes)) facts = subst (λ (ns : List (List ℕ)). NodeFacts (nodesAlone ns) facts) (sym e) f in record { rows = g .rows; tops = g .tops }
 
 -- The sorted keys as they are lent on: the front of a table whose front was sorted.
-module _ (nodes keys front : List (List ℕ)) (room : length nodes ≤ length keys) (ranged : NodesRanged nodes)
+module _ (nodes keys front : List (List ℕ)) (room : length nodes ≤ length keys) (accepted : AcceptedNodes nodes)
     (filled : (i : ℕ) → i < length nodes → getD keys i [] ≡ rowKey (nodesAlone nodes) i) (done : front ≡ sortedRows (take (length nodes) keys)) where
   end-most : (i : ℕ) → i < length nodes → hasRow (nodesAlone nodes) i ≡ true → brickCell (nodesAlone nodes) i .x1 ≤ END_MOST
   unfolding brickCell
   end-most i h has =
-      let x = ranged .placed i h has in
-      let half = half-within (turned (nodesAlone nodes) i) _ (field nodes i 5) (field nodes i 6) HALF_MOST refl (ranged .halfX i h) (ranged .halfY i h) in
+      let x = nodes-x accepted i has in
+      let half = half-within (turned (nodesAlone nodes) i) _ (field nodes i 5) (field nodes i 6) HALF_MOST refl (nodes-half-x accepted i) (nodes-half-y accepted i) in
       omega arith
 
   front-length : length front ≡ length nodes

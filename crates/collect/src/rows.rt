@@ -8,7 +8,7 @@ ghost use lib.Dec.{eqb};
 ghost use Rattle.sheet.specs.Table.{libraryMost};
 ghost use lib.ListN.{length, getD};
 ghost use Rattle.board.specs.Board.{Board, field};
-ghost use Rattle.board.specs.Accepted.{NodesRanged};
+ghost use Rattle.board.specs.Accepted.{AcceptedNodes};
 ghost use Rattle.board.specs.Tables.{nodesAlone, NodeFacts};
 ghost use Rattle.collect.specs.Collecting.{rowKey, Ranked, runAfter};
 
@@ -32,7 +32,7 @@ fn half_along(rotation: u32, half_x: u32, half_y: u32) -> u32
 // The row by which a node is sorted. A node without a row comes behind all others.
 fn row_key(nodes: &[[u32; 16]], i: usize) -> [u32; 8]
     requires { ⌜ i < length (now nodes) ⌝ }
-    requires { ⌜ NodesRanged (now nodes) ⌝ }
+    requires { ⌜ AcceptedNodes (now nodes) ⌝ }
     ensures { λ r. ⌜ r ≡ rowKey (nodesAlone (now (nodes .entry))) i ⌝ }
 {
     let node = nodes[i];
@@ -47,7 +47,7 @@ fn row_key(nodes: &[[u32; 16]], i: usize) -> [u32; 8]
 
 fn fill_keys(nodes: &[[u32; 16]], keys: &mut [[u32; 8]])
     requires { ⌜ length (now nodes) ≤ length (now keys) ⌝ }
-    requires { ⌜ NodesRanged (now nodes) ⌝ }
+    requires { ⌜ AcceptedNodes (now nodes) ⌝ }
     ensures { λ _. ⌜ ((i : ℕ) → i < length (now (nodes .entry)) → getD (now (keys .exit)) i [] ≡ rowKey (nodesAlone (now (nodes .entry))) i) ⌝ }
 {
     let mut i: usize = 0;
@@ -119,7 +119,7 @@ pub fn number_rows(
     spare: &mut [[u32; 8]],
     facts: &mut [[u32; 8]],
 )
-    requires { ⌜ NodesRanged (now nodes) ⌝ }
+    requires { ⌜ AcceptedNodes (now nodes) ⌝ }
     requires { ⌜ (length (now nodes) ≤ length (now keys)) × (length (now nodes) ≤ length (now spare)) × (length (now nodes) ≤ length (now facts)) ⌝ }
     ensures { λ _. ⌜ ((b : Board) → b .nodes ≡ now (nodes .entry) → NodeFacts b (now (facts .exit))) ⌝ }
 {

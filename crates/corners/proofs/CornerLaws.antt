@@ -27,7 +27,7 @@ use Rattle.stops.specs.Marks.{markIn, sameMark, countOf}
 use Rattle.corners.specs.Blocked.{TellsClear, levelsOf}
 use Rattle.corners.specs.CornerTables.{atSink, takenMarks, TurnOf, Asked, LevelTold, LevelsTold, openCorner}
 use Rattle.corners.specs.declared.lay.Turn.{Turn}
-use Rattle.stops.specs.declared.levels.Level.the-variants.{None, At}
+use Rattle.stops.specs.declared.levels.Found.the-variants.{None, At}
 use Rattle.stops.specs.declared.marks.Mark.{Mark}
 use Rattle.board.proofs.Lists.{clash, and-left, and-right}
 use Rattle.stops.proofs.MarkLaws.{same-mark}

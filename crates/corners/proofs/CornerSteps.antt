@@ -22,8 +22,8 @@ use Rattle.routes.proofs.Room.{turned-before, corner-room}
 use Rattle.routes.specs.Bus
 use Rattle.routes.specs.Bus.{Bus, samePort, portOf, muted, place, placedFeed, portFeed, deliver}
 use Rattle.cells.specs.Chains.{boardWith, CellRows}
+use Rattle.cells.specs.Placing.{PlacedOn}
 use Rattle.routes.specs.Corners.{Cornering, cornerBrick, cornerLevel, turnsDown, turnWire, turns, withCorner, corners}
-use Rattle.emit.specs.Emitting.{PlacedOn}
 use Rattle.routes.specs.Holding.{feedOf, brickOf, BusHeld, Delivering}
 use Rattle.stops.specs.Marks.{Marks, markIn}
 use Rattle.corners.specs.CornerTables.{atSink, TurnOf, turnRead, TurnFacts, WireOf, RoomForCorner, CornerPlaced, turnedBus, Laid, laid, CornerReady, CornersHeld, CornerFacts, CornerStep, cornered, Asked, InReach, EndsThere, CornerFits, CornersLaid, begun, Tested, firsts, TestsFit, Flagged, Turners}

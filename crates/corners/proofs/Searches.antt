@@ -12,8 +12,8 @@ use Rattle.board.specs.Lists.{Found, none, at, any, keep}
 use Rattle.board.proofs.Newest.{pick-true, pick-false}
 use Rattle.routes.specs.Levels.{STAGGER_STEP, lowest, lighter, lightest, levelsIn}
 use Rattle.stops.specs.Laying.{levelAnswer}
-use Rattle.stops.specs.declared.levels.Level.{Level as LevelFound}
-use Rattle.stops.specs.declared.levels.Level.the-variants.{None, At}
+use Rattle.stops.specs.declared.levels.Found.{Found as LevelFound}
+use Rattle.stops.specs.declared.levels.Found.the-variants.{None, At}
 
 pub none-kept : {A : Type 0} (p : A → Bool) (l : List A) → eqb (length (keep p l)) 0 ≡ not (any p l)
 none-kept p [] = eq-eqb 0 0 refl

@@ -2,7 +2,7 @@
 use crate::blocked::Levels;
 use crate::blocked::find_ends;
 use cells::cells::brick_cell;
-use emit::emit::place;
+use cells::place::place;
 use routes::bus::Brick;
 use routes::bus::BusCount;
 use routes::bus::End;
@@ -10,7 +10,7 @@ use routes::bus::Feed;
 use routes::bus::MISSING;
 use routes::bus::NodeId;
 use routes::bus::push_delivery;
-use stops::levels::Level;
+use stops::levels::Found;
 use stops::levels::STAGGER_STEP;
 use stops::levels::is_within;
 use stops::levels::levels_in;
@@ -127,7 +127,7 @@ fn lowest_corner(
     m: usize,
     ends: &[u64],
     turn: Turn,
-) -> Level
+) -> Found
     requires { ⌜ Searchable (now marks) (now «mark_heads») m (now ends) turn ⌝ }
     ensures { λ r. ⌜ ((b : Board) (c : Cornering) (s t : ℕ) → LevelsTold b c s t (now (marks .entry)) m (now (ends .entry)) turn
         → r ≡ levelAnswer (lowest (openCorner b c s t) (turn .x) (levelsIn (turn .x) (turn .top)))) ⌝ }
@@ -137,10 +137,10 @@ fn lowest_corner(
     let mut k: usize = 0;
     let found = loop {
         if !is_within(level, top) {
-            break Level::None;
+            break Found::None;
         }
         if is_open_corner(marks, mark_heads, m, turn, level, ends[k]) {
-            break Level::At(level);
+            break Found::At(level);
         }
         level += STAGGER_STEP;
         k += 1;
@@ -155,13 +155,13 @@ fn least_loaded_corner(
     m: usize,
     ends: &[u64],
     turn: Turn,
-) -> Level
+) -> Found
     requires { ⌜ Searchable (now marks) (now «mark_heads») m (now ends) turn ⌝ }
     ensures { λ r. ⌜ ((b : Board) (c : Cornering) (s t : ℕ) → LevelsTold b c s t (now (marks .entry)) m (now (ends .entry)) turn
         → r ≡ levelAnswer (lightest (cornerClear b (c .bus) s t) (sinkLoad b (c .taken) t) (turn .x) (levelsIn (turn .x) (turn .top)))) ⌝ }
 {
     let base = turn.x;
-    let mut best = Level::None;
+    let mut best = Found::None;
     let mut least = MISSING;
     let mut k = levels_in(base, turn.top);
     while 0 < k {
@@ -180,7 +180,7 @@ fn least_loaded_corner(
                 },
             );
             if load <= least {
-                best = Level::At(level);
+                best = Found::At(level);
                 least = load;
             }
         }
@@ -202,7 +202,7 @@ fn corner_level(
     mark_heads: &[u32],
     m: usize,
     turn: Turn,
-) -> Level
+) -> Found
     requires { ⌜ Askable (now nodes) (now facts) (now rerouters) (now marks) (now «node_nexts») (now «node_heads») (now nexts) (now heads) (now «mark_heads») n m turn ⌝ }
     ensures { λ r. ⌜ ((b : Board) (c : Cornering) (s t : ℕ) → Asked b c s t (now (nodes .entry)) (now (facts .entry)) (now (rerouters .entry)) (now (marks .entry)) n m turn
         → r ≡ levelAnswer (cornerLevel b c s t)) ⌝ }
@@ -228,8 +228,8 @@ fn corner_level(
         levels,
         &mut ends,
     );
-    if let Level::At(level) = lowest_corner(marks, mark_heads, m, &ends, turn) {
-        return Level::At(level);
+    if let Found::At(level) = lowest_corner(marks, mark_heads, m, &ends, turn) {
+        return Found::At(level);
     }
     least_loaded_corner(marks, mark_heads, m, &ends, turn)
 }
@@ -441,7 +441,7 @@ fn lay_corner(
         count.corners,
         turn,
     ) {
-        Level::At(level) => with_corner(
+        Found::At(level) => with_corner(
             rerouters,
             bus_wires,
             nexts,
@@ -456,7 +456,7 @@ fn lay_corner(
             turn,
             level,
         ),
-        Level::None => count,
+        Found::None => count,
     }
 }
 

@@ -21,7 +21,7 @@ ghost use Rattle.board.specs.Tables.{view, held, tapIn, tapTarget, flag, WireFa
 ghost use Rattle.collect.specs.Collecting.{Indexes, relaned, headPage, GroupSums, Packable};
 ghost use Rattle.demands.specs.PagePlan.{PlanHeld};
 ghost use Rattle.demands.specs.PagePlan.{orderColumn, AddedDemand, PageDemands, PagePacked, GutterPacked, Surveyed, Collected, Room, BoardPlanned};
-ghost use Rattle.board.specs.Accepted.{NodesRanged};
+ghost use Rattle.board.specs.Accepted.{AcceptedNodes};
 
 // The first page that opens one lane too many, or that every group which needs a lane has one.
 pub enum Plan {
@@ -407,7 +407,7 @@ pub fn plan_board(
     keys: &mut [[u32; 8]],
     spare: &mut [[u32; 8]],
 ) -> BoardPlan
-    requires { ⌜ NodesRanged (now nodes) ⌝ }
+    requires { ⌜ AcceptedNodes (now nodes) ⌝ }
     requires { ⌜ Indexes (now nodes) (now inner) (now «body_ids») (now «body_nexts») (now «body_heads») (now «inner_ids») (now «inner_nexts») (now «inner_heads») ⌝ }
     requires { ⌜ Room (now pages) (now nodes) (now execs) (now wires) (now «node_facts») (now «wire_facts») (now taps) (now groups) (now «page_facts») (now demands) (now keys) (now spare) ⌝ }
     ensures { λ r. ⌜ BoardPlanned

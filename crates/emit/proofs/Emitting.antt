@@ -1,44 +1,21 @@
--- One brick more: the rows of the bricks, their chains, and what the emission holds.
-use Prim.Native.Nat.{ℕ, zero, suc, _+_, _-_, _≤_, _<_}
-use mathlib.Core.Path.{_≡_, refl, ap, sym, subst, _∙_}
-use mathlib.Core.Bool.{Bool, true, false, not, _&&_, _||_}
+-- One brick more: what the emission holds.
+use Prim.Native.Nat.{ℕ, suc, _≤_}
+use mathlib.Core.Path.{_≡_, ap, subst, _∙_}
 use mathlib.Core.List.{List, [], _∷_}
 use native.Mathlib.Omega.{arith}
-use lib.ListN.{length, getD, set, length-set}
-use lib.Seq.{getD-set-same, getD-set-other}
-use Rattle.sheet.specs.Table.{MISSING}
-use Rattle.board.specs.Index.{Chained}
-use Rattle.board.proofs.Newest.{chained-same}
+use lib.ListN.{length}
 use Rattle.routes.specs.Bus
 use Rattle.routes.specs.Bus.{Bus, place, placedFeed}
 use Rattle.routes.specs.Rerouters
-use Rattle.routes.specs.Buffers.{brickRow}
-use Rattle.cells.specs.Chains.{BUCKETS, Walkable, rowBucket, brickBucket, RowsOf, CellRows, BrickRows}
+use Rattle.cells.specs.Chains.{Walkable, brickBucket, CellRows, BrickRows}
 use Rattle.routes.specs.Holding.{feedOf, brickOf, BusHeld}
-use Rattle.emit.specs.Emitting.{EmissionHeld, Ready, Spends, Becomes, PlacedOn, OnePlace, OneOf, hungOn, tappedOff, chainedOn}
+use Rattle.cells.specs.Placing.{OneOf, OnePlace, PlacedOn}
+use Rattle.emit.specs.Emitting.{Ready, Spends, Becomes, hungOn, tappedOff, chainedOn}
 use Rattle.routes.specs.declared.bus.Feed.{Feed}
 use Rattle.routes.specs.declared.bus.Brick.{Brick}
 use Rattle.routes.specs.declared.bus.BusCount.{BusCount}
 use Rattle.routes.specs.declared.bus.Placed.{Placed}
-use Rattle.emit.specs.declared.emit.Emission.{Emission}
-
--- A row written behind the chained ones changes no chain.
-pub walkable-set : (table : List (List ℕ)) (row : List ℕ) (nexts heads : List ℕ) (n : ℕ) → Walkable (brickBucket table) (length table) nexts heads n
-    → Walkable (brickBucket (set table n row)) (length (set table n row)) nexts heads n
-walkable-set table row nexts heads n w =
-    record {
-      room = rw (length-set table n row) (w .room);
-      chained = chained-same BUCKETS (brickBucket table) nexts heads n (w .chained) (brickBucket (set table n row)) (λ j h. ap rowBucket (sym (getD-set-other table n j row [] (λ z. omega arith))));
-    }
-
-rows-kept : (P : Bus.Brick → Type 0) (l : List Bus.Brick) (table : List (List ℕ)) (n : ℕ) (row : List ℕ) → length l ≤ n → RowsOf P l table → RowsOf P l (set table n row)
-rows-kept P [] table n row h rows = tt
-rows-kept P (k ∷ l) table n row h rows =
-    (getD-set-other table n (length l) row [] (λ z. omega arith) ∙ rows .0, rows .1, rows-kept P l table n row (omega arith) (rows .2))
-
-pub rows-more : (P : Bus.Brick → Type 0) (l : List Bus.Brick) (table : List (List ℕ)) (k : Bus.Brick) (n : ℕ) → n ≡ length l → n < length table → P k → RowsOf P l table → RowsOf P (k ∷ l) (set table n (brickRow k))
-rows-more P l table k n e room kind rows =
-    (ap (λ i. getD (set table n (brickRow k)) i []) (sym e) ∙ getD-set-same table n (brickRow k) [] room, kind, rows-kept P l table n (brickRow k) (omega arith) rows)
+use Rattle.emit.specs.declared.chain.Emission.{Emission}
 
 -- The rows of our own plan are those of any.
 pub cell-rows : (l : List Bus.Brick) (table : List (List ℕ)) → BrickRows l table → CellRows l table

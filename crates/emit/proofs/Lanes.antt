@@ -22,12 +22,13 @@ use Rattle.routes.specs.Stops.{newGroup, newRow, newColumn}
 use Rattle.routes.specs.Levels.{Level, dropped, shared, own, laneFor}
 use Rattle.routes.specs.Rerouters.{source, chainRotation, levelHere}
 use Rattle.routes.specs.Tables.{levelIn, stopIn, GroupFacts, PageFacts}
-use Rattle.emit.specs.Emitting.{LaneOf, LaneRanges, RowHeld, LaneInRange, laneRead, rotationOver, rowOnPage, tapOf, tapRead, NewsOf, stopLevelOf, LowLevel, Tables, ReachedNext}
-use Rattle.emit.specs.declared.emit.StopLevel.{StopLevel}
-use Rattle.emit.specs.declared.emit.StopLevel.the-variants.{Dropped, Shared, Own}
-use Rattle.emit.specs.declared.emit.News.{News}
-use Rattle.emit.specs.declared.emit.Lane.{Lane}
-use Rattle.emit.specs.declared.emit.Reached.{Reached}
+use Rattle.routes.specs.Holding.{stopLevelOf}
+use Rattle.emit.specs.Emitting.{LaneOf, LaneRanges, RowHeld, LaneInRange, laneRead, rotationOver, rowOnPage, tapOf, tapRead, NewsOf, LowLevel, Tables, ReachedNext}
+use Rattle.routes.specs.declared.levels.Level.{Level as LevelHeld}
+use Rattle.routes.specs.declared.levels.Level.the-variants.{Dropped, Shared, Own}
+use Rattle.emit.specs.declared.tables.News.{News}
+use Rattle.emit.specs.declared.tables.Lane.{Lane}
+use Rattle.emit.specs.declared.tables.Reached.{Reached}
 
 -- The least is over x exactly when all are.
 ltb-min : (x a b : ℕ) → not (ltb x (min a b)) ≡ not (ltb x a) || not (ltb x b)
@@ -227,7 +228,7 @@ lane-read pages nodes wires facts ends groups pageFacts page group y rotation ro
     }
 
 -- A new row reaches the next stop.
-pub reach-next : (stops : List (List ℕ)) (r : Reached) (fresh : Bool) (level : StopLevel) → fresh ≡ true → stopLevelOf level ≡ stopIn (getD stops (r .stops) []) .level
+pub reach-next : (stops : List (List ℕ)) (r : Reached) (fresh : Bool) (level : LevelHeld) → fresh ≡ true → stopLevelOf level ≡ stopIn (getD stops (r .stops) []) .level
     → ReachedNext stops r fresh (record { stops = r .stops + 1; level = level })
 reach-next stops r fresh level y e =
     record {

@@ -18,14 +18,14 @@ use Rattle.routes.specs.Levels.{Stop, Level, stopsOf, stopFor, laneFor}
 use Rattle.routes.specs.Rerouters
 use Rattle.routes.specs.Rerouters.{emitTap, emit, levelHere, stopsBefore}
 use Rattle.routes.specs.Tables.{stopIn}
-use Rattle.emit.specs.Emitting.{LaneInRange, laneRead, tapRead, tapOf, Tables, TapOn, TapTarget, Knows, LaneOf, NewsOf, tapEmitted, stopLevelOf, AtStop, ReachedNext, NextInRange, WentOn, rowsBegun, LaidInRange, EmissionHeld, Becomes, Ready, Spends, RoomForTaps, startOf}
-use Rattle.emit.specs.declared.emit.Lane.{Lane}
-use Rattle.emit.specs.declared.emit.Tap.{Tap}
-use Rattle.emit.specs.declared.emit.News.{News}
-use Rattle.emit.specs.declared.emit.Emission.{Emission}
-use Rattle.emit.specs.declared.emit.Reached.{Reached}
-use Rattle.emit.specs.declared.emit.Walk.{Walk}
-use Rattle.routes.specs.Holding.{BusHeld}
+use Rattle.emit.specs.Emitting.{LaneInRange, laneRead, tapRead, tapOf, Tables, TapOn, TapTarget, Knows, LaneOf, NewsOf, tapEmitted, AtStop, ReachedNext, NextInRange, WentOn, rowsBegun, LaidInRange, EmissionHeld, Becomes, Ready, Spends, RoomForTaps, startOf}
+use Rattle.emit.specs.declared.tables.Lane.{Lane}
+use Rattle.emit.specs.declared.tables.Tap.{Tap}
+use Rattle.emit.specs.declared.tables.News.{News}
+use Rattle.emit.specs.declared.chain.Emission.{Emission}
+use Rattle.emit.specs.declared.tables.Reached.{Reached}
+use Rattle.emit.specs.declared.walk.Walk.{Walk}
+use Rattle.routes.specs.Holding.{BusHeld, stopLevelOf}
 use Rattle.cells.specs.Chains.{Empty, brickBucket}
 use Rattle.cells.proofs.Walks.{chained-none}
 use Rattle.emit.proofs.Steps.{spends-none}

@@ -22,13 +22,14 @@ use Rattle.routes.specs.Rerouters
 use Rattle.routes.specs.Rerouters.{source, rowBrick, laneBrick, sourceBrick, headBrick, linkBrick, tapBrick, gateSideBrick, chainRotation, clearFor, columnFree, withSource, startGroup, withLink, startRow, withGateSide, serve}
 use Rattle.cells.specs.Chains.{BrickRows}
 use Rattle.routes.specs.Holding.{feedOf, brickOf, BusHeld, Delivering}
-use Rattle.emit.specs.Emitting.{laneBrickOf, rowBrickOf, LaneOf, EmissionHeld, Ready, Spends, Becomes, Knows, RowHeld, OneOf, hungOn, tappedOff, chainedOn, atPort, sharedTap, deliveredAt, Delivered, beginTap}
+use Rattle.cells.specs.Placing.{OneOf}
+use Rattle.emit.specs.Emitting.{laneBrickOf, rowBrickOf, LaneOf, EmissionHeld, Ready, Spends, Becomes, Knows, RowHeld, hungOn, tappedOff, chainedOn, atPort, sharedTap, deliveredAt, Delivered, beginTap}
 use Rattle.routes.specs.declared.bus.Brick.{Brick}
 use Rattle.routes.specs.declared.bus.BusCount.{BusCount}
-use Rattle.emit.specs.declared.emit.Emission.{Emission}
-use Rattle.emit.specs.declared.emit.Lane.{Lane}
-use Rattle.emit.specs.declared.emit.Tap.{Tap}
-use Rattle.emit.specs.declared.emit.News.{News}
+use Rattle.emit.specs.declared.chain.Emission.{Emission}
+use Rattle.emit.specs.declared.tables.Lane.{Lane}
+use Rattle.emit.specs.declared.tables.Tap.{Tap}
+use Rattle.emit.specs.declared.tables.News.{News}
 
 -- Where the counts stay and no feed is deeper, the room stays.
 pub unmoved : (n m bricks wiresLeft : ℕ) (rerouters wires : List (List ℕ)) (nexts heads : List ℕ) (e e′ : Emission) → e′ .count ≡ e .count

@@ -16,35 +16,26 @@ use Rattle.routes.specs.Levels
 use Rattle.routes.specs.Levels.{laneFor, dropped, shared, own}
 use Rattle.routes.specs.Bus
 use Rattle.routes.specs.Bus.{Bus, place, placedFeed, deliver, roleGutter}
-use Rattle.routes.specs.Buffers.{brickRow}
 use Rattle.routes.specs.Rerouters
 use Rattle.routes.specs.Rerouters.{source, chainRotation, startGroup, startRow, serve, levelHere}
 use Rattle.routes.specs.Stops.{newGroup, newRow, newColumn}
 use Rattle.routes.specs.Tables.{stopIn, GroupFacts, PageFacts}
-use Rattle.cells.specs.Chains.{BUCKETS, Walkable, brickBucket, CellRows, BrickRows}
-use Rattle.routes.specs.Holding.{feedOf, brickOf, BusHeld}
+use Rattle.cells.specs.Chains.{BUCKETS, Walkable, brickBucket, BrickRows}
+use Rattle.routes.specs.Holding.{feedOf, stopLevelOf, BusHeld}
 use Rattle.routes.specs.declared.bus.End.the-variants.{Port}
 use Rattle.routes.specs.declared.bus.Feed.{Feed}
-use Rattle.routes.specs.declared.bus.Brick.{Brick}
-use Rattle.routes.specs.declared.bus.BusCount.{BusCount}
-use Rattle.routes.specs.declared.bus.Placed.{Placed}
-use Rattle.emit.specs.declared.emit.Lane.{Lane}
-use Rattle.emit.specs.declared.emit.Tap.{Tap}
-use Rattle.emit.specs.declared.emit.Emission.{Emission}
-use Rattle.emit.specs.declared.emit.News.{News}
-use Rattle.emit.specs.declared.emit.Reached.{Reached}
-use Rattle.emit.specs.declared.emit.Walk.{Walk}
-use Rattle.emit.specs.declared.emit.StopLevel.{StopLevel}
-use Rattle.emit.specs.declared.emit.StopLevel.the-variants.{Dropped, Shared, Own}
+use Rattle.routes.specs.declared.levels.Level.{Level}
+use Rattle.routes.specs.declared.levels.Level.the-variants.{Dropped}
+use Rattle.emit.specs.declared.tables.Lane.{Lane}
+use Rattle.emit.specs.declared.tables.Tap.{Tap}
+use Rattle.emit.specs.declared.chain.Emission.{Emission}
+use Rattle.emit.specs.declared.tables.News.{News}
+use Rattle.emit.specs.declared.tables.Reached.{Reached}
+use Rattle.emit.specs.declared.walk.Walk.{Walk}
 
 -- What the code's values stand for.
 abbrev pub tapOf : Tap → Groups.Tap
 tapOf t = record { page = t .page; group = t .group; row = t .row; y = t .y; x = t .x; node = t .node; port = t .port; wire = t .wire }
-
-abbrev pub stopLevelOf : StopLevel → Levels.Level
-stopLevelOf Dropped = dropped
-stopLevelOf (Shared x) = shared x
-stopLevelOf (Own x) = own x
 
 abbrev pub laneBrickOf : Lane → ℕ → ℕ → ℕ → Bus.Brick
 laneBrickOf l x rotation part =
@@ -112,30 +103,6 @@ tappedOff k s = record { bus = place (s .bus) (s .upstream) k; upstream = s .ups
 abbrev pub chainedOn : Bus.Brick → Rerouters.Emission → Rerouters.Emission
 chainedOn k s = record { bus = place (s .bus) (s .rowEnd) k; upstream = s .upstream; stopTap = s .stopTap; rowEnd = placedFeed (s .bus) (s .rowEnd) }
 
--- A brick with a lane has no row.
-abbrev pub OneOf : Brick → Type 0
-OneOf k = (k .row ≡ MISSING → ⊥) → k .lane ≡ MISSING
-
--- Before one brick: room, and a lane or a row.
-pub record OnePlace (rerouters wires : List (List ℕ)) (nexts heads : List ℕ) (count : BusCount) (feed : Feed) (brick : Brick) : Type 0 where
-  pub walkable : Walkable (brickBucket rerouters) (length rerouters) nexts heads (count .rerouters)
-  pub brickRoom : count .rerouters < length rerouters
-  pub nextRoom : count .rerouters < length nexts
-  pub wireRoom : count .wires < length wires
-  pub number : count .rerouters < 4294967295
-  pub depth : feed .depth < 4294967295
-  pub oneOf : OneOf brick
-
--- After it.
-pub record PlacedOn (rerouters wires : List (List ℕ)) (nexts heads : List ℕ) (count : BusCount) (feed : Feed) (brick : Brick) (rerouters′ wires′ : List (List ℕ)) (nexts′ heads′ : List ℕ) (r : Placed) : Type 0 where
-  pub walkable : Walkable (brickBucket rerouters′) (length rerouters′) nexts′ heads′ (r .count .rerouters)
-  pub brickCount : r .count .rerouters ≡ suc (count .rerouters)
-  pub wireCount : r .count .wires ≡ suc (count .wires)
-  pub gives : feedOf (r .feed) ≡ record { end = Bus.rerouter (count .rerouters); depth = suc (feed .depth) }
-  pub holds : (bus : Bus.Bus) (old oldWires : List (List ℕ)) → BusHeld bus old oldWires rerouters wires count → BusHeld (place bus (feedOf feed) (brickOf brick)) old oldWires rerouters′ wires′ (r .count)
-  pub rows : (bus : Bus.Bus) → count .rerouters ≡ length (bus .bricks) → BrickRows (bus .bricks) rerouters → BrickRows (brickOf brick ∷ bus .bricks) rerouters′
-  pub cells : (bus : Bus.Bus) → count .rerouters ≡ length (bus .bricks) → CellRows (bus .bricks) rerouters → CellRows (brickOf brick ∷ bus .bricks) rerouters′
-
 -- The board that the tables are of, and the lane of the tap at hand.
 pub record Knows (b : Board) (ts : List Groups.Tap) (ps : List PageLanes) (t : Groups.Tap) (l : Lane) (nodes facts : List (List ℕ)) : Type 0 where
   pub same : b .nodes ≡ nodes
@@ -159,7 +126,7 @@ LowLevel dropped = Unit {0}
 LowLevel (shared x) = Unit {0}
 LowLevel (own x) = x < 4294967290
 
-abbrev pub LevelRange : StopLevel → Type 0
+abbrev pub LevelRange : Level → Type 0
 LevelRange l = LowLevel (stopLevelOf l)
 
 -- The emission where a group begins, and where a row shares the last tap.

@@ -11,9 +11,9 @@ use Rattle.board.specs.Planning.{Planning, refused, lanesFor, planning, records
 use Rattle.board.specs.Walk.{WithinLibrary, countsIn}
 use Rattle.plan.specs.declared.Lent.{Lent}
 use Rattle.plan.specs.TextPlan.{fitsLent, WorkLent}
-use Rattle.plan.proofs.Fine.{fine, few}
+use Rattle.board.proofs.Accepting.{sheet-accepted}
 use Rattle.plan.proofs.Fitting.{fits-all}
-use Rattle.plan.proofs.Reading.{lanes-from}
+use Rattle.board.proofs.Planning.{lanes-from}
 use Rattle.plan.proofs.Calling.{LanesTold}
 use Rattle.routes.specs.Plan.{busOf, laidGroups}
 use Rattle.routes.specs.Holding.{BusHeld}
@@ -42,13 +42,9 @@ module _ (most : Counts) (text : List ℕ) (lent : Lent) (low : WithinLibrary mo
       record {
         sections = t .sections;
         counted = told .counted;
-        few = few low (fine most text b (from .accepted));
         ready =
             record {
-              text = text;
-              most = most;
-              within = low;
-              accepted = from .accepted;
+              accepted = sheet-accepted most text b low (from .accepted);
               pages-are = refl;
               nodes-are = refl;
               wires-are = refl;

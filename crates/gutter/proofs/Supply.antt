@@ -7,12 +7,10 @@ use mathlib.Core.Bool.{Bool, true, false, not}
 use mathlib.Core.List.{List, [], _∷_, map, List·Memᴰ as Mem, List·Memᴰ·head as here, List·Memᴰ·tail as there}
 use lib.Dec.{eqb}
 use lib.ListN.{length, getD, List·getD-eq-default}
-use borrow.Author.Tests.{ne-eqb, eqb-true, not-true}
+use borrow.Author.Tests.{ne-eqb}
 use Rattle.sheet.specs.Table.{MISSING}
-use Rattle.sheet.proofs.Accepted.{MayBe, COORDINATE_LOW, COORDINATE_HIGH}
 use Rattle.board.specs.Lists.{Found, none, at, found, greatest}
 use Rattle.board.specs.Board.{Board, field, given, hasRow, pageOf, xOf, yOf, halfXOf, halfYOf, minYOf}
-use Rattle.board.specs.Rows.{rowTop, bricksIn, brickCell, turned}
 use Rattle.board.specs.Groups.{Tap, tapsOf, tapsIn, sourceAnchor}
 use Rattle.board.specs.Demands.{PageLanes, noLanes, laneOf}
 use Rattle.board.specs.Tables
@@ -20,7 +18,6 @@ use Rattle.board.specs.Tables.{held, view, tapIn, groupRow}
 use Rattle.board.proofs.Lists.{never, and-left}
 use Rattle.board.proofs.Members.{map-in, map-from, keep-from}
 use Rattle.collect.proofs.RowLaws.{On, on-from, row-below}
-use Rattle.collect.proofs.KeyLaws.{half-within}
 use Rattle.collect.proofs.TapLaws.{carried-row, carried-below}
 use Rattle.demands.proofs.GroupLaws.{Known, known, known-row, source-held, source-below, target-held, target-below, least-any, in-group}
 use Rattle.board.proofs.LanesFit.{planned-fits}
@@ -36,49 +33,9 @@ use Rattle.stops.proofs.TapTables.{laid-facts}
 use Rattle.routes.proofs.Laid.{of-laid}
 use Rattle.emit.proofs.Next.{stops-count}
 use Rattle.gutter.specs.Lay.{LanesReady}
-use Rattle.gutter.proofs.Boards.{Sound, sheet-sound, Stands, tap-stands}
+use Rattle.board.proofs.Reach.{REACH_MOST, top-most}
+use Rattle.gutter.proofs.Boards.{Stands, tap-stands}
 use Rattle.gutter.proofs.Heights.{stops-low}
-
--- A coordinate that is not missing, and one that may be.
-there-is : (v : ℕ) → given v ≡ true → MayBe COORDINATE_LOW COORDINATE_HIGH v → (COORDINATE_LOW ≤ v) × (v ≤ COORDINATE_HIGH)
-there-is v g r = r (not-true (eqb v MISSING) g)
-
-not-low : (v : ℕ) → MayBe COORDINATE_LOW COORDINATE_HIGH v → 5 ≤ v
-not-low v r = go (eqb v MISSING) refl
-  where
-    go : (t : Bool) → eqb v MISSING ≡ t → 5 ≤ v
-    go true e = let q = eqb-true v MISSING e in omega arith
-    go false e = let q = r e in omega arith
-
-greatest-most : (d k : ℕ) (l : List ℕ) → d ≤ k → ((x : ℕ) → Mem x l → x ≤ k) → greatest d l ≤ k
-greatest-most d k [] h f = h
-greatest-most d k (y ∷ l) h f = let u = greatest-most y k l (f y (here refl)) (λ x m. f x (there m)) in let v = f y (here refl) in omega arith
-
--- Above every x of a board, and above every row top.
-abbrev HIGHEST : ℕ
-HIGHEST = 3002000
-
-module _ (b : Board) (s : Sound b) where
-  row-x : (i : ℕ) → i < length (b .nodes) → hasRow b i ≡ true → xOf b i ≤ COORDINATE_HIGH
-  row-x i h r = there-is (xOf b i) (s .rowPlaced i h r) (s .node i h .x) .1
-
-  end-low : (i : ℕ) → i < length (b .nodes) → hasRow b i ≡ true → brickCell b i .x1 ≤ HIGHEST
-  unfolding brickCell
-  end-low i h r =
-      let x = row-x i h r in
-      let half = half-within (turned b i) _ (halfXOf b i) (halfYOf b i) 1000 refl (s .node i h .halfX .1) (s .node i h .halfY .1) in
-      omega arith
-
-  tops-low : (p r : ℕ) → rowTop b p r ≤ HIGHEST
-  unfolding rowTop bricksIn
-  tops-low p r =
-      greatest-most 0 HIGHEST (map (λ i. brickCell b i .x1) (bricksIn b p r)) (omega arith)
-      (λ x m.
-      let q = map-from (λ i. brickCell b i .x1) (bricksIn b p r) m in
-      let o : On b p (q .0) = on-from b p (keep-from _ _ (q .1) .0) in
-      let e = q .2 in
-      let l = end-low (q .0) (o .there-is) (o .row) in
-      omega arith)
 
 -- The groups' rows in the words that laying has for them: a tap's group has a tap, so the least does not fall back.
 pub groups-are : (b : Board) (ps : List PageLanes) (groups : List (List ℕ)) → Tables.GroupFacts b ps groups → GroupFacts b (tapsOf b) ps groups
@@ -101,16 +58,13 @@ page-planned ps p g lane e = go (decLt p (length ps))
     go (no h) = let d : _≡_ {A = Found} none (at lane) = rw (List·getD-eq-default ps noLanes {n = p} (omega arith)) at e in never cc
 
 -- A level is low enough where kept levels are.
-level-range : (l : Level) → ((x : ℕ) → keptAt l ≡ at x → x ≤ HIGHEST) → LowLevel l
+level-range : (l : Level) → ((x : ℕ) → keptAt l ≡ at x → x ≤ REACH_MOST) → LowLevel l
 level-range dropped h = tt
 level-range (shared x) h = tt
 level-range (own x) h = let l = h x refl in omega arith
 
 module _ {b : Board} {ps : List PageLanes} {pages nodes wires nodeFacts wireFacts groups pageFacts taps : List (List ℕ)} {m : ℕ} {laid spare stops marks rerouters busWires : List (List ℕ)}
     (r : LanesReady b ps pages nodes wires nodeFacts wireFacts groups pageFacts taps m laid spare stops marks rerouters busWires) where
-  pub sound : Sound b
-  sound = sheet-sound (r .most) (r .text) b (r .within) (r .accepted)
-
   wires-long : length (b .wires) ≡ length wires
   wires-long = ap length (r .wires-are)
 
@@ -121,10 +75,10 @@ module _ {b : Board} {ps : List PageLanes} {pages nodes wires nodeFacts wireFact
   pages-long = ap length (r .pages-are)
 
   pub few-nodes : length nodes ≤ 4096
-  few-nodes = let h = sound .fewNodes in let e = nodes-long in omega arith
+  few-nodes = let h = r .accepted .fewNodes in let e = nodes-long in omega arith
 
   pub few-wires : length wires ≤ 8192
-  few-wires = let h = sound .fewWires in let e = wires-long in omega arith
+  few-wires = let h = r .accepted .fewWires in let e = wires-long in omega arith
 
   facts : GroupFacts b (tapsOf b) ps groups
   facts = groups-are b ps groups (r .groups-known)
@@ -156,15 +110,15 @@ module _ {b : Board} {ps : List PageLanes} {pages nodes wires nodeFacts wireFact
         let l = nodes-long in
         omega arith
 
-    pub x-low : t .x ≤ HIGHEST
+    pub x-low : t .x ≤ REACH_MOST
     x-low =
-        let h = row-x b sound (here′ .target) (carried-below b (t .wire) (here′ .target) (here′ .carries)) (carried-row b (t .wire) (here′ .target) (here′ .carries)) in
+        let h = r .accepted .x (here′ .target) (r .accepted .rowPlaced (here′ .target) (carried-row b (t .wire) (here′ .target) (here′ .carries))) in
         let e = here′ .x in
         omega arith
 
     pub y-high : 5 ≤ t .y
     y-high =
-        let h = not-low (yOf b (here′ .target)) (sound .node (here′ .target) (carried-below b (t .wire) (here′ .target) (here′ .carries)) .y) in
+        let h = r .accepted .yLow (here′ .target) (carried-below b (t .wire) (here′ .target) (here′ .carries)) in
         let e = here′ .y in
         omega arith
 
@@ -175,7 +129,7 @@ module _ {b : Board} {ps : List PageLanes} {pages nodes wires nodeFacts wireFact
     source-y : 5 ≤ field nodes (field wireFacts (t .group) 0) 9
     source-y =
         subst (λ (ns : List (List ℕ)). 5 ≤ field ns (field wireFacts (t .group) 0) 9) (r .nodes-are)
-        (not-low _ (sound .node (field wireFacts (t .group) 0) (let h = source-in in let e = nodes-long in omega arith) .y))
+        (let y = r .accepted .yLow (field wireFacts (t .group) 0) (let h = source-in in let e = nodes-long in omega arith) in omega arith)
 
     source-row : t .page < 64 → field nodes (field wireFacts (t .group) 0) 10 ≡ t .page → field nodeFacts (field wireFacts (t .group) 0) 0 < MISSING
     source-row small e =
@@ -185,7 +139,7 @@ module _ {b : Board} {ps : List PageLanes} {pages nodes wires nodeFacts wireFact
         let has : hasRow b s ≡ true = ap not (ne-eqb (pageOf b s) MISSING (λ z. omega arith)) in
         let below = row-below b (pageOf b s) s (record { there-is = inside; row = has; page = refl }) in
         let is = r .nodes-known .rows s inside has in
-        let few = sound .fewNodes in
+        let few = r .accepted .fewNodes in
         omega arith
 
   pub tabled : Tabled b (tapsOf b) ps nodes wireFacts groups
@@ -242,9 +196,9 @@ module _ {b : Board} {ps : List PageLanes} {pages nodes wires nodeFacts wireFact
           let most = fits .1 .most in
           let lane-is : field groups (t .group) 4 ≡ lane = facts .lanes t mem ∙ ap held e in
           let count-is : field pageFacts (t .page) 0 ≡ getD ps (t .page) noLanes .count = r .pages-known (t .page) (page-planned ps (t .page) (t .group) lane e) in
-          let high : 1000000 ≤ minYOf b (t .page) = there-is (minYOf b (t .page)) (fits .1 .gutter) (sound .page (t .page) on .minY) .0 in
+          let high = r .accepted .minYLow (t .page) on in
           let high′ : minYOf b (t .page) ≡ field pages (t .page) 1 = ap (λ (q : List (List ℕ)). field q (t .page) 1) (r .pages-are) in
-          let few = sound .fewPages in
+          let few = r .accepted .fewPages in
           let few-n = few-nodes in
           let long = pages-long in
           let g = group-in t mem in
@@ -299,7 +253,7 @@ module _ {b : Board} {ps : List PageLanes} {pages nodes wires nodeFacts wireFact
       level-at : (i : ℕ) → i < claims → LowLevel (stopIn (getD levels i []) .level)
       level-at i h =
           level-range (stopIn (getD levels i []) .level)
-          (stops-low HIGHEST b ps (tops-low b sound) (laidTaps b (tapsOf b) ps) (λ t q. x-low t (of-laid b (tapsOf b) ps t q .0)) (stopIn (getD levels i []))
+          (stops-low REACH_MOST b ps (top-most b (r .accepted)) (laidTaps b (tapsOf b) ps) (λ t q. x-low t (of-laid b (tapsOf b) ps t q .0)) (stopIn (getD levels i []))
           (subst (Mem (stopIn (getD levels i []))) (stops-are ∙ ap (stopsOf b ps) are) (view-mem stopIn levels claims i h)) .level)
 
       pub laid-range : LaidInRange pages nodes wires nodeFacts wireFacts groups pageFacts rows n levels claims

@@ -11,13 +11,14 @@ use Rattle.board.specs.Board.{Board}
 use Rattle.board.specs.Refusals.{board, judged}
 use Rattle.board.specs.Demands.{PageLanes}
 use Rattle.board.specs.Planning.{Planning, refused, lanesFor, planning, records}
+use Rattle.board.specs.Accepted.{Accepted}
+use Rattle.board.proofs.Accepting.{sheet-accepted}
 use Rattle.board.specs.Walk.{WithinLibrary, countsIn}
 use Rattle.board.proofs.Lists.{never}
 use Rattle.plan.specs.declared.Lent.{Lent}
 use Rattle.plan.specs.TextPlan.{LINE_MOST, hasRoom, fitsCounts, fitsLent, shortest, WorkLent, TablesHold}
-use Rattle.plan.proofs.Fine.{fine, few}
 use Rattle.plan.proofs.Fitting.{Fits, fits-all, shortest-front}
-use Rattle.plan.proofs.Reading.{LanesFrom, lanes-from}
+use Rattle.board.proofs.Planning.{LanesFrom, lanes-from}
 use Rattle.plan.proofs.Calling.{work-lent, planning-same}
 use Rattle.routes.specs.Bus.{Bus, emptyBus}
 use Rattle.routes.specs.Buffers.{brickRow, wireRow}
@@ -25,15 +26,12 @@ use Rattle.routes.specs.Tables.{writtenOver}
 use Rattle.routes.specs.Plan.{busOf, laidGroups}
 use Rattle.routes.specs.Route.{routedBy, fitsBus, laid}
 use Rattle.routes.specs.Holding.{BusHeld}
-use Rattle.routes.specs.Demand3.{HighGutters}
 use Rattle.routes.specs.declared.bus.BusCount.{BusCount}
 use Rattle.routes.proofs.Made.{Made}
 use Rattle.routes.proofs.Walk.{bus-kept}
 use Rattle.routes.proofs.Room.{room-to-turn}
-use Rattle.routes.proofs.Routed.{judged-gutters}
 use Rattle.ports.specs.Ports.{Ported}
 use Rattle.ports.specs.Settling.{portsOver, settled, Settleable, Settled}
-use Rattle.ports.proofs.Reading.{WiresRanged}
 use Rattle.ports.proofs.Laid.{plan-ports, own-ported}
 use Rattle.ports.proofs.Calling.{settleable, settled-plan}
 use Rattle.gutter.specs.Bus.{BusLent, TextLaid}
@@ -44,10 +42,6 @@ use Rattle.gutter.specs.declared.bus.BusText.{BusText}
 use Rattle.gutter.specs.declared.bus.BusText.the-variants as texts
 use Rattle.gutter.specs.declared.bus.BusPlan.{BusPlan}
 use Rattle.gutter.specs.declared.bus.BusPlan.the-variants as plans
-
--- The sheet's ranges of an accepted board's wires.
-pub wires-ranged : (most : Counts) (text : List ℕ) (b : Board) → WithinLibrary most → judged most text ≡ board b → WiresRanged b
-wires-ranged most text b low e = let f = fine most text b e in record { count = few low f .5; targetPorts = λ w h. f .known .wire w h .targetPort .1 }
 
 -- What an answer of `lay_text` says of the planning.
 module _ (rows nodeFacts wireFacts taps groups pageFacts old oldWires rerouters busWires : List (List ℕ)) where
@@ -96,20 +90,17 @@ module _ (rows nodeFacts wireFacts taps groups pageFacts old oldWires rerouters 
     fit : Fits lent (told .onBoard)
     fit = fits-all lent (told .onBoard) (from .fitting)
 
-    gutters : HighGutters (told .onBoard)
-    gutters = judged-gutters most text (told .onBoard) (from .accepted)
+    accepted : Accepted (told .onBoard)
+    accepted = sheet-accepted most text (told .onBoard) low (from .accepted)
 
     made : Made (told .onBoard) (told .lanes) laidBus
-    made = bus-kept (told .onBoard) (told .lanes) (from .lanes) gutters .made
-
-    ranged : WiresRanged (told .onBoard)
-    ranged = wires-ranged most text (told .onBoard) low (from .accepted)
+    made = bus-kept (told .onBoard) (told .lanes) (from .lanes) accepted .made
 
     ported : Ported emptyBus laidBus
     ported = own-ported (plan-ports (told .onBoard) (told .lanes) .laid)
 
     room : length (laidBus .wires) ≤ length oldWires
-    room = let r = room-to-turn (told .onBoard) (told .lanes) (from .lanes) gutters .wires in let f = fit .busWires in omega arith
+    room = let r = room-to-turn (told .onBoard) (told .lanes) (from .lanes) accepted .wires in let f = fit .busWires in omega arith
 
     pub suppressible : (demands spare : List (List ℕ)) → lent .ports ≤ length ports → lent .work ≤ length demands → lent .work ≤ length spare
         → Settleable busWires 0 (bus .wires) ports 0 demands spare
@@ -118,12 +109,12 @@ module _ (rows nodeFacts wireFacts taps groups pageFacts old oldWires rerouters 
         let fw = fit .work in
         let fp = fit .ports in
         subst (λ (k : ℕ). Settleable busWires 0 k ports 0 demands spare) (sym (told .held .wireCount))
-        (settleable (told .onBoard) (told .lanes) ranged ported refl made busWires oldWires (told .held .wireRows) room ports 0 (omega arith) refl demands spare (omega arith) (omega arith) (omega arith))
+        (settleable (told .onBoard) (told .lanes) accepted ported refl made busWires oldWires (told .held .wireRows) room ports 0 (omega arith) refl demands spare (omega arith) (omega arith) (omega arith))
 
     suppressed : settled busWires 0 (bus .wires) ports 0 ≡ laidBus .ports
     suppressed =
         ap (λ (k : ℕ). settled busWires 0 k ports 0) (told .held .wireCount)
-        ∙ settled-plan (told .onBoard) (told .lanes) ranged ported refl made busWires oldWires (told .held .wireRows) room ports 0 (omega arith) refl
+        ∙ settled-plan (told .onBoard) (told .lanes) accepted ported refl made busWires oldWires (told .held .wireRows) room ports 0 (omega arith) refl
 
     pub bus-texted : (after : List (List ℕ)) (u : ℕ) → Settled busWires 0 (bus .wires) ports 0 after u
         → BusTexted (planning most (fitsLent lent) text) rows nodeFacts wireFacts taps groups pageFacts old oldWires ports rerouters busWires after (texts.Laid c (bus .rerouters) (bus .wires) u g)
@@ -144,7 +135,7 @@ withoutCounts (texts.Laid c n k u g) = plans.Laid n k u g
 
 -- What an answer of `lay_within` says of the planning.
 -- What `lay_bus` finds lent, with so many rows of work space. It writes no page answers and no text, and plans as if the most were lent for them: so only
--- document 01's lengths decide.
+-- the named lengths (S15) decide.
 abbrev pub lentWith : ℕ → ℕ → ℕ → ℕ → Lent
 lentWith rerouters busWires ports work = record { rerouters = rerouters; «bus_wires» = busWires; ports = ports; answers = 64; work = work; out = 12591232 }
 

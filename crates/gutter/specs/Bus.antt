@@ -9,7 +9,7 @@ use Rattle.board.specs.Demands.{PageLanes}
 use Rattle.board.specs.Planning.{Planning, refused, lanesFor}
 use Rattle.board.specs.Walk.{countsIn}
 use Rattle.plan.specs.declared.Lent.{Lent}
-use Rattle.plan.specs.TextPlan.{Few, SectionsIn, TablesHold}
+use Rattle.plan.specs.TextPlan.{SectionsIn, TablesHold}
 use Rattle.routes.specs.Plan.{busOf, laidGroups}
 use Rattle.routes.specs.Holding.{BusHeld}
 use Rattle.routes.specs.declared.bus.BusCount.{BusCount}
@@ -27,7 +27,6 @@ pub record BusLent (lent : Lent) (marks rerouters busWires : List (List ℕ)) : 
 pub record RowsReady (b : Board) (ps : List PageLanes) (rows : List (List ℕ)) (counts : Counts) (nodeFacts wireFacts taps groups pageFacts : List (List ℕ)) (m : ℕ) (laid stops spare marks rerouters busWires : List (List ℕ)) : Type 0 where
   pub sections : SectionsIn b rows
   pub counted : counts ≡ countsIn b
-  pub few : Few b
   pub ready : LanesReady b ps (b .pages) (b .nodes) (b .wires) nodeFacts wireFacts groups pageFacts taps m laid spare stops marks rerouters busWires
 
 -- What `lay_text` answers and leaves: on a refusal the two buffers as they were, else the tables of the board, and its bus in the buffers.

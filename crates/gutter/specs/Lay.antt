@@ -3,20 +3,15 @@ use Prim.Native.Nat.{ℕ, _*_, _≤_}
 use mathlib.Core.Path.{_≡_}
 use mathlib.Core.List.{List}
 use lib.ListN.{length}
-use Rattle.sheet.specs.declared.Counts.{Counts}
 use Rattle.board.specs.Board.{Board}
-use Rattle.board.specs.Refusals.{board, judged}
-use Rattle.board.specs.Walk.{WithinLibrary}
+use Rattle.board.specs.Accepted.{Accepted}
 use Rattle.board.specs.Groups.{tapsOf}
 use Rattle.board.specs.Demands.{PageLanes, planned, planLanes}
 use Rattle.board.specs.Tables.{NodeFacts, WireFacts, GroupFacts, PageFacts, view, tapIn}
 
 -- A planned board of an accepted sheet, as `plan_board` leaves it in tables, and room for what is laid on it.
 pub record LanesReady (b : Board) (ps : List PageLanes) (pages nodes wires nodeFacts wireFacts groups pageFacts taps : List (List ℕ)) (m : ℕ) (laid spare stops marks rerouters busWires : List (List ℕ)) : Type 0 where
-  pub text : List ℕ
-  pub most : Counts
-  pub within : WithinLibrary most
-  pub accepted : judged most text ≡ board b
+  pub accepted : Accepted b
   pub pages-are : b .pages ≡ pages
   pub nodes-are : b .nodes ≡ nodes
   pub wires-are : b .wires ≡ wires

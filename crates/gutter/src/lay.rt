@@ -1,7 +1,7 @@
 // Lays the lanes of a planned board: its taps in the order of laying, their stops with levels, and then rerouters and bus wires.
 use cells::cells::book_claims;
 use cells::cells::book_nodes;
-use emit::emit::emit_lanes;
+use emit::walk::emit_lanes;
 use routes::bus::BusCount;
 use stops::levels::lay_stops;
 use stops::stops::lay_taps;

@@ -14,7 +14,7 @@ use Rattle.board.specs.Refusals
 use Rattle.board.specs.Refusals.{Judged, board, judged}
 use Rattle.board.specs.Demands
 use Rattle.board.specs.Demands.{PageLanes, planLanes, noLanes}
-use Rattle.board.specs.Planning.{Planning, refused, lanesFor, planning, fitsPages, crowding, records, pageRow, pagesAfter}
+use Rattle.board.specs.Planning.{Planning, refused, lanesFor, planning, fitsPages, crowding, records, pageRow, pagesAfter, fitted}
 use Rattle.board.specs.Walk.{WithinLibrary, countsIn}
 use Rattle.lanes.specs.Lanes.{laneMost}
 use Rattle.board.proofs.Lists.{never}
@@ -22,12 +22,12 @@ use Rattle.plan.specs.declared.Lent.{Lent}
 use Rattle.plan.specs.declared.TextPlan
 use Rattle.plan.specs.declared.TextPlan.the-variants as answers
 use Rattle.plan.specs.declared.PagesPlan.the-variants.{Refused, Planned}
-use Rattle.plan.specs.TextPlan.{LINE_MOST, hasRoom, fitsCounts, fitsLent, shortest, fitted, WorkLent, TablesHold, TextPlanned}
+use Rattle.plan.specs.TextPlan.{LINE_MOST, hasRoom, fitsCounts, fitsLent, shortest, WorkLent, TablesHold, TextPlanned}
 use Rattle.plan.specs.PagesPlan.{planCall, pagesPlan, PagesPlanned}
-use Rattle.plan.proofs.Fine.{fine, few}
+use Rattle.board.proofs.Accepting.{sheet-accepted}
 use Rattle.plan.proofs.Planned.{planned-counts}
 use Rattle.plan.proofs.Fitting.{fits-all}
-use Rattle.plan.proofs.Reading.{planning-refused, planning-fine, lanes-from}
+use Rattle.board.proofs.Planning.{planning-refused, planning-fine, lanes-from}
 
 pub within-library : WithinLibrary libraryMost
 within-library s = omega arith
@@ -76,7 +76,7 @@ planning-same text f g same = go (judged libraryMost text) refl
     go (Refusals.turnedAway n l) e = planning-refused libraryMost text f n l e ∙ sym (planning-refused libraryMost text g n l e)
     go (board b) e =
         planning-fine libraryMost text f b e
-        ∙ ap (λ (t : Bool). elim t as (λ _. Planning) [ true ↦ crowding b (planLanes b) | false ↦ refused 7 0 ]) (let h = few within-library (fine libraryMost text b e) in same b (h .5) (h .0))
+        ∙ ap (λ (t : Bool). elim t as (λ _. Planning) [ true ↦ crowding b (planLanes b) | false ↦ refused 7 0 ]) (let h = sheet-accepted libraryMost text b within-library e in same b (h .fewWires) (h .fewPages))
         ∙ sym (planning-fine libraryMost text g b e)
 
 pub pages-planning : (text : List ℕ) (answers work : ℕ) → planning libraryMost (fitsLent (pagesLent answers work)) text ≡ planning libraryMost (fitsPages answers work) text

@@ -17,13 +17,12 @@ use Rattle.board.specs.Board.{Board}
 use Rattle.board.specs.Refusals
 use Rattle.board.specs.Refusals.{Judged, judged}
 use Rattle.board.specs.Demands.{planLanes}
-use Rattle.board.specs.Planning.{Planning, refused, planning, crowding, fitsPages, records}
+use Rattle.board.specs.Planning.{Planning, refused, planning, crowding, fitsPages, records, fitted}
 use Rattle.demands.specs.PagePlan.{Room}
 use Rattle.board.specs.Walk.{WithinLibrary, countsIn}
 use Rattle.board.proofs.Lists.{and-left, and-right}
 use Rattle.plan.specs.declared.Lent.{Lent}
-use Rattle.plan.specs.TextPlan.{LINE_MOST, hasRoom, fitsCounts, fitsLent, shortest, fitted, WorkLent}
-use Rattle.plan.proofs.Fine.{Fine, fine, few}
+use Rattle.plan.specs.TextPlan.{LINE_MOST, hasRoom, fitsCounts, fitsLent, shortest, WorkLent}
 
 -- What a board that fits finds lent.
 pub record Fits (lent : Lent) (b : Board) : Type 0 where

@@ -1,4 +1,4 @@
-pub mod Fine
+pub mod Slices
 pub mod Fitting
 pub mod Planned
 pub mod PageRows

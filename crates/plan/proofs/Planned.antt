@@ -22,8 +22,8 @@ use Rattle.demands.specs.PagePlan.{BoardPlanned}
 use Rattle.board.proofs.Lists.{never}
 use Rattle.board.proofs.LanesFit.{rising}
 use Rattle.plan.specs.declared.TextSurvey.the-variants as surveys
-use Rattle.plan.specs.TextPlan.{SectionsIn, Few, FactsHold, LanesSurveyed}
-use Rattle.plan.proofs.Fine.{Slices}
+use Rattle.plan.specs.TextPlan.{SectionsIn, FactsHold, LanesSurveyed}
+use Rattle.plan.proofs.Slices.{Slices}
 
 -- A crowded page is one of the pages.
 crowded-among : (b : Board) (ts : List Tap) (n q : ℕ) → planUpto b ts n ≡ crowded q → q < n

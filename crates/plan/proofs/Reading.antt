@@ -18,47 +18,32 @@ use Rattle.board.specs.Board.{Board}
 use Rattle.board.specs.Refusals
 use Rattle.board.specs.Refusals.{Judged, board, judged}
 use Rattle.board.specs.Demands.{PageLanes, Planned, crowded, planned, planLanes}
-use Rattle.board.specs.Planning.{Planning, refused, lanesFor, planning, crowding, records}
+use Rattle.board.specs.Planning.{Planning, refused, lanesFor, planning, crowding, records, fitted, judgedFor}
 use Rattle.collect.specs.Collecting.{Indexes}
 use Rattle.demands.specs.PagePlan.{Room}
 use Rattle.board.specs.Walk.{WithinLibrary, countsIn, boardChecked, Indexed, IndexedIf}
 use Rattle.board.proofs.Lists.{never}
+use Rattle.board.proofs.Planning.{planning-refused, planning-fine}
 use Rattle.plan.specs.declared.Lent.{Lent}
-use Rattle.plan.specs.TextPlan.{Few, fitsCounts, fitsLent, lentFor, fitting, fitted, WorkLent, BoardRead, BoardChecked}
-use Rattle.plan.proofs.Fine.{Fine, fine, few, nodes-ranged, sections-in, rows-count}
+use Rattle.plan.specs.TextPlan.{fitsCounts, fitsLent, lentFor, fitting, WorkLent, BoardRead, BoardChecked}
+use Rattle.board.specs.Accepted.{Accepted}
+use Rattle.board.proofs.Accepting.{FromSheet, from-sheet, sheet-accepted}
+use Rattle.plan.proofs.Slices.{sections-in, rows-count}
 use Rattle.plan.proofs.Fitting.{fits-all}
 
--- The counts of a board are at most the library's.
-pub counts-few : (b : Board) (c : Counts) → c ≡ countsIn b → Few b
+-- The counts of an accepted board are at most the library's.
+pub counts-few : (b : Board) (c : Counts) → c ≡ countsIn b → Accepted b
     → (c .pages ≤ libraryMost .pages) × (c .nodes ≤ libraryMost .nodes) × (c .chips ≤ libraryMost .chips) × (c .inner ≤ libraryMost .inner) × (c .execs ≤ libraryMost .execs) × (c .wires ≤ libraryMost .wires)
-counts-few b c e f =
-    subst (λ (d : Counts). (d .pages ≤ libraryMost .pages) × (d .nodes ≤ libraryMost .nodes) × (d .chips ≤ libraryMost .chips) × (d .inner ≤ libraryMost .inner) × (d .execs ≤ libraryMost .execs) × (d .wires ≤ libraryMost .wires)) (sym e) f
+counts-few b c e a =
+    subst (λ (d : Counts). (d .pages ≤ libraryMost .pages) × (d .nodes ≤ libraryMost .nodes) × (d .chips ≤ libraryMost .chips) × (d .inner ≤ libraryMost .inner) × (d .execs ≤ libraryMost .execs) × (d .wires ≤ libraryMost .wires)) (sym e)
+    (a .fewPages, a .fewNodes, a .fewChips, a .fewInner, a .fewExecs, a .fewWires)
 
 -- What fits by its counts fits as a board.
 pub fits-counted : (lent : Lent) (b : Board) (c : Counts) (t : Bool) → c ≡ countsIn b → fitsCounts lent c ≡ t → fitsLent lent b ≡ t
 unfolding fitsLent
 fits-counted lent b c t e f = ap (fitsCounts lent) (sym e) ∙ f
 
--- 7 and 8 of a sheet that is judged.
-abbrev pub judgedFor : (Board → Bool) → Judged → Planning
-judgedFor fits (Refusals.turnedAway n l) = refused n l
-judgedFor fits (board b) = fitted fits b
-
 module _ (most : Counts) (text : List ℕ) (fits : Board → Bool) where
-  planning-by : planning most fits text ≡ judgedFor fits (judged most text)
-  unfolding planning
-  planning-by = go (judged most text)
-    where
-      go : (j : Judged) → elim j as (λ _. Planning) [ Refusals.turnedAway n l ↦ refused n l | board b ↦ elim (fits b) [ true ↦ crowding b (planLanes b) | false ↦ refused 7 0 ] ] ≡ judgedFor fits j
-      go (Refusals.turnedAway n l) = refl
-      go (board b) = refl
-
-  pub planning-refused : (n l : ℕ) → judged most text ≡ Refusals.turnedAway n l → planning most fits text ≡ refused n l
-  planning-refused n l e = planning-by ∙ ap (judgedFor fits) e
-
-  pub planning-fine : (b : Board) → judged most text ≡ board b → planning most fits text ≡ fitted fits b
-  planning-fine b e = planning-by ∙ ap (judgedFor fits) e
-
   -- Refusals 1 to 7.
   pub fitting-refused : (n l : ℕ) → judged most text ≡ Refusals.turnedAway n l → fitting most fits text ≡ Refusals.turnedAway n l
   unfolding fitting
@@ -100,42 +85,14 @@ planning-then most text whole first then both = go (judged most text) refl
         fit true f = tried true f ∙ ap (judgedFor then) (sym (fitting-fits most text first b e f))
         fit false f = tried false f ∙ ap (judgedFor then) (sym (fitting-unfit most text first b e f))
 
--- A plan comes from an accepted board that fits.
-module _ (most : Counts) (text : List ℕ) (fits : Board → Bool) (b : Board) (ps : List PageLanes) where
-  pub record LanesFrom : Type 0 where
-    pub accepted : judged most text ≡ board b
-    pub fitting : fits b ≡ true
-    pub lanes : planLanes b ≡ planned ps
-
-  pub lanes-from : planning most fits text ≡ lanesFor b ps → LanesFrom
-  lanes-from e = go (judged most text) refl
-    where
-      go : (j : Judged) → judged most text ≡ j → LanesFrom
-      go (Refusals.turnedAway n l) is = let d : refused n l ≡ lanesFor b ps = sym (planning-refused most text fits n l is) ∙ e in never cc
-      go (board c) is = fit (fits c) refl
-        where
-          from : (t : Bool) → fits c ≡ t → elim t as (λ _. Planning) [ true ↦ crowding c (planLanes c) | false ↦ refused 7 0 ] ≡ lanesFor b ps
-          from t f = rw (← f) (sym (planning-fine most text fits c is) ∙ e)
-
-          laned : fits c ≡ true → (r : Planned) → planLanes c ≡ r → crowding c r ≡ lanesFor b ps → LanesFrom
-          laned f (crowded q) k d = never cc
-          laned f (planned qs) k d =
-              let same : c ≡ b = cc in
-              let lanes-same : qs ≡ ps = cc in
-              record { accepted = is ∙ ap board same; fitting = ap fits (sym same) ∙ f; lanes = ap planLanes (sym same) ∙ k ∙ ap planned lanes-same }
-
-          fit : (t : Bool) → fits c ≡ t → LanesFrom
-          fit true f = laned f (planLanes c) refl (from true f)
-          fit false f = let d : refused 7 0 ≡ lanesFor b ps = from false f in never cc
-
 -- The rows that are read.
 module _ {most : Counts} {text : List ℕ} {b : Board} {counts : Counts} {bodyIds bodyNexts bodyHeads innerIds innerNexts innerHeads : List ℕ}
     (low : WithinLibrary most) (checked : BoardChecked b most text counts bodyIds bodyNexts bodyHeads innerIds innerNexts innerHeads) where
-  known : Fine most text b
-  known = fine most text b (checked .fine)
+  known : FromSheet most text b
+  known = from-sheet most text b (checked .fine)
 
-  pub checked-few : Few b
-  checked-few = few low known
+  pub checked-accepted : Accepted b
+  checked-accepted = sheet-accepted most text b low (checked .fine)
 
   module _ (lent : Lent) (fits : fitsCounts lent counts ≡ true) (old : List (List ℕ)) {nodeFacts wireFacts taps groups pageFacts demands keys spare : List (List ℕ)}
       (work : WorkLent (lent .work) (length old) nodeFacts wireFacts taps groups pageFacts demands keys spare) where
@@ -158,14 +115,14 @@ module _ {most : Counts} {text : List ℕ} {b : Board} {counts : Counts} {bodyId
     unfolding records
     room =
         let n = enough in
-        let f = checked-few in
+        let f = checked-accepted in
         let nf = work .node-facts in let wf = work .wire-facts in let ts = work .taps-lent in let gs = work .groups-lent in
         let pf = work .page-facts in let ds = work .demands-lent in let ks = work .keys-lent in let ss = work .spare-lent in
         record {
-          fewPages = f .0;
-          fewNodes = f .1;
-          fewExecs = f .4;
-          fewWires = f .5;
+          fewPages = f .fewPages;
+          fewNodes = f .fewNodes;
+          fewExecs = f .fewExecs;
+          fewWires = f .fewWires;
           nodeRoom = (omega arith, omega arith, omega arith);
           wireRoom = (omega arith, omega arith, omega arith);
           demandRoom = (omega arith, omega arith, omega arith);
@@ -177,8 +134,7 @@ module _ {most : Counts} {text : List ℕ} {b : Board} {counts : Counts} {bodyId
         record {
           sections = rw e (sections-in b (rowsFrom text) (drop n old) (known .known));
           counted = checked .counted;
-          few = checked-few;
-          ranged = nodes-ranged low known;
+          accepted = checked-accepted;
           indexes = checked .indexes;
           room = room;
         }
@@ -202,5 +158,5 @@ module _ (most : Counts) (text : List ℕ) where
       go (Refusals.turnedAway n l) is q x = never cc
       go (board b) is q x =
           let same : c ≡ countsIn b = cc in
-          let f = few low (fine most text b is) in
-          (b, record { fine = is; counted = same; indexes = record { few = f .1; fewInner = f .3; body = x .body; inside = x .inner } })
+          let f = sheet-accepted most text b low is in
+          (b, record { fine = is; counted = same; indexes = record { few = f .fewNodes; fewInner = f .fewInner; body = x .body; inside = x .inner } })

@@ -7,14 +7,14 @@ use Rattle.sheet.specs.declared.Counts.{Counts}
 use Rattle.board.specs.Board.{Board}
 use Rattle.board.specs.Refusals.{Judged, turnedAway, board}
 use Rattle.board.specs.Demands.{PageLanes, Planned, crowded, planned, planLanes}
-use Rattle.board.specs.Planning.{Planning, planning, crowding}
+use Rattle.board.specs.Planning.{Planning, planning, crowding, judgedFor}
 use Rattle.board.specs.Walk.{countsIn}
 use Rattle.board.proofs.Lists.{never}
 use Rattle.plan.specs.declared.TextPlan.{TextPlan}
 use Rattle.plan.specs.declared.TextSurvey.{TextSurvey}
 use Rattle.plan.specs.declared.TextSurvey.the-variants.{Refused, Crowded, Laned}
 use Rattle.plan.specs.TextPlan.{fitting, FactsHold, TablesHold, TextPlanned, planOf, LanesSurveyed, TextSurveyed}
-use Rattle.plan.proofs.Reading.{judgedFor, planning-then}
+use Rattle.plan.proofs.Reading.{planning-then}
 
 pub facts-in : {b : Board} {ps : List PageLanes} {rows nodeFacts wireFacts taps groups pageFacts : List (List ℕ)} {m : ℕ} → TablesHold b ps rows nodeFacts wireFacts taps groups pageFacts m → FactsHold b rows nodeFacts wireFacts
 facts-in t = record { sections = t .sections; nodes-known = t .nodes-known; wires-known = t .wires-known }

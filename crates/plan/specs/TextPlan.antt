@@ -16,7 +16,7 @@ use Rattle.board.specs.Planning.{Planning, refused, lanesFor, planning, fitsPag
 use Rattle.board.specs.Tables.{view, tapIn, NodeFacts, WireFacts, GroupFacts, PageFacts}
 use Rattle.collect.specs.Collecting.{Indexes}
 use Rattle.board.specs.Walk.{countsIn, Indexed}
-use Rattle.board.specs.Accepted.{NodesRanged}
+use Rattle.board.specs.Accepted.{Accepted}
 use Rattle.demands.specs.PagePlan.{Room}
 use Rattle.plan.specs.declared.Lent.{Lent}
 use Rattle.plan.specs.declared.TextPlan.{TextPlan}
@@ -70,18 +70,11 @@ pub record SectionsIn (b : Board) (rows : List (List ℕ)) : Type 0 where
   pub execs : take (length (b .execs)) (drop (length (b .pages) + length (b .nodes) + length (b .chips) + length (b .inner)) rows) ≡ b .execs
   pub wires : take (length (b .wires)) (drop (length (b .pages) + length (b .nodes) + length (b .chips) + length (b .inner) + length (b .execs)) rows) ≡ b .wires
 
--- At most as many records as the library takes.
-abbrev pub Few : Board → Type 0
-Few b =
-    (length (b .pages) ≤ libraryMost .pages) × (length (b .nodes) ≤ libraryMost .nodes) × (length (b .chips) ≤ libraryMost .chips)
-    × (length (b .inner) ≤ libraryMost .inner) × (length (b .execs) ≤ libraryMost .execs) × (length (b .wires) ≤ libraryMost .wires)
-
 -- A board that is read into rows, with its ids indexed, and room for its plan in the tables.
 pub record BoardRead (b : Board) (rows : List (List ℕ)) (counts : Counts) (bodyIds bodyNexts bodyHeads innerIds innerNexts innerHeads : List ℕ) (nodeFacts wireFacts taps groups pageFacts demands keys spare : List (List ℕ)) : Type 0 where
   pub sections : SectionsIn b rows
   pub counted : counts ≡ countsIn b
-  pub few : Few b
-  pub ranged : NodesRanged (b .nodes)
+  pub accepted : Accepted b
   pub indexes : Indexes (b .nodes) (b .inner) bodyIds bodyNexts bodyHeads innerIds innerNexts innerHeads
   pub room : Room (b .pages) (b .nodes) (b .execs) (b .wires) nodeFacts wireFacts taps groups pageFacts demands keys spare
 
@@ -90,10 +83,6 @@ pub record BoardChecked (b : Board) (most : Counts) (text : List ℕ) (counts : 
   pub fine : judged most text ≡ Refusals.board b
   pub counted : counts ≡ countsIn b
   pub indexes : Indexes (b .nodes) (b .inner) bodyIds bodyNexts bodyHeads innerIds innerNexts innerHeads
-
--- E7, E8: refusals 7 and 8 of a board.
-abbrev pub fitted : (Board → Bool) → Board → Planning
-fitted fits b = elim (fits b) [ true ↦ crowding b (planLanes b) | false ↦ refused 7 0 ]
 
 -- 7 of a sheet that is judged.
 abbrev pub lentFor : (Board → Bool) → Judged → Judged

@@ -12,6 +12,7 @@ use lib.ListN.{length, take, length-append, length-map}
 use lib.Seq.{length-take-le}
 use Rattle.lanes.proofs.Every.{All}
 use Rattle.board.specs.Lists.{any, keep, upto}
+use Rattle.board.specs.Accepted.{Accepted}
 use Rattle.board.specs.Board.{Board}
 use Rattle.board.specs.Demands.{PageLanes}
 use Rattle.board.proofs.Lists.{byTest, none-counted, neither, or-left, or-right}
@@ -26,7 +27,7 @@ use Rattle.routes.proofs.Distinct.{distinct-new, distinct-le}
 use Rattle.ports.specs.Ports.{sentTo, targets, suppress, portsSet, portsWith, Ported}
 use Rattle.ports.specs.Settling.{portLess, settled, Settleable}
 use Rattle.ports.proofs.SetLaws.{suppress-append, set-again}
-use Rattle.ports.proofs.Reading.{Legible, WiresRanged, deliverable, from-start, all-written, targets-held, settled-held}
+use Rattle.ports.proofs.Reading.{Legible, deliverable, from-start, all-written, targets-held, settled-held}
 use Rattle.ports.proofs.Laid.{Cornered, cornered, corner-targets, corner-ports}
 
 insert-length : (p : Port) (l : List Port) → length (insertPort p l) ≤ suc (length l)
@@ -128,7 +129,7 @@ module _ (b : Board) (ps : List PageLanes) where
   targets-few {bus} m = omega (arith, deliveries-few m, targets-count (bus .wires))
 
   -- The bus wires of a plan are legible.
-  pub made-legible : WiresRanged b → {bus : Bus} → Made b ps bus → All Legible (bus .wires)
+  pub made-legible : Accepted b → {bus : Bus} → Made b ps bus → All Legible (bus .wires)
   made-legible r nothing = tt
   made-legible r (placing m f k l s) = (tt, made-legible r m)
   made-legible r (serving m f w s) = (deliverable r w (s .onBoard), made-legible r m)
@@ -139,11 +140,11 @@ front-all (w ∷ new) old a = (a .0, front-all new old (a .1))
 
 -- A plan's earlier bus, its ports handed in, and its later bus, held in the table of bus wires: with room for as many rows and ports as wires the ports can
 -- be settled, and are the later bus's. The earlier bus may be the empty one, with no ports.
-module _ (b : Board) (ps : List PageLanes) (ranged : WiresRanged b) {start later : Bus} (p : Ported start later) (own : start .ports ≡ portsWith [] (start .wires))
+module _ (b : Board) (ps : List PageLanes) (accepted : Accepted b) {start later : Bus} (p : Ported start later) (own : start .ports ≡ portsWith [] (start .wires))
     (made : Made b ps later) (wires old : List (List ℕ)) (held : wires ≡ writtenOver wireRow (later .wires) old) (room : length (later .wires) ≤ length old)
     (ports : List (List ℕ)) (u : ℕ) (few : u ≤ length ports) (given : portsHeld ports u ≡ start .ports) where
   legible : All Legible (p .new)
-  legible = front-all (p .new) (start .wires) (subst (All Legible) (p .wires) (made-legible b ps ranged made))
+  legible = front-all (p .new) (start .wires) (subst (All Legible) (p .wires) (made-legible b ps accepted made))
 
   pub settled-plan : settled wires (length (start .wires)) (length (later .wires)) ports u ≡ later .ports
   settled-plan = settled-held p legible wires old held room ports u (ap portsSet (given ∙ own) ∙ (set-again (targets (start .wires)) ∙ sym own))
@@ -182,24 +183,24 @@ module _ (b : Board) (ps : List PageLanes) (ranged : WiresRanged b) {start later
       }
 
 -- The corner pass from any bus, its ports handed in in any order: with room for those and for one more a wire that passes the pass's tests.
-module _ (b : Board) (ranged : WiresRanged b) (start : Bus) (wires old : List (List ℕ)) (held : wires ≡ writtenOver wireRow (corners b start .wires) old)
+module _ (b : Board) (accepted : Accepted b) (start : Bus) (wires old : List (List ℕ)) (held : wires ≡ writtenOver wireRow (corners b start .wires) old)
     (room : length (corners b start .wires) ≤ length old) (ports : List (List ℕ)) (u : ℕ) (few : u ≤ length ports) (given : portsSet (portsHeld ports u) ≡ start .ports) where
   turned : Cornered b start (corners b start)
   turned = cornered b start
 
   pub settled-corners : settled wires (length (start .wires)) (length (corners b start .wires)) ports u ≡ corners b start .ports
-  settled-corners = settled-held (turned .ported) (turned .legible ranged) wires old held room ports u given
+  settled-corners = settled-held (turned .ported) (turned .legible accepted) wires old held room ports u given
 
   pub settleable-corners : (rows spare : List (List ℕ)) → turnable b start + u ≤ length rows → turnable b start + u ≤ length spare
       → turnable b start + u ≤ length ports → Settleable wires (length (start .wires)) (length (corners b start .wires)) ports u rows spare
   unfolding turned
   settleable-corners rows spare h k l =
-      let read = ap length (targets-held (turned .ported) (turned .legible ranged) wires old held room) in
+      let read = ap length (targets-held (turned .ported) (turned .legible accepted) wires old held room) in
       let more : length (targets (turned .ported .new)) ≤ turnable b start = corner-targets b start in
       let many : length (portsHeld ports u) ≡ u = length-map (take u ports) portIn ∙ length-take-le u ports few in
       record {
-        rising = from-start (turned .ported) (turned .legible ranged) wires old held room;
-        written = all-written (turned .ported) (turned .legible ranged) wires old held room;
+        rising = from-start (turned .ported) (turned .legible accepted) wires old held room;
+        written = all-written (turned .ported) (turned .legible accepted) wires old held room;
         given = few;
         room = omega arith;
         spared = omega arith;

@@ -7,6 +7,7 @@ use mathlib.Core.List.{List, [], _∷_, append-nil}
 use lib.ListN.{length, length-append}
 use Rattle.lanes.proofs.Every.{All}
 use Rattle.board.specs.Lists.{fold, upto}
+use Rattle.board.specs.Accepted.{Accepted}
 use Rattle.board.specs.Board.{Board, placed, xOf}
 use Rattle.board.specs.Groups.{Tap, tapsOf, sourceRow}
 use Rattle.board.specs.Demands.{PageLanes}
@@ -21,7 +22,7 @@ use Rattle.routes.proofs.Made.{onwardWire, deliveryWire}
 use Rattle.routes.proofs.Turned.{withTurn, turn-wires, turned}
 use Rattle.routes.proofs.Room.{corner-room}
 use Rattle.ports.specs.Ports.{targets, portsWith, Ported, OwnPorts}
-use Rattle.ports.proofs.Reading.{Legible, WiresRanged, deliverable}
+use Rattle.ports.proofs.Reading.{Legible, deliverable}
 
 -- What holds of the empty bus, and goes on to hold where a rerouter is placed and where a wire is delivered, holds of every plan.
 module _ (b : Board) (Q : Bus → Type 0) (placing : (bus : Bus) (f : Feed) (k : Brick) → Q bus → Q (place bus f k))
@@ -106,7 +107,7 @@ module _ (b : Board) where
   pub record Cornered (bus later : Bus) : Type 0 where
     pub ported : Ported bus later
     pub even : length (ported .new) ≡ 2 * length (targets (ported .new))
-    pub legible : WiresRanged b → All Legible (ported .new)
+    pub legible : Accepted b → All Legible (ported .new)
 
   none-cornered : (bus : Bus) → Cornered bus bus
   none-cornered bus = record { ported = record { new = []; wires = refl; ports = refl }; even = refl; legible = λ r. tt }

@@ -5,9 +5,10 @@ use mathlib.Core.Path.{_≡_, refl, sym, ap, _∙_}
 use mathlib.Core.List.{List, [], _∷_, _++_, map}
 use lib.ListN.{length, getD, set, length-append, length-map}
 use lib.Seq.{getD-set-same, getD-set-other, take-at}
-use Rattle.sheet.specs.Table.{MISSING, PORT_MOST, libraryMost}
+use Rattle.sheet.specs.Table.{MISSING}
 use Rattle.lanes.proofs.Every.{All}
 use Rattle.board.specs.Board.{Board, targetPort}
+use Rattle.board.specs.Accepted.{Accepted}
 use Rattle.routes.specs.Bus.{Bus, BusWire, End, port, rerouter, Carries, onward, delivery, Port}
 use Rattle.routes.specs.Buffers.{endRow, carriesRow, wireRow, portRow, endIn, carriesIn, wireIn, portIn, portsHeld}
 use Rattle.routes.specs.Tables.{writtenOver}
@@ -25,14 +26,9 @@ told (delivery k d) (rerouter n) = k < MISSING
 abbrev pub Legible : BusWire → Type 0
 Legible w = told (w .carries) (w .target)
 
--- What the sheet's ranges leave of the wires of an accepted board.
-pub record WiresRanged (b : Board) : Type 0 where
-  pub count : length (b .wires) ≤ libraryMost .wires
-  pub targetPorts : (w : ℕ) → w < length (b .wires) → targetPort b w ≤ PORT_MOST
-
 -- A delivery of a board's wire is legible.
-pub deliverable : {b : Board} → WiresRanged b → (w : ℕ) → w < length (b .wires) → (w < MISSING) × (targetPort b w < MISSING)
-deliverable r w h = (omega (arith, r .count), omega (arith, r .targetPorts w h))
+pub deliverable : {b : Board} → Accepted b → (w : ℕ) → w < length (b .wires) → (w < MISSING) × (targetPort b w < MISSING)
+deliverable a w h = (omega (arith, a .fewWires), omega (arith, a .target w .1))
 
 -- The last four numbers of a row, read.
 abbrev lastFour : List ℕ → List Port → List Port

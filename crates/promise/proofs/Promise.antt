@@ -11,9 +11,10 @@ use Rattle.sheet.specs.Table.{libraryMost}
 use Rattle.board.specs.Board.{Board}
 use Rattle.board.specs.Demands.{PageLanes}
 use Rattle.board.specs.Planning.{Planning, refused, lanesFor, planning, records}
+use Rattle.board.proofs.Accepting.{sheet-accepted}
 use Rattle.board.proofs.Lists.{never, and-left, and-right}
 use Rattle.plan.specs.TextPlan.{shortest}
-use Rattle.plan.proofs.Reading.{LanesFrom, lanes-from}
+use Rattle.board.proofs.Planning.{LanesFrom, lanes-from}
 use Rattle.plan.proofs.Calling.{within-library}
 use Rattle.routes.specs.Bus.{Bus}
 use Rattle.routes.specs.Buffers.{brickRow, wireRow}
@@ -61,7 +62,7 @@ module _ (text : List ℕ) (work : List ℕ) (old oldWires oldPorts oldAnswers r
             accepted = from .accepted;
             rows =
                 rows-counted (finished b ps) old oldWires oldPorts (c .rerouters-are) (c .wires-are) (c .ports-are) n-is k-is u-is
-                (done-promised libraryMost text within-library b (from .accepted) ps (from .lanes) old oldWires oldPorts
+                (done-promised b (sheet-accepted libraryMost text b within-library (from .accepted)) ps (from .lanes) old oldWires oldPorts
                 (leb-true (5 * W) (length old) (and-left (leb (5 * W) (length old)) (leb (6 * W) (length oldWires) && rest) (from .fitting)))
                 (leb-true (6 * W) (length oldWires) (and-left (leb (6 * W) (length oldWires)) rest one))
                 (leb-true W (length oldPorts) (and-left (leb W (length oldPorts)) (leb (length (b .pages)) (length oldAnswers) && leb (records b) (shortest work)) two)));

@@ -4,21 +4,18 @@ use native.Mathlib.Omega.{arith}
 use mathlib.Core.Path.{_≡_, refl, sym, ap, _∙_, subst}
 use mathlib.Core.List.{List, [], List·Memᴰ}
 use lib.ListN.{length}
-use Rattle.sheet.specs.declared.Counts.{Counts}
 use Rattle.board.specs.Board.{Board}
-use Rattle.board.specs.Refusals.{board, judged}
+use Rattle.board.specs.Accepted.{Accepted}
 use Rattle.board.specs.Demands.{PageLanes, planned, planLanes}
-use Rattle.board.specs.Walk.{WithinLibrary}
 use Rattle.routes.specs.Bus.{Bus, Brick, BusWire}
 use Rattle.routes.specs.Buffers.{brickRow, wireRow, brickIn, wireIn, busHeld}
 use Rattle.routes.specs.Tables.{writtenOver}
 use Rattle.routes.specs.Corners.{corners}
 use Rattle.routes.specs.Plan.{busOf, finished}
-use Rattle.routes.specs.Demand3.{Demand3, HighGutters}
+use Rattle.routes.specs.Demand3.{Demand3}
 use Rattle.routes.proofs.Demand3.{demand3}
 use Rattle.routes.specs.Route.{Room}
 use Rattle.routes.proofs.Room.{room-finished}
-use Rattle.routes.proofs.Routed.{judged-gutters}
 use Rattle.routes.proofs.Rows.{BrickFits, WireFits, brick-back, wire-back, view-written}
 use Rattle.corners.specs.Handed.{busIn, portsIn}
 use Rattle.ports.specs.Ports.{portsWith}
@@ -32,7 +29,7 @@ use Rattle.promise.specs.Promise.{Promised}
 use Rattle.router.proofs.Finishing.{length-written, ports-length, corners-longer, among-all, laid-few, laid-given}
 use Rattle.router.proofs.MiniLaws.{ports-in}
 
-module _ (most : Counts) (text : List ℕ) (low : WithinLibrary most) (b : Board) (accepted : judged most text ≡ board b) (ps : List PageLanes) (plan : planLanes b ≡ planned ps) where
+module _ (b : Board) (accepted : Accepted b) (ps : List PageLanes) (plan : planLanes b ≡ planned ps) where
   abbrev laid : Bus
   laid = busOf b ps
 
@@ -40,7 +37,7 @@ module _ (most : Counts) (text : List ℕ) (low : WithinLibrary most) (b : Board
   done = finished b ps
 
   inRange : PlanInRange b done
-  inRange = plan-in-range most text low b accepted ps plan
+  inRange = plan-in-range b accepted ps plan
 
   done-bricks : (k : Brick) → List·Memᴰ k (done .bricks) → BrickFits k
   done-bricks k m = brick-fits k (inRange .ranges .bricks k m)
@@ -61,7 +58,7 @@ module _ (most : Counts) (text : List ℕ) (low : WithinLibrary most) (b : Board
   laid-wires w m = let l = cornered b laid .ported in done-wires w (subst (λ (r : List BusWire). List·Memᴰ w r) (sym (l .wires)) (among-all (l .new) (laid .wires) m))
 
   room : Room b done 0
-  room = room-finished b ps plan (judged-gutters most text b accepted)
+  room = room-finished b ps plan accepted
 
   pub done-few : (length (done .bricks) ≤ 5 * length (b .wires)) × (length (done .wires) ≤ 6 * length (b .wires)) × (length (done .ports) ≤ length (b .wires))
   done-few = let r = room .bricks in let w = room .wires in let p = room .ports in (omega arith, omega arith, omega arith)
@@ -71,13 +68,13 @@ module _ (most : Counts) (text : List ℕ) (low : WithinLibrary most) (b : Board
     pub laid-back : busIn (writtenOver brickRow (laid .bricks) old) (length (laid .bricks)) (writtenOver wireRow (laid .wires) oldWires) (length (laid .wires)) (portsOver (laid .ports) oldPorts) (length (laid .ports)) ≡ laid
     unfolding busIn
     laid-back =
-        let few = laid-few most text low b accepted ps plan in
+        let few = laid-few b accepted ps plan in
         let f0 = few .0 in let f1 = few .1 in let f2 = few .2 in
         let bricks = view-written brickRow brickIn (laid .bricks) old (omega arith) (λ k m. brick-back k (laid-bricks k m)) in
         let wires = view-written wireRow wireIn (laid .wires) oldWires (omega arith) (λ w m. wire-back w (laid-wires w m)) in
         let long = ports-length (laid .ports) oldPorts (omega arith) in
         let ports : portsIn (portsOver (laid .ports) oldPorts) (length (laid .ports)) ≡ laid .ports =
-        sym (ports-in (portsOver (laid .ports) oldPorts) (length (laid .ports)) (omega arith)) ∙ laid-given most text low b accepted ps plan (portsOver (laid .ports) oldPorts) oldPorts refl in
+        sym (ports-in (portsOver (laid .ports) oldPorts) (length (laid .ports)) (omega arith)) ∙ laid-given b accepted ps plan (portsOver (laid .ports) oldPorts) oldPorts refl in
         λ i. record { bricks = bricks i; wires = wires i; ports = ports i }
 
     -- What a reader of the finished plan's rows finds.
@@ -101,6 +98,6 @@ module _ (most : Counts) (text : List ℕ) (low : WithinLibrary most) (b : Board
           reroutersThere = omega arith;
           busWiresThere = omega arith;
           portsThere = omega arith;
-          demand3 = subst (λ (bus : Bus). Demand3 b bus) (sym done-back) (demand3 b ps plan (judged-gutters most text b accepted));
+          demand3 = subst (λ (bus : Bus). Demand3 b bus) (sym done-back) (demand3 b ps plan accepted);
           suppressed = ap (λ (bus : Bus). bus .ports) done-back ∙ (plan-ports b ps .turned ∙ ap (λ (bus : Bus). portsWith [] (bus .wires)) (sym done-back));
         }

@@ -15,11 +15,13 @@ use Rattle.board.specs.Refusals
 use Rattle.board.specs.Refusals.{Judged, board, judged}
 use Rattle.board.specs.Demands.{PageLanes, planned, planLanes}
 use Rattle.board.specs.Planning.{Planning, refused, lanesFor, planning, fitsPages, crowding, records, pagesAfter}
+use Rattle.board.specs.Accepted.{Accepted}
+use Rattle.board.proofs.Accepting.{sheet-accepted}
 use Rattle.board.proofs.Lists.{never, and-left, and-right}
 use Rattle.plan.specs.TextPlan.{shortest}
 use Rattle.plan.specs.PagesPlan.{planCall, pagesPlan, PagesPlanned}
 use Rattle.plan.specs.declared.PagesPlan.{PagesPlan}
-use Rattle.plan.proofs.Reading.{planning-refused, planning-fine, LanesFrom, lanes-from}
+use Rattle.board.proofs.Planning.{planning-refused, planning-fine, LanesFrom, lanes-from}
 use Rattle.plan.proofs.Calling.{within-library}
 use Rattle.routes.specs.Bus.{Bus}
 use Rattle.routes.specs.Buffers.{brickRow, wireRow}
@@ -154,6 +156,9 @@ module _ (text : List ℕ) (planWork layWork miniWork : List ℕ) (before betwee
     from : LanesFrom libraryMost text (λ c. true) b ps
     from = lanes-from libraryMost text (λ c. true) b ps is
 
+    accepted : Accepted b
+    accepted = sheet-accepted libraryMost text b within-library (from .accepted)
+
     abbrev lanesBus : Bus
     lanesBus = busOf b ps
 
@@ -167,7 +172,7 @@ module _ (text : List ℕ) (planWork layWork miniWork : List ℕ) (before betwee
     some-lanes = called-same (ap (routedBy busOf) is) lanes-are
 
     few : (length (lanesBus .bricks) ≤ 5 * length (b .wires)) × (length (lanesBus .wires) ≤ 6 * length (b .wires)) × (length (lanesBus .ports) ≤ length (b .wires))
-    few = laid-few libraryMost text within-library b (from .accepted) ps (from .lanes)
+    few = laid-few b accepted ps (from .lanes)
 
     reroutersLong : length (between .rerouters) ≡ length (before .rerouters)
     reroutersLong = ap length (some-lanes .rerouters-are) ∙ length-written brickRow (lanesBus .bricks) (before .rerouters)
@@ -187,7 +192,7 @@ module _ (text : List ℕ) (planWork layWork miniWork : List ℕ) (before betwee
     given-bus : busGiven (between .rerouters) (between .busWires) (between .ports) (countsLeft lanesAnswer) ≡ lanesBus
     given-bus =
         (λ i. busGiven (some-lanes .rerouters-are i) (some-lanes .wires-are i) (some-lanes .ports-are i) (countsLeft (some-lanes .answer i)))
-        ∙ laid-back libraryMost text within-library b (from .accepted) ps (from .lanes) (before .rerouters) (before .busWires) (before .ports) (long .rerouters) (long .busWires) (long .ports)
+        ∙ laid-back b accepted ps (from .lanes) (before .rerouters) (before .busWires) (before .ports) (long .rerouters) (long .busWires) (long .ports)
 
     held-there : holds counts (length (between .rerouters)) (length (between .busWires)) (length (between .ports)) ≡ true
     unfolding holds
@@ -202,7 +207,7 @@ module _ (text : List ℕ) (planWork layWork miniWork : List ℕ) (before betwee
         ) refl
 
     room-there : hasRoom (length (b .wires)) (length (lanesBus .bricks)) (length (lanesBus .wires)) (length (lanesBus .ports)) (turnable b lanesBus) ≡ true
-    room-there = laid-room libraryMost text within-library b (from .accepted) ps (from .lanes)
+    room-there = laid-room b accepted ps (from .lanes)
 
     given-fits : heldFits (between .rerouters) (between .busWires) (between .ports) (countsLeft lanesAnswer) b ≡ true
     given-fits =
@@ -223,7 +228,7 @@ module _ (text : List ℕ) (planWork layWork miniWork : List ℕ) (before betwee
     unfolding finished
     rerouters-left =
         let more = corners-longer b lanesBus in
-        let f = done-few libraryMost text within-library b (from .accepted) ps (from .lanes) .0 in
+        let f = done-few b accepted ps (from .lanes) .0 in
         let l = long .rerouters in
         some-corners .rerouters-are ∙ ap (writtenOver brickRow (doneBus .bricks)) (some-lanes .rerouters-are)
         ∙ written-again brickRow (lanesBus .bricks) (doneBus .bricks) (before .rerouters) (omega (arith, ap length (more .bricks), length-append (more .new) (lanesBus .bricks))) (omega arith)
@@ -232,13 +237,13 @@ module _ (text : List ℕ) (planWork layWork miniWork : List ℕ) (before betwee
     unfolding finished
     wires-left =
         let more = cornered b lanesBus .ported in
-        let f = done-few libraryMost text within-library b (from .accepted) ps (from .lanes) .1 in
+        let f = done-few b accepted ps (from .lanes) .1 in
         let l = long .busWires in
         some-corners .wires-are ∙ ap (writtenOver wireRow (doneBus .wires)) (some-lanes .wires-are)
         ∙ written-again wireRow (lanesBus .wires) (doneBus .wires) (before .busWires) (omega (arith, ap length (more .wires), length-append (more .new) (lanesBus .wires))) (omega arith)
 
     ports-left : after .ports ≡ portsOver (doneBus .ports) (before .ports)
-    ports-left = some-corners .ports-are ∙ ports-finished libraryMost text within-library b (from .accepted) ps (from .lanes) (between .ports) (before .ports) (some-lanes .ports-are)
+    ports-left = some-corners .ports-are ∙ ports-finished b accepted ps (from .lanes) (between .ports) (before .ports) (some-lanes .ports-are)
 
     some-pages : PagesPlanned (lanesFor b ps) (before .answers) (after .answers) pagesAnswer
     some-pages = subst (λ (p : Planning). PagesPlanned p (before .answers) (after .answers) pagesAnswer) is pages-are
@@ -254,7 +259,7 @@ module _ (text : List ℕ) (planWork layWork miniWork : List ℕ) (before betwee
               subst (λ (r : List (List ℕ)). Promised b r (length (doneBus .bricks)) (after .busWires) (length (doneBus .wires)) (after .ports) (length (doneBus .ports))) (sym rerouters-left)
               (subst (λ (w : List (List ℕ)). Promised b (writtenOver brickRow (doneBus .bricks) (before .rerouters)) (length (doneBus .bricks)) w (length (doneBus .wires)) (after .ports) (length (doneBus .ports))) (sym wires-left)
               (subst (λ (p : List (List ℕ)). Promised b (writtenOver brickRow (doneBus .bricks) (before .rerouters)) (length (doneBus .bricks)) (writtenOver wireRow (doneBus .wires) (before .busWires)) (length (doneBus .wires)) p (length (doneBus .ports))) (sym ports-left)
-              (done-promised libraryMost text within-library b (from .accepted) ps (from .lanes) (before .rerouters) (before .busWires) (before .ports) (long .rerouters) (long .busWires) (long .ports))));
+              (done-promised b accepted ps (from .lanes) (before .rerouters) (before .busWires) (before .ports) (long .rerouters) (long .busWires) (long .ports))));
         }
 
   -- The theorem of the three calls.

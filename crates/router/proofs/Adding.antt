@@ -22,9 +22,7 @@ use Rattle.corners.specs.declared.turn.Turned.the-variants.{Short, Laid}
 use Rattle.ports.specs.Ports.{portsSet}
 use Rattle.ports.specs.Settling.{portsOver, settled, Settleable, Settled}
 use Rattle.ports.proofs.Calling.{settled-corners, settleable-corners}
-use Rattle.ports.proofs.Reading.{WiresRanged}
 use Rattle.router.specs.Finish.{BusStands, CornersReady}
-use Rattle.gutter.proofs.Suppressing.{wires-ranged}
 use Rattle.router.proofs.Finishing.{ports-length, laid-handed, laid-mutes, laid-room, laid-given, ports-finished, wires-fit, sort-room}
 
 module _ {b : Board} {ps : List PageLanes} {old oldWires oldPorts rows : List (List ℕ)} {counts : Counts} {nodeFacts wireFacts rerouters : List (List ℕ)} {n : ℕ} {busWires : List (List ℕ)} {k : ℕ} {ports : List (List ℕ)} {u : ℕ} {marks sorting spare : List (List ℕ)}
@@ -32,16 +30,16 @@ module _ {b : Board} {ps : List PageLanes} {old oldWires oldPorts rows : List (L
   pub ready-mutes : Mutes b (busOf b ps) ports u
   ready-mutes =
       subst (λ (j : ℕ). Mutes b (busOf b ps) ports j) (sym (ready .stands .suppressed))
-      (laid-mutes (ready .most) (ready .text) (ready .within) b (ready .accepted) ps (ready .plan) ports oldPorts (ready .portsLent) (ready .stands .ports-are))
+      (laid-mutes b (ready .accepted) ps (ready .plan) ports oldPorts (ready .portsLent) (ready .stands .ports-are))
 
   pub ready-handed : Handed (busOf b ps) old oldWires rerouters busWires (record { rerouters = n; wires = k })
   ready-handed =
       subst (λ (c : BusCount). Handed (busOf b ps) old oldWires rerouters busWires c) (λ w. record { rerouters = sym (ready .stands .bricks) w; wires = sym (ready .stands .wires) w })
-      (laid-handed (ready .most) (ready .text) (ready .within) b (ready .accepted) ps (ready .plan) old oldWires rerouters busWires (ready .reroutersLent) (ready .stands .bricks-are) (ready .stands .wires-are))
+      (laid-handed b (ready .accepted) ps (ready .plan) old oldWires rerouters busWires (ready .reroutersLent) (ready .stands .bricks-are) (ready .stands .wires-are))
 
   ready-room : hasRoom (length (b .wires)) n k u (turnable b (busOf b ps)) ≡ true
   ready-room =
-      rw (ready .stands .bricks, ready .stands .wires, ready .stands .suppressed) (laid-room (ready .most) (ready .text) (ready .within) b (ready .accepted) ps (ready .plan))
+      rw (ready .stands .bricks, ready .stands .wires, ready .stands .suppressed) (laid-room b (ready .accepted) ps (ready .plan))
 
   pub turned-short : {A : Type 0} (rerouters′ busWires′ : List (List ℕ)) (r : Turned) → TurnedFrom b (busOf b ps) old oldWires (length (b .wires)) n k u rerouters′ busWires′ r → r ≡ Short → A
   turned-short rerouters′ busWires′ Short t e = clash ready-room t
@@ -55,38 +53,35 @@ module _ {b : Board} {ps : List PageLanes} {old oldWires oldPorts rows : List (L
   given : portsSet (portsHeld ports u) ≡ busOf b ps .ports
   given =
       ap (λ (j : ℕ). portsSet (portsHeld ports j)) (ready .stands .suppressed)
-      ∙ laid-given (ready .most) (ready .text) (ready .within) b (ready .accepted) ps (ready .plan) ports oldPorts (ready .stands .ports-are)
-
-  ranged : WiresRanged b
-  ranged = wires-ranged (ready .most) (ready .text) b (ready .within) (ready .accepted)
+      ∙ laid-given b (ready .accepted) ps (ready .plan) ports oldPorts (ready .stands .ports-are)
 
   module _ {rerouters′ busWires′ : List (List ℕ)} {count : BusCount} (held : BusHeld (corners b (busOf b ps)) old oldWires rerouters′ busWires′ count) where
     fit : length (corners b (busOf b ps) .wires) ≤ length oldWires
-    fit = wires-fit (ready .most) (ready .text) (ready .within) b (ready .accepted) ps (ready .plan) oldWires (ready .wiresLent)
+    fit = wires-fit b (ready .accepted) ps (ready .plan) oldWires (ready .wiresLent)
 
     pub settle-ready : Settleable busWires′ k (count .wires) ports u sorting spare
     settle-ready =
-        let room = sort-room (ready .most) (ready .text) (ready .within) b (ready .accepted) ps (ready .plan) in
+        let room = sort-room b (ready .accepted) ps (ready .plan) in
         let many = ready .stands .suppressed in
         let sl = ready .sortingLent in
         let pl = ready .spareLent in
         let ol = ready .portsLent in
         let long : length ports ≡ length oldPorts = ap length (ready .stands .ports-are) ∙ ports-length (busOf b ps .ports) oldPorts (omega arith) in
         rw (ready .stands .wires, held .wireCount)
-        (settleable-corners b ranged (busOf b ps) busWires′ oldWires (held .wireRows) fit ports u (ready .turning .lent .muted) given sorting spare (omega arith) (omega arith) (omega arith))
+        (settleable-corners b (ready .accepted) (busOf b ps) busWires′ oldWires (held .wireRows) fit ports u (ready .turning .lent .muted) given sorting spare (omega arith) (omega arith) (omega arith))
 
     pub settle-done : (ports′ : List (List ℕ)) (v : ℕ) → Settled busWires′ k (count .wires) ports u ports′ v → BusStands (finished b ps) old oldWires oldPorts rerouters′ (count .rerouters) busWires′ (count .wires) ports′ v
     unfolding finished
     settle-done ports′ v done =
         let all : settled busWires′ k (count .wires) ports u ≡ corners b (busOf b ps) .ports =
         ap (λ (j : ℕ). settled busWires′ j (count .wires) ports u) (ready .stands .wires) ∙ ap (λ (j : ℕ). settled busWires′ (length (busOf b ps .wires)) j ports u) (held .wireCount)
-        ∙ settled-corners b ranged (busOf b ps) busWires′ oldWires (held .wireRows) fit ports u (ready .turning .lent .muted) given in
+        ∙ settled-corners b (ready .accepted) (busOf b ps) busWires′ oldWires (held .wireRows) fit ports u (ready .turning .lent .muted) given in
         record {
           bricks-are = held .brickRows;
           wires-are = held .wireRows;
           ports-are =
               done .rows ∙ ap (λ (l : List Port). portsOver l ports) all
-              ∙ ports-finished (ready .most) (ready .text) (ready .within) b (ready .accepted) ps (ready .plan) ports oldPorts (ready .stands .ports-are);
+              ∙ ports-finished b (ready .accepted) ps (ready .plan) ports oldPorts (ready .stands .ports-are);
           bricks = held .brickCount;
           wires = held .wireCount;
           suppressed = done .count ∙ ap length all;

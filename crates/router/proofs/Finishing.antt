@@ -8,13 +8,11 @@ use lib.Dec.{leb}
 use lib.ListN.{length, getD, set, take, drop, length-set, length-append, length-map, length-drop}
 use lib.Seq.{drop-append-add, drop-drop}
 use borrow.Author.Tests.{le-leb}
-use Rattle.sheet.specs.declared.Counts.{Counts}
 use Rattle.sheet.specs.Table.{libraryMost}
 use Rattle.board.specs.Lists.{any, keep}
 use Rattle.board.specs.Board.{Board}
-use Rattle.board.specs.Refusals.{board, judged}
+use Rattle.board.specs.Accepted.{Accepted}
 use Rattle.board.specs.Demands.{PageLanes, planned, planLanes}
-use Rattle.board.specs.Walk.{WithinLibrary}
 use Rattle.board.specs.Tables.{view}
 use Rattle.board.proofs.Lists.{clash, count-none, none-counted, count-reverse, byTest}
 use Rattle.board.proofs.Views.{view-take}
@@ -22,14 +20,12 @@ use Rattle.routes.specs.Bus.{Bus, Brick, BusWire, Port, insertPort, place, deli
 use Rattle.routes.specs.Buffers.{brickRow, wireRow, portRow, portIn, portsHeld}
 use Rattle.routes.specs.Tables.{writtenOver}
 use Rattle.cells.specs.Chains.{Fits, RowsOf, CellRows}
+use Rattle.cells.proofs.Placing.{rows-more}
 use Rattle.routes.specs.Corners.{turnable, corners}
 use Rattle.routes.specs.Plan.{busOf, finished}
 use Rattle.routes.specs.Holding.{BusHeld}
 use Rattle.routes.specs.Route.{Room}
-use Rattle.routes.specs.Demand3.{HighGutters}
-use Rattle.emit.proofs.Emitting.{rows-more}
 use Rattle.routes.proofs.Room.{room-to-turn, room-finished}
-use Rattle.routes.proofs.Routed.{judged-gutters}
 use Rattle.corners.specs.Handed.{Mutes, Handed}
 use Rattle.corners.specs.Turning.{hasRoom}
 use Rattle.ports.specs.Ports.{targets, suppress, portsSet}
@@ -37,7 +33,7 @@ use Rattle.ports.specs.Settling.{portsOver, portLess}
 use Rattle.ports.proofs.SetLaws.{set-again}
 use Rattle.ports.proofs.Laid.{corners-keep, cornered, plan-ports}
 use Rattle.ports.proofs.Reading.{handed-over}
-use Rattle.text.proofs.Ranges.{All}
+use Rattle.board.proofs.Reach.{All}
 use Rattle.text.proofs.PlanRange.{plan-in-range}
 
 -- Rows written over a table are there.
@@ -91,20 +87,17 @@ any-reverse p l = go (any p (reverse l)) refl (any p l) refl
     go true e false f = clash e (none-counted p (reverse l) (count-reverse p l ∙ count-none p l f))
     go false e true f = clash f (none-counted p l (sym (count-reverse p l) ∙ count-none p (reverse l) e))
 
-module _ (most : Counts) (text : List ℕ) (low : WithinLibrary most) (b : Board) (accepted : judged most text ≡ board b) (ps : List PageLanes) (plan : planLanes b ≡ planned ps) where
-  gutters : HighGutters b
-  gutters = judged-gutters most text b accepted
-
+module _ (b : Board) (accepted : Accepted b) (ps : List PageLanes) (plan : planLanes b ≡ planned ps) where
   abbrev laid : Bus
   laid = busOf b ps
 
   room : Room b laid (turnable b laid)
-  room = room-to-turn b ps plan gutters
+  room = room-to-turn b ps plan accepted
 
   pub laid-fits : All Fits (laid .bricks)
   unfolding finished
   laid-fits k m =
-      let r = plan-in-range most text low b accepted ps plan .ranges .bricks k (let longer = corners-longer b laid in subst (λ (l : List Brick). List·Memᴰ k l) (sym (longer .bricks)) (among-all (longer .new) (laid .bricks) m)) in
+      let r = plan-in-range b accepted ps plan .ranges .bricks k (let longer = corners-longer b laid in subst (λ (l : List Brick). List·Memᴰ k l) (sym (longer .bricks)) (among-all (longer .new) (laid .bricks) m)) in
       let x = r .x in
       let y = r .y in
       record { xFits = omega arith; yFits = omega arith }
@@ -159,7 +152,7 @@ module _ (most : Counts) (text : List ℕ) (low : WithinLibrary most) (b : Board
 
   pub wires-fit : (oldWires : List (List ℕ)) → 6 * length (b .wires) ≤ length oldWires → length (corners b laid .wires) ≤ length oldWires
   unfolding finished
-  wires-fit oldWires h = let r = room-finished b ps plan gutters .wires in omega arith
+  wires-fit oldWires h = let r = room-finished b ps plan accepted .wires in omega arith
 
   pub sort-room : turnable b laid + length (laid .ports) ≤ length (b .wires)
   sort-room = let r = room .ports in omega arith

@@ -12,7 +12,7 @@ use Rattle.sheet.specs.declared.Counts.{Counts}
 use Rattle.sheet.specs.Table.{libraryMost}
 use Rattle.board.specs.Board.{Board}
 use Rattle.board.specs.Demands.{PageLanes, Planned, crowded, planned, planLanes}
-use Rattle.board.specs.Planning.{Planning, refused, planning, crowding, records}
+use Rattle.board.specs.Planning.{Planning, refused, planning, crowding, records, judgedFor}
 use Rattle.board.specs.Refusals
 use Rattle.board.specs.Refusals.{Judged, board}
 use Rattle.board.specs.Walk.{WithinLibrary, countsIn}
@@ -21,7 +21,8 @@ use Rattle.board.proofs.Views.{length-view}
 use Rattle.plan.specs.declared.Lent.{Lent}
 use Rattle.plan.specs.TextPlan.{fitsLent, fitting, shortest, WorkLent, FactsHold}
 use Rattle.plan.proofs.Fitting.{fits-all, shortest-front}
-use Rattle.plan.proofs.Reading.{judgedFor, fitting-from, planning-then}
+use Rattle.board.proofs.Accepting.{sheet-accepted}
+use Rattle.plan.proofs.Reading.{fitting-from, planning-then}
 use Rattle.plan.proofs.Calling.{planning-same}
 use Rattle.routes.specs.Bus.{Bus, insertPort}
 use Rattle.routes.specs.Corners.{corners, turnable}
@@ -47,7 +48,7 @@ use Rattle.routes.specs.Route.{fitsBus}
 use Rattle.gutter.specs.Calls.{busFits, busAnswer, reroutersAfter, busWiresAfter, portsAfter, BusCalled}
 use Rattle.router.specs.Mini.{holds, busGiven, heldFits, miniBy, miniOn, miniFits, miniCall, crowdedAt, HeldReady}
 use Rattle.router.specs.Turn.{RowsKnown}
-use Rattle.gutter.proofs.Suppressing.{wires-ranged, lentWith, bus-fit}
+use Rattle.gutter.proofs.Suppressing.{lentWith, bus-fit}
 use Rattle.router.proofs.Turning.{turn-ready}
 
 -- The ports handed in, whatever row is put in first.
@@ -175,12 +176,12 @@ module _ (rerouters busWires ports : List (List ℕ)) (held : BusCounts) (b : Bo
         let ss = ready .sortRoom .1 in
         subst (λ (i : ℕ). Settleable w′ i (count .wires) ports (held .ports) sortRows spare) start-wires
         (subst (λ (j : ℕ). Settleable w′ (length (start .wires)) j ports (held .ports) sortRows spare) (sym (laid .1 .wireCount))
-        (settleable-corners b (ready .ranged) start w′ busWires (laid .1 .wireRows) room ports (held .ports) (within .2) start-ports sortRows spare (omega arith) (omega arith) (omega arith)))
+        (settleable-corners b (ready .accepted) start w′ busWires (laid .1 .wireRows) room ports (held .ports) (within .2) start-ports sortRows spare (omega arith) (omega arith) (omega arith)))
 
     settled-is : settled w′ (held .«bus_wires») (count .wires) ports (held .ports) ≡ corners b start .ports
     settled-is =
         (λ i. settled w′ (sym start-wires i) (laid .1 .wireCount i) ports (held .ports))
-        ∙ settled-corners b (ready .ranged) start w′ busWires (laid .1 .wireRows) room ports (held .ports) (within .2) start-ports
+        ∙ settled-corners b (ready .accepted) start w′ busWires (laid .1 .wireRows) room ports (held .ports) (within .2) start-ports
 
     pub mini-laid : (ps : List PageLanes) → planLanes b ≡ planned ps → (p′ : List (List ℕ)) (u : ℕ) → Settled w′ (held .«bus_wires») (count .wires) ports (held .ports) p′ u
         → BusCalled (miniOn rerouters busWires ports held b) rerouters busWires ports r′ w′ p′ (Laid (count .rerouters) (count .wires) u 0)
@@ -197,14 +198,15 @@ pub held-ready : (most : Counts) (text : List ℕ) (lent : Lent) → WithinLibra
 unfolding records
 held-ready most text lent low b is rows nodeFacts wireFacts taps groups pageFacts demands keys spare facts c counted n work rerouters busWires ports marks bus pl =
     let from = fitting-from most text (fitsLent lent) b is in
+    let accepted = sheet-accepted most text b low (from .0) in
     let fit = fits-all lent b (from .1) in
     let fw = fit .work in
     let fp = fit .ports in
     let ds = work .demands-lent in
     let ss = work .spare-lent in
     record {
-      ready = turn-ready most text lent low b (from .0) (from .1) rows nodeFacts wireFacts facts c counted (work .node-facts) (work .wire-facts) rerouters busWires ports marks bus;
-      ranged = wires-ranged most text b low (from .0);
+      ready = turn-ready lent b accepted (from .1) rows nodeFacts wireFacts facts c counted (work .node-facts) (work .wire-facts) rerouters busWires ports marks bus;
+      accepted = accepted;
       portRoom = omega arith;
       sortRoom = (omega arith, omega arith);
     }
@@ -217,7 +219,7 @@ rows-known {b} {rows} {c} {nodeFacts} ready =
       nodeFacts = nodeFacts;
       facts = record { sections = r .sections; nodes-known = r .nodes-known; wires-known = r .wires-known };
       counted = r .counted;
-      few = r .few;
+      accepted = r .accepted;
       factsLong = r .fits .endsLong;
     }
 

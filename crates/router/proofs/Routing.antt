@@ -14,7 +14,8 @@ use Rattle.plan.specs.declared.Lent.{Lent}
 use Rattle.plan.specs.TextPlan.{LINE_MOST, hasRoom, fitsCounts, fitsLent}
 use Rattle.plan.proofs.Fitting.{fits-all}
 use Rattle.plan.proofs.Surveying.{facts-in}
-use Rattle.plan.proofs.Reading.{lanes-from}
+use Rattle.board.proofs.Accepting.{sheet-accepted}
+use Rattle.board.proofs.Planning.{lanes-from}
 use Rattle.plan.proofs.Planned.{planned-counts}
 use Rattle.plan.proofs.Calling.{LanesTold, planning-same}
 use Rattle.sheet.specs.Table.{libraryMost}
@@ -30,7 +31,7 @@ use Rattle.router.proofs.Turning.{turn-ready}
 use Rattle.router.proofs.Finishing.{laid-few}
 use Rattle.gutter.proofs.Suppressing.{BusTold, withoutCounts}
 
--- What `route` finds lent, with so many rows of work space. It writes no text, and plans as if the most were lent for it: so only document 01's lengths decide.
+-- What `route` finds lent, with so many rows of work space. It writes no text, and plans as if the most were lent for it: so only the named lengths (S15) decide.
 abbrev pub planWith : ℕ → ℕ → ℕ → ℕ → ℕ → Lent
 planWith rerouters busWires ports answers work = record { rerouters = rerouters; «bus_wires» = busWires; ports = ports; answers = answers; work = work; out = 12591232 }
 
@@ -52,19 +53,17 @@ module _ (most : Counts) (text : List ℕ) (lent : Lent) (low : WithinLibrary mo
       let ps = told .lanes in
       let from = lanes-from most text (fitsLent lent) b ps (told .is) in
       let fit = fits-all lent b (from .fitting) in
-      let few = laid-few most text low b (from .accepted) ps (from .lanes) in
+      let accepted = sheet-accepted most text b low (from .accepted) in
+      let few = laid-few b accepted ps (from .lanes) in
       let f0 = few .0 in let f1 = few .1 in let f2 = few .2 in
       let fr = fit .rerouters in let fb = fit .busWires in let fp = fit .ports in let fw = fit .work in
       let rl = bus .rerouters-lent in let bl = bus .wires-lent in
       let nb = told .bricks in let kb = told .wires in let ub = told .muted in
       record {
-        most = most;
-        text = text;
-        within = low;
-        accepted = from .accepted;
+        accepted = accepted;
         plan = from .lanes;
         turning =
-            turn-ready most text lent low b (from .accepted) (from .fitting) rows nodeFacts wireFacts (facts-in (told .tables)) c (told .counted) nf wf rerouters busWires ports marks bus n k u (omega arith) (omega arith)
+            turn-ready lent b accepted (from .fitting) rows nodeFacts wireFacts (facts-in (told .tables)) c (told .counted) nf wf rerouters busWires ports marks bus n k u (omega arith) (omega arith)
             (omega arith);
         stands = record { bricks-are = told .rerouters-are; wires-are = told .wires-are; ports-are = told .ports-are; bricks = nb; wires = kb; suppressed = ub };
         reroutersLent = omega arith;

@@ -10,21 +10,19 @@ use Rattle.sheet.specs.Table.{MISSING, HALF_MOST}
 use Rattle.board.specs.Board.{Board, field}
 use Rattle.board.specs.Rows.{turned, sizeX, brickCell}
 use Rattle.board.specs.Planning.{records}
-use Rattle.board.specs.Refusals.{board, judged}
+use Rattle.board.specs.Accepted.{Accepted}
 use Rattle.board.specs.Tables.{NodeFacts}
-use Rattle.board.specs.Walk.{WithinLibrary, countsIn}
+use Rattle.board.specs.Walk.{countsIn}
 use Rattle.board.proofs.Lists.{byTest}
 use Rattle.plan.specs.declared.Lent.{Lent}
 use Rattle.plan.specs.TextPlan.{fitsLent, FactsHold}
-use Rattle.plan.proofs.Fine.{fine, few}
 use Rattle.plan.proofs.Fitting.{fits-all}
 use Rattle.cells.specs.Chains.{boardWith}
 use Rattle.corners.specs.Turning.{BoardFits}
 use Rattle.corners.proofs.TurnLaws.{on-page}
-use Rattle.text.proofs.Ranges.{Ranged, ranged, end-most}
+use Rattle.board.proofs.Reach.{end-most}
 use Rattle.gutter.specs.Bus.{BusLent}
 use Rattle.router.specs.Turn.{TurnReady}
-use Rattle.gutter.proofs.Boards.{sheet-sound}
 
 -- A brick's cell needs the nodes alone.
 cell-end : (b : Board) (i : ℕ) → brickCell b i .x1 < MISSING → brickCell (boardWith (b .nodes)) i .x1 < MISSING
@@ -32,31 +30,29 @@ unfolding brickCell
 cell-end b i h = h
 
 -- S11: by the greatest half size no brick's cell is wider.
-cell-wide : (b : Board) → Ranged b → (i : ℕ) → brickCell (boardWith (b .nodes)) i .x1 ≤ field (b .nodes) i 8 + 2000
+cell-wide : (b : Board) → Accepted b → (i : ℕ) → brickCell (boardWith (b .nodes)) i .x1 ≤ field (b .nodes) i 8 + 2000
 unfolding brickCell
 cell-wide b r i =
     let half : sizeX b i ≤ 2 * HALF_MOST = byTest (λ n. 2 * n ≤ 2 * HALF_MOST) (turned b i) (λ e. omega (arith, r .halfY i)) (λ e. omega (arith, r .halfX i)) in
     omega arith
 
-module _ (most : Counts) (text : List ℕ) (low : WithinLibrary most) (b : Board) (accepted : judged most text ≡ board b) where
+module _ (b : Board) (a : Accepted b) where
   pub board-fits : (nodeFacts wireFacts : List (List ℕ)) → NodeFacts b nodeFacts → length (b .nodes) ≤ length nodeFacts → length (b .wires) ≤ length wireFacts
       → BoardFits (b .pages) (b .nodes) (b .wires) nodeFacts wireFacts
   board-fits nodeFacts wireFacts known nf wf =
-      let s = sheet-sound most text b low accepted in
-      let r : Ranged b = ranged most text low b accepted in
-      let fp = s .fewPages in
-      let fn = s .fewNodes in
+      let fp = a .fewPages in
+      let fn = a .fewNodes in
       record {
         pagesFew = omega arith;
         nodesFew = fn;
-        wiresFew = s .fewWires;
+        wiresFew = a .fewWires;
         factsLong = nf;
         endsLong = wf;
-        onPages = λ i h g. on-page b (b .pages) (b .nodes) nodeFacts refl known (omega arith) i h g (s .pageThere i h g) (cell-end b i (let e = end-most b r i g in omega arith)) (cell-wide b r i);
+        onPages = λ i h g. on-page b (b .pages) (b .nodes) nodeFacts refl known (omega arith) i h g (a .pageThere i h g) (cell-end b i (let e = end-most b a i g in omega arith)) (cell-wide b a i);
       }
 
 -- What a planned board finds lent.
-module _ (most : Counts) (text : List ℕ) (lent : Lent) (low : WithinLibrary most) (b : Board) (accepted : judged most text ≡ board b) (fitting : fitsLent lent b ≡ true) where
+module _ (lent : Lent) (b : Board) (a : Accepted b) (fitting : fitsLent lent b ≡ true) where
   pub turn-ready : (rows nodeFacts wireFacts : List (List ℕ)) → FactsHold b rows nodeFacts wireFacts
       → (c : Counts) → c ≡ countsIn b → lent .work ≤ length nodeFacts → lent .work ≤ length wireFacts
       → (rerouters busWires ports marks : List (List ℕ)) → BusLent lent marks rerouters busWires → (n k u : ℕ) → n ≤ length rerouters → k ≤ length busWires → u ≤ length ports
@@ -71,8 +67,8 @@ module _ (most : Counts) (text : List ℕ) (lent : Lent) (low : WithinLibrary mo
       record {
         sections = facts .sections;
         counted = counted;
-        few = few low (fine most text b accepted);
-        fits = board-fits most text low b accepted nodeFacts wireFacts (facts .nodes-known) (omega arith) (omega arith);
+        accepted = a;
+        fits = board-fits b a nodeFacts wireFacts (facts .nodes-known) (omega arith) (omega arith);
         nodes-known = facts .nodes-known;
         wires-known = facts .wires-known;
         lent = record { bricks = hn; wires = hk; muted = hu; brickRoom = omega arith; wireRoom = omega arith; markRoom = omega arith };

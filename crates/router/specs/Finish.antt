@@ -5,10 +5,10 @@ use mathlib.Core.List.{List, _++_, map}
 use lib.ListN.{length, drop}
 use Rattle.sheet.specs.declared.Counts.{Counts}
 use Rattle.board.specs.Board.{Board}
-use Rattle.board.specs.Refusals.{board, judged}
+use Rattle.board.specs.Accepted.{Accepted}
 use Rattle.board.specs.Demands.{PageLanes, planned, planLanes}
 use Rattle.board.specs.Planning.{Planning, refused, lanesFor, pageRow}
-use Rattle.board.specs.Walk.{WithinLibrary, countsIn}
+use Rattle.board.specs.Walk.{countsIn}
 use Rattle.routes.specs.Bus.{Bus}
 use Rattle.routes.specs.Buffers.{brickRow, wireRow}
 use Rattle.routes.specs.Tables.{writtenOver}
@@ -30,10 +30,7 @@ pub record BusStands (bus : Bus) (old oldWires oldPorts rerouters : List (List �
 
 -- The bus of the lanes stands in the buffers, as long as named, and the corner pass can begin.
 pub record CornersReady (b : Board) (ps : List PageLanes) (old oldWires oldPorts rows : List (List ℕ)) (counts : Counts) (nodeFacts wireFacts rerouters : List (List ℕ)) (n : ℕ) (busWires : List (List ℕ)) (k : ℕ) (ports : List (List ℕ)) (u : ℕ) (marks sorting spare : List (List ℕ)) : Type 0 where
-  pub most : Counts
-  pub text : List ℕ
-  pub within : WithinLibrary most
-  pub accepted : judged most text ≡ board b
+  pub accepted : Accepted b
   pub plan : planLanes b ≡ planned ps
   pub turning : TurnReady b rows counts nodeFacts wireFacts rerouters n busWires k ports u marks
   pub stands : BusStands (busOf b ps) old oldWires oldPorts rerouters n busWires k ports u

@@ -7,14 +7,13 @@ use lib.ListN.{length}
 use Rattle.sheet.specs.declared.Counts.{Counts}
 use Rattle.sheet.specs.Table.{libraryMost}
 use Rattle.board.specs.Board.{Board}
-use Rattle.board.specs.Planning.{Planning, refused, lanesFor, planning}
-use Rattle.plan.specs.TextPlan.{fitted}
+use Rattle.board.specs.Accepted.{Accepted}
+use Rattle.board.specs.Planning.{Planning, refused, lanesFor, planning, fitted}
 use Rattle.routes.specs.Bus.{Bus}
 use Rattle.routes.specs.Corners.{corners, turnable}
 use Rattle.routes.specs.Route.{Routed, turnedAway, plan}
 use Rattle.corners.specs.Handed.{busIn}
 use Rattle.corners.specs.Turning.{hasRoom}
-use Rattle.ports.proofs.Reading.{WiresRanged}
 use Rattle.gutter.specs.declared.bus.BusPlan.{BusPlan}
 use Rattle.gutter.specs.declared.bus.BusPlan.the-variants.{Refused}
 use Rattle.router.specs.declared.mini.BusCounts.{BusCounts}
@@ -59,6 +58,6 @@ crowdedAt false line = Refused 7 0
 -- A board of an accepted sheet, ready for the corner pass whatever is handed in, with rows for the ports that are sorted.
 pub record HeldReady (b : Board) (rows : List (List ℕ)) (counts : Counts) (nodeFacts wireFacts rerouters busWires ports sortRows spare marks : List (List ℕ)) : Type 0 where
   pub ready : (n k u : ℕ) → n ≤ length rerouters → k ≤ length busWires → u ≤ length ports → TurnReady b rows counts nodeFacts wireFacts rerouters n busWires k ports u marks
-  pub ranged : WiresRanged b
+  pub accepted : Accepted b
   pub portRoom : length (b .wires) ≤ length ports
   pub sortRoom : (length (b .wires) ≤ length sortRows) × (length (b .wires) ≤ length spare)

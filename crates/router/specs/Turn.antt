@@ -6,15 +6,16 @@ use lib.ListN.{length}
 use Rattle.sheet.specs.declared.Counts.{Counts}
 use Rattle.board.specs.Board.{Board}
 use Rattle.board.specs.Tables.{NodeFacts, WireFacts}
+use Rattle.board.specs.Accepted.{Accepted}
 use Rattle.board.specs.Walk.{countsIn}
-use Rattle.plan.specs.TextPlan.{Few, SectionsIn, FactsHold}
+use Rattle.plan.specs.TextPlan.{SectionsIn, FactsHold}
 use Rattle.corners.specs.Turning.{BoardFits, Lent}
 
 -- A board of an accepted sheet with its facts, and buffers with room for its wires that hold n rerouters, k bus wires and u ports.
 pub record TurnReady (b : Board) (rows : List (List ℕ)) (counts : Counts) (nodeFacts wireFacts rerouters : List (List ℕ)) (n : ℕ) (busWires : List (List ℕ)) (k : ℕ) (ports : List (List ℕ)) (u : ℕ) (marks : List (List ℕ)) : Type 0 where
   pub sections : SectionsIn b rows
   pub counted : counts ≡ countsIn b
-  pub few : Few b
+  pub accepted : Accepted b
   pub fits : BoardFits (b .pages) (b .nodes) (b .wires) nodeFacts wireFacts
   pub nodes-known : NodeFacts b nodeFacts
   pub wires-known : WireFacts b wireFacts
@@ -25,5 +26,5 @@ pub record RowsKnown (b : Board) (rows : List (List ℕ)) (counts : Counts) (wir
   pub nodeFacts : List (List ℕ)
   pub facts : FactsHold b rows nodeFacts wireFacts
   pub counted : counts ≡ countsIn b
-  pub few : Few b
+  pub accepted : Accepted b
   pub factsLong : length (b .wires) ≤ length wireFacts

@@ -9,12 +9,13 @@ use borrow.Author.Tests.{eq-eqb}
 use Rattle.board.specs.Lists.{keep}
 use Rattle.sheet.specs.Table.{ORIGIN, COORDINATE_MOST}
 use Rattle.board.specs.Board.{Board, hasGutter, minYOf}
+use Rattle.board.specs.Accepted.{Accepted}
 use Rattle.board.specs.Demands.{PageLanes, planned, planLanes}
 use Rattle.board.proofs.Lists.{never, clash, to-keep}
 use Rattle.routes.specs.Bus.{Bus, Brick, BusWire, End, port, rerouter, Carries, onward, delivery, partCorner}
 use Rattle.routes.specs.Plan.{isDelivery, busOf, finished}
 use Rattle.routes.specs.Corners.{corners}
-use Rattle.routes.specs.Demand3.{Demand3, HighGutters, Numbered, PortOrLower, Bounded, WayBack, atPort, through, arriving, arrivesAt}
+use Rattle.routes.specs.Demand3.{Demand3, Numbered, PortOrLower, Bounded, WayBack, atPort, through, arriving, arrivesAt}
 use Rattle.routes.proofs.Made.{Made, WireOf, feeds, sends, Sent, Far, cornered, within, wire-of, arrives, totals, once, apart, numbered-below, numbered-one}
 use Rattle.routes.proofs.Turned.{corners-made}
 use Rattle.routes.proofs.Walk.{bus-kept}
@@ -104,11 +105,7 @@ module _ (b : Board) (bus : Bus) (d3 : Demand3 b bus) where
   pub one-way-back : {e : End} {d d′ n n′ p p′ : ℕ} → WayBack (bus .wires) e d n p → WayBack (bus .wires) e d′ n′ p′ → (d ≡ d′) × (n ≡ n′) × (p ≡ p′)
   one-way-back u v = same-back u v refl
 
--- Demand 3, of every board whose lanes are planned and whose gutters are high enough.
-pub demand3 : (b : Board) (ps : List PageLanes) → planLanes b ≡ planned ps → HighGutters b → Demand3 b (finished b ps)
+-- Demand 3, of every accepted board whose lanes are planned.
+pub demand3 : (b : Board) (ps : List PageLanes) → planLanes b ≡ planned ps → Accepted b → Demand3 b (finished b ps)
 unfolding finished
-demand3 b ps lanes gutters = made-demand3 b ps (corners b (busOf b ps)) (corners-made b ps (busOf b ps) (bus-kept b ps lanes gutters .made))
-
--- S11: gutters are high enough where min_y is missing or in its range.
-pub gutters-in-range : (b : Board) → ((p : ℕ) → p < length (b .pages) → hasGutter b p ≡ true → ORIGIN - COORDINATE_MOST ≤ minYOf b p) → HighGutters b
-gutters-in-range b h = record { high = λ p i g. omega (arith, h p i g) }
+demand3 b ps lanes accepted = made-demand3 b ps (corners b (busOf b ps)) (corners-made b ps (busOf b ps) (bus-kept b ps lanes accepted .made))

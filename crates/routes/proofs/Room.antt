@@ -10,13 +10,14 @@ use lib.ListN.{length}
 use borrow.Author.Tests.{eq-eqb, ne-eqb}
 use Rattle.board.specs.Lists.{any, keep, fold, upto}
 use Rattle.board.specs.Board.{Board}
+use Rattle.board.specs.Accepted.{Accepted}
 use Rattle.board.specs.Demands.{PageLanes, planned, planLanes}
 use Rattle.board.proofs.Lists.{clash, byTest, keep-yes, keep-no, none-counted, count-tail, count-weaker, count-apart}
 use Rattle.routes.specs.Bus.{Bus, Port, insertPort, samePort, portOf, portFeed, placedFeed, muted}
 use Rattle.routes.specs.Corners.{turns, turnable, turnWire}
 use Rattle.routes.specs.Plan.{deliveries, busOf, finished}
 use Rattle.routes.specs.Route.{Room}
-use Rattle.routes.specs.Demand3.{HighGutters, names, timesDelivered}
+use Rattle.routes.specs.Demand3.{names, timesDelivered}
 use Rattle.routes.proofs.Made.{Made, nothing, placing, serving, totals}
 use Rattle.routes.proofs.Turned.{not-muted, turns-open, muted-stays, withTurn, turned, turn-wires, corners-made}
 use Rattle.routes.proofs.Laid.{laid-short}
@@ -84,14 +85,14 @@ module _ (b : Board) (ps : List PageLanes) where
       apart w e true f = clash e (none-counted (names w) (bus .wires) (not-muted b ps m w (turns-open b bus w f)))
       apart w e false f = f
 
-  module _ (plan : planLanes b ≡ planned ps) (gutters : HighGutters b) where
+  module _ (plan : planLanes b ≡ planned ps) (accepted : Accepted b) where
     made : Made b ps (busOf b ps)
-    made = bus-kept b ps plan gutters .made
+    made = bus-kept b ps plan accepted .made
 
     -- The corner pass never runs out of room.
     pub room-to-turn : Room b (busOf b ps) (turnable b (busOf b ps))
     room-to-turn =
-        let paid = bus-kept b ps plan gutters .paid in
+        let paid = bus-kept b ps plan accepted .paid in
         let one = sent-or-turns made in
         record { bricks = omega (arith, laid-short b ps); wires = omega (arith, laid-short b ps, totals b ps made); ports = omega (arith, ports-count made) }
 
@@ -103,7 +104,7 @@ module _ (b : Board) (ps : List PageLanes) where
     pub room-finished : Room b (finished b ps) 0
     unfolding finished deliveries
     room-finished =
-        let paid = bus-kept b ps plan gutters .paid in
+        let paid = bus-kept b ps plan accepted .paid in
         let last = corners-made b ps (busOf b ps) made in
         let one = sent-or-turns made in
         let two = sent-or-turns last in

@@ -9,6 +9,7 @@ use borrow.Author.Tests.{eqb-true, ne-eqb, not-false}
 use Rattle.board.specs.Lists.{Found, none, at, found, any}
 use Rattle.board.specs.Board.{Board, placed, xOf}
 use Rattle.board.specs.Groups.{Tap, tapsOf, sourceRow}
+use Rattle.board.specs.Accepted.{Accepted}
 use Rattle.board.specs.Demands.{PageLanes, laneOf, planned, planLanes}
 use Rattle.board.proofs.Lists.{clash, and-right, same-two, byTest, byFound, none-at-all}
 use Rattle.board.proofs.Taps.{taps-of}
@@ -18,7 +19,7 @@ use Rattle.routes.specs.Levels.{Level, dropped, shared, own, Stop, keptA
 use Rattle.routes.specs.Bus.{Bus, Brick, Feed, port, place, placedFeed, portFeed, deliver}
 use Rattle.routes.specs.Rerouters.{Emission, columnFree, brickNear, levelHere, source, laneBrick, rowBrick, headBrick, linkBrick, tapBrick, sourceBrick, gateSideBrick, clearFor, hangOn, withSource, startGroup, withLink, startRow, withGateSide, serve, emitTap, emit}
 use Rattle.routes.specs.Plan.{busOf}
-use Rattle.routes.specs.Demand3.{HighGutters, atPort}
+use Rattle.routes.specs.Demand3.{atPort}
 use Rattle.routes.proofs.Made.{InLane, Served, within, place-grows, deliver-grows, Grown}
 use Rattle.routes.proofs.Laid.{LaidIn, laid-in, row-of-group, laid-tail, new-wire, new-group, rowsSeen, columnsSeen, rows-new, rows-old, columns-new, columns-old, rows-bound, columns-bound}
 use Rattle.routes.proofs.Claims.{keptIn, kept-later, own-unclaimed, shared-kept, stops-more, stops-same, stops-before, claimed-before, stop-group}
@@ -44,7 +45,7 @@ cost dropped = 2
 cost (shared x) = 4
 cost (own x) = 4
 
-module _ (b : Board) (ps : List PageLanes) (plan : planLanes b ≡ planned ps) (gutters : HighGutters b) where
+module _ (b : Board) (ps : List PageLanes) (plan : planLanes b ≡ planned ps) (accepted : Accepted b) where
   -- The heads, links and taps of a laid tap stand in an open lane of a gutter.
   in-lane : (t : Tap) → found (laneOf ps (t .page) (t .group)) ≡ true → (x rotation part : ℕ) → InLane b ps (laneBrick b (tapsOf b) ps t x rotation part)
   unfolding laneBrick
@@ -56,7 +57,8 @@ module _ (b : Board) (ps : List PageLanes) (plan : planLanes b ≡ planned ps) (
           let fits = planned-fits b ps plan (t .page) (t .group) lane e in
           let r = fits .1 in
           let same : laneFor ps t ≡ lane = ap {B = ℕ} (λ f. elim f [ at l ↦ l | none ↦ zero ]) e in
-          record { high = gutters .high (t .page) (fits .0) (r .gutter); most = r .most; opened = omega (arith, same, r .inside); height = refl }
+          let low = accepted .minYLow (t .page) (fits .0) in
+          record { high = omega arith; most = r .most; opened = omega (arith, same, r .inside); height = refl }
 
   module _ (stops : List Stop) where
     abbrev ts : List Tap

@@ -13,11 +13,11 @@ use Rattle.board.specs.Refusals
 use Rattle.board.specs.Refusals.{judged}
 use Rattle.lanes.specs.Lanes
 use Rattle.lanes.specs.Sort
-use Rattle.lanes.specs.Lanes.{laneMost}
-use Rattle.board.specs.Board.{Board, hasGutter, minYOf}
-use Rattle.board.specs.Demands.{BUS_BAND_GUTTER, LANE_PITCH, PageLanes, planned, planLanes}
+use Rattle.board.specs.Board.{Board}
+use Rattle.board.specs.Demands.{PageLanes, planned, planLanes}
+use Rattle.board.proofs.Accepting.{sheet-accepted, within-program}
 use Rattle.routes.specs.Plan.{finished}
-use Rattle.routes.specs.Demand3.{Demand3, HighGutters}
+use Rattle.routes.specs.Demand3.{Demand3}
 use Rattle.routes.specs.Examples.{bytes, sheetA, fan}
 use Rattle.routes.proofs.Demand3.{demand3}
 
@@ -33,16 +33,9 @@ board-is = refl
 abbrev pub plannedLanes : List PageLanes
 plannedLanes = record { groups = 0 ∷ []; laneList = 0 ∷ []; count = 1 } ∷ []
 
-high : HighGutters board
-high = record { high = λ p. on p }
-  where
-    on : (p : ℕ) → p < 1 → hasGutter board p ≡ true → BUS_BAND_GUTTER + LANE_PITCH * laneMost ≤ minYOf board p
-    on zero h g = omega arith
-    on (suc p) h g = absurd (omega arith)
-
 lanes : planLanes board ≡ planned plannedLanes
 unfolding planLanes Demands.planUpto Demands.packedOn Demands.groupsOn Demands.demandOf Demands.needsLane Demands.firstRow Demands.lastRow Groups.tapsOf Groups.addWire Groups.tapFor Groups.groupFor Groups.wireOpen Groups.anchorsOpen Groups.anchorOf Groups.isBussable Groups.isBusWorthy Groups.crossesAt Groups.targetsExec Groups.tapsIn Groups.sourceAnchor Groups.targetAnchor Groups.crosses Groups.topChip Rows.rowOf Rows.nodesOn Rows.downsOn Refusals.bodyOf Refusals.innerOf Lanes.packed Lanes.packIn Lanes.ranked Lanes.entries Lanes.laneFor Lanes.firstThat Lanes.withTenant Lanes.ahead Sort.sorted Sort.inserted Sort.lexLess
 lanes = refl
 
 pub worked-demand3 : Demand3 board (finished board plannedLanes)
-worked-demand3 = demand3 board plannedLanes lanes high
+worked-demand3 = demand3 board plannedLanes lanes (sheet-accepted programMost (bytes sheetA) board within-program board-is)

@@ -5,12 +5,10 @@ use mathlib.Core.Bool.{Bool, true, false, not, _&&_, _||_}
 use mathlib.Core.List.{List, [], _∷_, map, List·Memᴰ}
 use lib.Dec.{eqb, leb}
 use lib.ListN.{length}
-use Rattle.lanes.specs.Lanes.{laneMost}
 use Rattle.board.specs.Lists.{any, keep}
-use Rattle.board.specs.Board.{Board, hasGutter, minYOf, sourceNode, sourcePort, targetNode, targetPort}
+use Rattle.board.specs.Board.{Board, sourceNode, sourcePort, targetNode, targetPort}
 use Rattle.board.specs.Rows.{REROUTER_SIZE}
 use Rattle.board.specs.Groups.{Tap, tapsOf}
-use Rattle.board.specs.Demands.{BUS_BAND_GUTTER, LANE_PITCH}
 use Rattle.routes.specs.Bus.{Bus, Brick, BusWire, End, port, rerouter, Carries, onward, delivery, partHead, partLink, partTap, partCorner}
 use Rattle.routes.specs.Plan.{isDelivery, deliveries}
 
@@ -103,7 +101,3 @@ pub record Demand3 (b : Board) (bus : Bus) : Type 0 where
   pub otherBound : (w : BusWire) (k d m : ℕ) (j : Brick) → List·Memᴰ w (bus .wires) → w .carries ≡ delivery k d → w .source ≡ rerouter m → Numbered m j (bus .bricks) → (j .part ≡ partCorner → ⊥) → Bounded b k d
   -- W14: lane bricks lie apart.
   pub apart : (m n : ℕ) (j k : Brick) → Numbered m j (bus .bricks) → Numbered n k (bus .bricks) → (m ≡ n → ⊥) → inGutter j ≡ true → inGutter k ≡ true → Overlap j k → ⊥
-
--- Every page's gutter has room for the most lanes above the lowest number that is held. (A sheet's numbers give this.)
-pub record HighGutters (b : Board) : Type 0 where
-  pub high : (p : ℕ) → p < length (b .pages) → hasGutter b p ≡ true → BUS_BAND_GUTTER + LANE_PITCH * laneMost ≤ minYOf b p

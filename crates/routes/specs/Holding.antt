@@ -1,4 +1,4 @@
--- How the code holds the bus: the buffers' rows, counts by value, feeds. No rule stands here.
+-- How the code holds the bus and a stop's level: the buffers' rows, counts by value, feeds. No rule stands here.
 use Prim.Native.Nat.{ℕ, zero, suc, _+_, _<_, _≤_, _%_}
 use mathlib.Core.Path.{_≡_}
 use mathlib.Core.Bool.{Bool, true, false}
@@ -6,6 +6,8 @@ use mathlib.Core.List.{List, [], _∷_}
 use lib.ListN.{length, set}
 use Rattle.sheet.specs.Table.{MISSING}
 use Rattle.board.specs.Board.{Board, targetNode, targetPort}
+use Rattle.routes.specs.Levels
+use Rattle.routes.specs.Levels.{dropped, shared, own}
 use Rattle.routes.specs.Bus
 use Rattle.routes.specs.Bus.{Bus, BusWire, port, rerouter, onward, delivery, place, deliver}
 use Rattle.routes.specs.Buffers.{brickRow, wireRow}
@@ -16,6 +18,8 @@ use Rattle.routes.specs.declared.bus.Feed.{Feed}
 use Rattle.routes.specs.declared.bus.Brick.{Brick}
 use Rattle.routes.specs.declared.bus.BusCount.{BusCount}
 use Rattle.routes.specs.declared.bus.Placed.{Placed}
+use Rattle.routes.specs.declared.levels.Level.{Level}
+use Rattle.routes.specs.declared.levels.Level.the-variants.{Dropped, Shared, Own}
 
 abbrev pub endNode : End → ℕ
 endNode (Port n p) = n .0
@@ -37,6 +41,11 @@ abbrev pub brickOf : Brick → Bus.Brick
 brickOf k =
     record
     { x = k .x; y = k .y; z = k .z; rotation = k .rotation; role = k .role; part = k .part; colour = k .colour .0; page = k .page; lane = k .lane; row = k .row }
+
+abbrev pub stopLevelOf : Level → Levels.Level
+stopLevelOf Dropped = dropped
+stopLevelOf (Shared x) = shared x
+stopLevelOf (Own x) = own x
 
 -- The buffers hold a bus: its rows are written, the rest is as it was.
 pub record BusHeld (bus : Bus.Bus) (old oldWires rerouters wires : List (List ℕ)) (count : BusCount) : Type 0 where

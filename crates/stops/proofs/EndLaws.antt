@@ -21,8 +21,8 @@ use Rattle.stops.specs.Laying.{levelAnswer, stopAnswer, keptEnd, Ends}
 use Rattle.board.specs.Tables.{view}
 use Rattle.stops.specs.Marks.{Marks, markIn, onRow, inColumn, marksWith}
 use Rattle.stops.specs.declared.marks.Mark.{Mark}
-use Rattle.stops.specs.declared.levels.Level.the-variants.{None, At}
-use Rattle.stops.specs.declared.levels.StopLevel.the-variants.{Dropped, Shared, Own}
+use Rattle.stops.specs.declared.levels.Found.the-variants.{None, At}
+use Rattle.routes.specs.declared.levels.Level.the-variants.{Dropped, Shared, Own}
 use Rattle.stops.proofs.LevelLaws.{same-test, found-at, found-none}
 
 -- Under 2 apart, by a difference.

@@ -19,18 +19,14 @@ use Rattle.board.proofs.Views.{view-more}
 use Rattle.routes.specs.Stops.{newRow, stopX}
 use Rattle.routes.specs.Levels.{Level, dropped, shared, own, Stop, previousStop, levelWithBase, levelOf, stopFor, stopsOf, laneFor}
 use Rattle.routes.specs.Tables.{stopIn}
+use Rattle.routes.specs.Holding.{stopLevelOf}
 use Rattle.stops.specs.Laying.{stopAnswer, keptEnd, Ends, StopIndex, NoMarks, WIRES_MOST}
 use Rattle.stops.specs.Marks.{Marks, markIn, marksOf, marksWith}
-use Rattle.stops.specs.declared.levels.StopLevel.{StopLevel}
-use Rattle.stops.specs.declared.levels.StopLevel.the-variants.{Dropped, Shared, Own}
+use Rattle.routes.specs.declared.levels.Level.{Level as LevelHeld}
+use Rattle.routes.specs.declared.levels.Level.the-variants.{Dropped, Shared, Own}
 
 -- Every answer is that of a level.
-abbrev levelFrom : StopLevel → Level
-levelFrom Dropped = dropped
-levelFrom (Shared l) = shared l
-levelFrom (Own l) = own l
-
-answer-back : (a : StopLevel) → a ≡ stopAnswer (levelFrom a)
+answer-back : (a : LevelHeld) → a ≡ stopAnswer (stopLevelOf a)
 answer-back Dropped = refl
 answer-back (Shared l) = refl
 answer-back (Own l) = refl
@@ -40,7 +36,7 @@ abbrev pub stopWith : Tap → ℕ → ℕ → Level → Stop
 stopWith t lane base v = record { page = t .page; lane = lane; group = t .group; row = t .row; base = base; level = v }
 
 module _ {n : ℕ} {stops ends marks : List (List ℕ)} {heads : List ℕ} {s m : ℕ} (x : StopIndex n stops ends marks heads s m)
-    (t : Tap) (lane base : ℕ) (a : StopLevel) (row : List ℕ) (room : s < n)
+    (t : Tap) (lane base : ℕ) (a : LevelHeld) (row : List ℕ) (room : s < n)
     (row-is : (v : Level) → a ≡ stopAnswer v → stopIn row ≡ stopWith t lane base v) where
   stop-seen : (v : Level) → a ≡ stopAnswer v → view stopIn (set stops s row) (s + 1) ≡ stopWith t lane base v ∷ view stopIn stops s
   stop-seen v e =
@@ -57,7 +53,7 @@ module _ {n : ℕ} {stops ends marks : List (List ℕ)} {heads : List ℕ} {s m 
       → length ends′ ≡ length ends → length marks′ ≡ length marks
       → StopIndex n (set stops s row) ends′ marks′ heads′ (s + 1) more
   indexed {ends′} {marks′} {heads′} {more} ends-are marked few marks-are ends-long marks-long =
-      let v : Level = levelFrom a in
+      let v : Level = stopLevelOf a in
       let e = answer-back a in
       let now-seen = stop-seen v e in
       let stops-long = length-set stops s row in

@@ -17,8 +17,8 @@ use Rattle.routes.specs.Levels.{Level, dropped, shared, own, Stop, STAGGER_STEP
 use Rattle.stops.specs.Marks.{ON_ROW, IN_COLUMN, onRow, inColumn, sameMark, marksWith, marksOf, countOf}
 use Rattle.stops.specs.Laying.{levelAnswer}
 use Rattle.stops.specs.declared.marks.Mark.{Mark}
-use Rattle.stops.specs.declared.levels.Level.{Level as LevelFound}
-use Rattle.stops.specs.declared.levels.Level.the-variants.{None, At}
+use Rattle.stops.specs.declared.levels.Found.{Found as LevelFound}
+use Rattle.stops.specs.declared.levels.Found.the-variants.{None, At}
 use Rattle.stops.proofs.MarkLaws.{same-mark}
 
 -- Two tests that hold together are the same.

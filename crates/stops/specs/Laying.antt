@@ -16,10 +16,10 @@ use Rattle.board.specs.Index.{link}
 use Rattle.routes.specs.Levels.{Level, dropped, shared, own, Stop, previousStop, levelWithBase, laneFor}
 use Rattle.routes.specs.Tables.{GroupFacts, stopIn}
 use Rattle.stops.specs.Marks.{Marks, markIn, marksOf, MARK_BUCKETS}
-use Rattle.stops.specs.declared.levels.Level.{Level as LevelFound}
-use Rattle.stops.specs.declared.levels.Level.the-variants.{None, At}
-use Rattle.stops.specs.declared.levels.StopLevel.{StopLevel}
-use Rattle.stops.specs.declared.levels.StopLevel.the-variants.{Dropped, Shared, Own}
+use Rattle.stops.specs.declared.levels.Found.{Found as LevelFound}
+use Rattle.stops.specs.declared.levels.Found.the-variants.{None, At}
+use Rattle.routes.specs.declared.levels.Level.{Level as LevelHeld}
+use Rattle.routes.specs.declared.levels.Level.the-variants.{Dropped, Shared, Own}
 
 -- The most wires (S12).
 abbrev pub WIRES_MOST : ℕ
@@ -50,7 +50,7 @@ abbrev pub levelAnswer : Found → LevelFound
 levelAnswer none = None
 levelAnswer (at l) = At l
 
-abbrev pub stopAnswer : Level → StopLevel
+abbrev pub stopAnswer : Level → LevelHeld
 stopAnswer dropped = Dropped
 stopAnswer (shared l) = Shared l
 stopAnswer (own l) = Own l

@@ -5,7 +5,7 @@ ghost use Prim.Native.Nat.{_<_, _≤_, _+_, _*_};
 ghost use lib.Dec.{leb};
 ghost use lib.ListN.{length, getD};
 ghost use Rattle.sheet.specs.Table.{MISSING};
-ghost use Rattle.board.specs.Lists.{Found};
+ghost use Rattle.board.specs.Lists.{Found as FoundX};
 ghost use Rattle.board.specs.Board.{Board};
 ghost use Rattle.board.specs.Rows.{rowTop};
 ghost use Rattle.board.specs.Demands.{PageLanes};
@@ -24,6 +24,7 @@ use crate::marks::count_of;
 use crate::marks::is_marked;
 use crate::stops::MISSING;
 use crate::stops::group_of;
+use routes::levels::Level;
 
 // C2: a rerouter's extent in x and in y, `2 * REROUTER_HALF`.
 pub const REROUTER_SIZE: u32 = 2;
@@ -42,16 +43,9 @@ pub const KIND_OWN: u32 = 2;
 pub const STAGGER_STEP: u32 = 2;
 
 // A level, or none.
-pub enum Level {
+pub enum Found {
     None,
     At(u32),
-}
-
-// A stop's level: none, that of the group's last kept stop, or one of its own.
-pub enum StopLevel {
-    Dropped,
-    Shared(u32),
-    Own(u32),
 }
 
 // `claim_column`'s test: no claim of the lane's column overlaps the span of 2 at `level`. One that does starts at most 1 below or above.
@@ -159,7 +153,7 @@ fn lowest_free(
     row: u32,
     base: u32,
     top: u32,
-) -> Level
+) -> Found
     requires { ⌜ Marks (now marks) (now heads) n ⌝ }
     ensures { λ r. ⌜ ((ss : List Stop) → view markIn (now (marks .entry)) n ≡ marksOf ss
         → r ≡ levelAnswer (lowest (freeLevel ss page lane row) base (levelsIn base top))) ⌝ }
@@ -167,10 +161,10 @@ fn lowest_free(
     let mut level = base;
     let found = loop {
         if !is_within(level, top) {
-            break Level::None;
+            break Found::None;
         }
         if is_free(marks, heads, n, page, lane, row, level) {
-            break Level::At(level);
+            break Found::At(level);
         }
         level += STAGGER_STEP;
     };
@@ -196,12 +190,12 @@ fn least_loaded(
     row: u32,
     base: u32,
     top: u32,
-) -> Level
+) -> Found
     requires { ⌜ Marks (now marks) (now heads) n ⌝ }
     ensures { λ r. ⌜ ((ss : List Stop) → view markIn (now (marks .entry)) n ≡ marksOf ss
         → r ≡ levelAnswer (lightest (unclaimed ss page lane) (loadAt ss page row) base (levelsIn base top))) ⌝ }
 {
-    let mut best = Level::None;
+    let mut best = Found::None;
     let mut least = MISSING;
     let mut k = levels_in(base, top);
     while 0 < k {
@@ -220,7 +214,7 @@ fn least_loaded(
                 },
             );
             if load <= least {
-                best = Level::At(level);
+                best = Found::At(level);
                 least = load;
             }
         }
@@ -238,22 +232,22 @@ pub fn find_level(
     row: u32,
     base: u32,
     top: u32,
-) -> Level
+) -> Found
     requires { ⌜ Marks (now marks) (now heads) n ⌝ }
     requires { ⌜ base < MISSING ⌝ }
     ensures { λ r. ⌜ ((ss : List Stop) → view markIn (now (marks .entry)) n ≡ marksOf ss
         → r ≡ levelAnswer (findLevel ss page lane row base top)) ⌝ }
 {
-    if let Level::At(level) = lowest_free(marks, heads, n, page, lane, row, base, top) {
-        return Level::At(level);
+    if let Found::At(level) = lowest_free(marks, heads, n, page, lane, row, base, top) {
+        return Found::At(level);
     }
-    if let Level::At(level) = least_loaded(marks, heads, n, page, lane, row, base, top) {
-        return Level::At(level);
+    if let Found::At(level) = least_loaded(marks, heads, n, page, lane, row, base, top) {
+        return Found::At(level);
     }
     if is_unclaimed(marks, heads, n, page, lane, base) {
-        return Level::At(base);
+        return Found::At(base);
     }
-    Level::None
+    Found::None
 }
 
 // How many stops there are, and how many marks.
@@ -265,7 +259,7 @@ pub struct StopCounts {
 // T4: a stop's base; `previous` is one more than the previous stop's, or 0.
 fn stop_x(previous: u32, x: u32) -> u32
     requires { ⌜ x < MISSING ⌝ }
-    ensures { λ r. ⌜ (r < MISSING) × ((f : Found) → previous ≡ link f → r ≡ stopX f x) ⌝ }
+    ensures { λ r. ⌜ (r < MISSING) × ((f : FoundX) → previous ≡ link f → r ≡ stopX f x) ⌝ }
 {
     if previous == 0 {
         return x;
@@ -297,7 +291,7 @@ fn level_of(
     lane: u32,
     base: u32,
     top: u32,
-) -> StopLevel
+) -> Level
     requires { ⌜ Marks (now marks) (now heads) n ⌝ }
     requires { ⌜ base < MISSING ⌝ }
     ensures { λ r. ⌜ ((b : Board) (ss : List Stop) → view markIn (now (marks .entry)) n ≡ marksOf ss
@@ -305,48 +299,48 @@ fn level_of(
         → r ≡ stopAnswer (levelOf b ss lane base (tapIn tap))) ⌝ }
 {
     if end[1] == base + 1 {
-        return StopLevel::Shared(end[2]);
+        return Level::Shared(end[2]);
     }
     match find_level(marks, heads, n, tap[0], lane, tap[2], base, top) {
-        Level::At(level) => StopLevel::Own(level),
-        Level::None => StopLevel::Dropped,
+        Found::At(level) => Level::Own(level),
+        Found::None => Level::Dropped,
     }
 }
 
 // A stop's row.
-fn stop_row(tap: [u32; 8], lane: u32, base: u32, level: StopLevel) -> [u32; 8]
+fn stop_row(tap: [u32; 8], lane: u32, base: u32, level: Level) -> [u32; 8]
     ensures { λ r. ⌜ ((v : StopsLevel) → level ≡ stopAnswer v
         → stopIn r ≡ record { page = tapIn tap .page; lane = lane; group = tapIn tap .group; row = tapIn tap .row; base = base; level = v }) ⌝ }
 {
     match level {
-        StopLevel::Dropped => [tap[0], lane, tap[1], tap[2], base, 0, KIND_DROPPED, 0],
-        StopLevel::Shared(l) => [tap[0], lane, tap[1], tap[2], base, l, KIND_SHARED, 0],
-        StopLevel::Own(l) => [tap[0], lane, tap[1], tap[2], base, l, KIND_OWN, 0],
+        Level::Dropped => [tap[0], lane, tap[1], tap[2], base, 0, KIND_DROPPED, 0],
+        Level::Shared(l) => [tap[0], lane, tap[1], tap[2], base, l, KIND_SHARED, 0],
+        Level::Own(l) => [tap[0], lane, tap[1], tap[2], base, l, KIND_OWN, 0],
     }
 }
 
 // The level that a stop is kept at, or none.
-fn kept_at(level: StopLevel) -> Level
+fn kept_at(level: Level) -> Found
     ensures { λ r. ⌜ ((v : StopsLevel) → level ≡ stopAnswer v → r ≡ levelAnswer (keptAt v)) ⌝ }
 {
     match level {
-        StopLevel::Dropped => Level::None,
-        StopLevel::Shared(l) => Level::At(l),
-        StopLevel::Own(l) => Level::At(l),
+        Level::Dropped => Found::None,
+        Level::Shared(l) => Found::At(l),
+        Level::Own(l) => Found::At(l),
     }
 }
 
 // Group `g` has a stop more, the last one from here on.
-fn note_end(ends: &mut [[u32; 4]], g: usize, base: u32, level: StopLevel)
+fn note_end(ends: &mut [[u32; 4]], g: usize, base: u32, level: Level)
     requires { ⌜ (g < length (now ends)) × (base < MISSING) ⌝ }
     ensures { λ _. ⌜ ((ss : List Stop) (s : Stop) → s .group ≡ g → s .base ≡ base → level ≡ stopAnswer (s .level)
         → Ends (now (ends .entry)) ss → Ends (now (ends .exit)) (s ∷ ss)) ⌝ }
 {
     match kept_at(level) {
-        Level::At(l) => {
+        Found::At(l) => {
             ends[g] = [base + 1, base + 1, l, 0];
         }
-        Level::None => {
+        Found::None => {
             let end = ends[g];
             ends[g] = [base + 1, end[1], end[2], 0];
         }
@@ -360,7 +354,7 @@ fn mark_stop(
     n: usize,
     tap: [u32; 8],
     lane: u32,
-    level: StopLevel,
+    level: Level,
 ) -> usize
     requires { ⌜ Marks (now marks) (now heads) n ⌝ }
     requires { ⌜ (n + 2 ≤ length (now marks)) × (n < 65535) ⌝ }
@@ -369,8 +363,8 @@ fn mark_stop(
         → view markIn (now (marks .exit)) r ≡ marksWith (tapIn tap .page) lane (tapIn tap .row) v (view markIn (now (marks .entry)) n)) ⌝ }
 {
     match level {
-        StopLevel::Dropped => n,
-        StopLevel::Shared(l) => {
+        Level::Dropped => n,
+        Level::Shared(l) => {
             add_mark(
                 marks,
                 heads,
@@ -384,7 +378,7 @@ fn mark_stop(
             );
             n + 1
         }
-        StopLevel::Own(l) => {
+        Level::Own(l) => {
             add_mark(
                 marks,
                 heads,

@@ -20,7 +20,7 @@ use Rattle.routes.specs.Plan.{isDelivery, deliveries}
 use Rattle.routes.proofs.Rows.{CarriesFit, WireFits}
 use Rattle.routes.proofs.Views.{rows-written}
 use Rattle.text.specs.Held.{namesWire, deliveryRows}
-use Rattle.text.proofs.Ranges.{All}
+use Rattle.board.proofs.Reach.{All}
 
 -- The rows that name a wire are those of the deliveries.
 past-end : (e : End) (l : List ℕ) (i : ℕ) → getD (endRow e ++ l) (suc (suc i)) 0 ≡ getD l i 0

@@ -8,17 +8,17 @@ use mathlib.Core.List.{List, [], _∷_, List·Memᴰ·head, List·Memᴰ·tail}
 use lib.Dec.{eqb, ltb}
 use lib.ListN.{length}
 use Rattle.sheet.specs.Table.{MISSING, ID_MOST, PORT_MOST, PAGE_MOST}
-use Rattle.sheet.proofs.Accepted.{COORDINATE_HIGH}
+use Rattle.board.specs.Accepted.{COORDINATE_HIGH, Y_HIGH, Accepted}
 use Rattle.board.specs.Board.{Board}
 use Rattle.board.specs.Rows.{REROUTER_SIZE}
 use Rattle.board.proofs.Lists.{byTest}
 use Rattle.routes.specs.Bus.{Bus, Brick, BusWire, End, port, rerouter, Carries, onward, delivery, Port, Feed, insertPort, portOf, portFeed, placedFeed, place, deliver}
-use Rattle.text.proofs.Ranges.{All, all-more, REACH_MOST, Ranged}
+use Rattle.board.proofs.Reach.{All, all-more, REACH_MOST}
 
 -- The numbers of a rerouter. A lane and a row may be missing.
 pub record BrickInRange (k : Brick) : Type 0 where
   pub x : k .x ≤ REACH_MOST + REROUTER_SIZE
-  pub y : k .y ≤ COORDINATE_HIGH
+  pub y : k .y ≤ Y_HIGH
   pub z : k .z ≤ COORDINATE_HIGH
   pub rotation : k .rotation ≤ 3
   pub role : k .role ≤ 2
@@ -88,7 +88,7 @@ port-in p (q ∷ l) h k =
     (λ e. all-more PortInRange p (q ∷ l) h k)
     (λ e. byTest (All PortInRange) (eqb (p .node) (q .node) && eqb (p .port) (q .port)) (λ s. k) (λ s. all-more PortInRange q (insertPort p l) first ih))
 
-module _ (b : Board) (r : Ranged b) where
+module _ (b : Board) (r : Accepted b) where
   -- The two operations that a plan comes from.
   pub feed-port : (bus : Bus) (w : ℕ) → FeedInRange bus (portFeed b w)
   feed-port bus w = record { end = r .source w; depth = omega arith }

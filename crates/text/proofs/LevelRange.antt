@@ -7,7 +7,7 @@ use mathlib.Core.List.{List, [], _∷_, List·Memᴰ·head, List·Memᴰ·tail}
 use lib.Dec.{eqb, leb}
 use lib.ListN.{length}
 use Rattle.sheet.specs.Table.{PAGE_MOST}
-use Rattle.sheet.proofs.Accepted.{COORDINATE_HIGH}
+use Rattle.board.specs.Accepted.{COORDINATE_HIGH, Y_HIGH, Accepted}
 use Rattle.board.specs.Lists.{Found, none, at, found, fold, upto}
 use Rattle.board.specs.Board.{Board, classInline, kindCoerce, classOf, kindOf, hasRow, sourceNode, targetNode}
 use Rattle.board.specs.Rows.{rowTop}
@@ -17,17 +17,17 @@ use Rattle.board.proofs.Lists.{never, and-right, byTest, byFound}
 use Rattle.routes.specs.Stops.{newRow, near, stopX}
 use Rattle.routes.specs.Levels.{Level, dropped, shared, own, Stop, STAGGER_STEP, keptAt, levelsIn, lowest, lighter, lightest, previousStop, levelWithBase, findLevel, freeLevel, loadAt, unclaimed, ownLevel, levelOf, stopFor, stopsOf, laneFor}
 use Rattle.routes.specs.Rerouters.{levelHere}
-use Rattle.text.proofs.Ranges.{All, all-none, all-more, REACH_MOST, Ranged, row-most, top-most}
+use Rattle.board.proofs.Reach.{All, all-none, all-more, REACH_MOST, row-most, top-most}
 
 -- The numbers of a tap: it stands where its target does, which has a row.
 pub record TapInRange (b : Board) (t : Tap) : Type 0 where
   pub x : t .x ≤ COORDINATE_HIGH
-  pub y : t .y ≤ COORDINATE_HIGH
+  pub y : t .y ≤ Y_HIGH
   pub page : t .page ≤ PAGE_MOST
   pub row : t .row ≤ length (b .nodes)
   pub wire : t .wire < length (b .wires)
 
-module _ (b : Board) (r : Ranged b) where
+module _ (b : Board) (r : Accepted b) where
   tap-in : (n : ℕ) (ts : List Tap) (s a : ℕ) → n < length (b .wires) → anchorsOpen b n s a ≡ true → TapInRange b (tapFor b ts n a)
   unfolding tapFor anchorsOpen
   tap-in n ts s a h o =
@@ -127,7 +127,7 @@ stop-x-in : (f : Found) (x : ℕ) → FoundInRange f → x ≤ REACH_MOST → st
 stop-x-in none x h k = k
 stop-x-in (at p) x h k = byTest (λ n. n ≤ REACH_MOST) (near x p) (λ e. h) (λ e. k)
 
-module _ (b : Board) (r : Ranged b) where
+module _ (b : Board) (r : Accepted b) where
   level-in : (stops : List Stop) (lane base : ℕ) (t : Tap) → All StopInRange stops → base ≤ REACH_MOST → LevelInRange (levelOf b stops lane base t)
   unfolding levelOf
   level-in stops lane base t h low =

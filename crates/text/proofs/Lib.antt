@@ -1,4 +1,3 @@
-pub mod Ranges
 pub mod InRange
 pub mod LevelRange
 pub mod PlanRange

@@ -6,13 +6,11 @@ use mathlib.Core.Bool.{Bool, true, false, not, _&&_}
 use mathlib.Core.List.{List, [], _∷_, List·Memᴰ·head, List·Memᴰ·tail}
 use lib.Dec.{eqb, ltb}
 use lib.ListN.{length}
-use Rattle.sheet.specs.declared.Counts.{Counts}
-use Rattle.sheet.proofs.Accepted.{COORDINATE_HIGH}
+use Rattle.board.specs.Accepted.{COORDINATE_HIGH, Y_HIGH, Accepted}
 use Rattle.board.specs.Lists.{Found, none, at, found, any, fold, upto}
 use Rattle.board.specs.Board.{Board, placed, hasLine, hasRow, lineOf, xOf, yOf, downOf, pageOf, rotationOf, sourceNode, targetNode}
-use Rattle.board.specs.Refusals.{board, judged, bodyOf}
+use Rattle.board.specs.Refusals.{bodyOf}
 use Rattle.board.specs.Rows.{REROUTER_SIZE, rowOf, brickCell}
-use Rattle.board.specs.Walk.{WithinLibrary}
 use Rattle.board.specs.Groups.{Tap, tapsOf, tapsIn, wireOpen, sourceAnchor, sourceRow}
 use Rattle.board.specs.Demands.{PageLanes, laneOf, laneY, planned, planLanes}
 use Rattle.board.proofs.Lists.{never, clash, and-left, and-right, byTest, byFound}
@@ -26,12 +24,11 @@ use Rattle.routes.specs.Plan.{busOf, finished}
 use Rattle.routes.proofs.Laid.{of-laid}
 use Rattle.routes.proofs.Claims.{stops-before}
 use Rattle.routes.proofs.Room.{room-finished}
-use Rattle.routes.proofs.Routed.{judged-gutters}
-use Rattle.text.proofs.Ranges.{All, all-none, REACH_MOST, Ranged, ranged, row-most, end-most}
+use Rattle.board.proofs.Reach.{All, all-none, REACH_MOST, row-most, end-most}
 use Rattle.text.proofs.LevelRange.{TapInRange, taps-in-range, lowest-most, lightest-most, levels-most, LevelInRange, level-in-range}
 use Rattle.text.proofs.InRange.{BrickInRange, InRange, PlanInRange, FeedInRange, feed-port, feed-more, feed-placed, placed-in, delivered-in}
 
-module _ (b : Board) (r : Ranged b) (ps : List PageLanes) (lanes : planLanes b ≡ planned ps) where
+module _ (b : Board) (r : Accepted b) (ps : List PageLanes) (lanes : planLanes b ≡ planned ps) where
   abbrev ts : List Tap
   ts = tapsOf b
 
@@ -75,7 +72,7 @@ module _ (b : Board) (r : Ranged b) (ps : List PageLanes) (lanes : planLanes b �
               row = omega arith;
             }
 
-    row-brick : (row x y rotation role part : ℕ) → row ≤ length (b .nodes) → x ≤ REACH_MOST → y ≤ COORDINATE_HIGH → rotation ≤ 3 → role ≤ 2 → part ≤ 6
+    row-brick : (row x y rotation role part : ℕ) → row ≤ length (b .nodes) → x ≤ REACH_MOST → y ≤ Y_HIGH → rotation ≤ 3 → role ≤ 2 → part ≤ 6
         → BrickInRange (rowBrick b ts ps t row x y rotation role part)
     unfolding rowBrick
     row-brick row x y rotation role part few across up turn what kind =
@@ -225,7 +222,7 @@ both-rows a c d e f g h i j q =
     let six = and-left (a && c && d && e && f && g) h (and-left (a && c && d && e && f && g && h) i (and-left (a && c && d && e && f && g && h && i) j q)) in
     (and-right (a && c && d && e) f (and-left (a && c && d && e && f) g six), and-right (a && c && d && e && f) g six)
 
-module _ (b : Board) (r : Ranged b) where
+module _ (b : Board) (r : Accepted b) where
   turning : (s t : ℕ) → turnsDown b s t ≡ true → (hasRow b s ≡ true) × (hasRow b t ≡ true)
   unfolding turnsDown
   turning s t h =
@@ -284,13 +281,11 @@ module _ (b : Board) (r : Ranged b) where
   turn-wires c (suc n) h q = turn-wire (fold (turnWire b) c (upto n)) n h (turn-wires c n (omega arith) q)
 
 -- Every number of a finished plan is in range.
-pub plan-in-range : (most : Counts) (text : List ℕ) → WithinLibrary most → (b : Board) → judged most text ≡ board b → (ps : List PageLanes) → planLanes b ≡ planned ps
-    → PlanInRange b (finished b ps)
+pub plan-in-range : (b : Board) → Accepted b → (ps : List PageLanes) → planLanes b ≡ planned ps → PlanInRange b (finished b ps)
 unfolding finished corners
-plan-in-range most text low b fine ps plan =
-    let r = ranged most text low b fine in
+plan-in-range b r ps plan =
     let few = r .fewWires in
-    let room = room-finished b ps plan (judged-gutters most text b fine) in
+    let room = room-finished b ps plan r in
     record {
       ranges = turn-wires b r (record { bus = busOf b ps; taken = [] }) (length (b .wires)) (omega arith) (bus-in-range b r ps plan);
       fewOnBoard = few;

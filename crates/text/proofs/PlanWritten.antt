@@ -26,7 +26,7 @@ use Rattle.routes.proofs.Rows.{BrickFits, EndFit, CarriesFit, WireFits}
 use Rattle.text.proofs.PlanText.{Holds, plan-text}
 use Rattle.routes.proofs.Laid.{laid-short}
 use Rattle.text.specs.Held.{deliveryRows, totalsOf, PlanHeld}
-use Rattle.text.proofs.Ranges.{All, ranged}
+use Rattle.board.proofs.Reach.{All}
 use Rattle.text.proofs.InRange.{BrickInRange, EndInRange, CarriesInRange, WireInRange, PlanInRange}
 use Rattle.text.proofs.PlanRange.{plan-in-range}
 use Rattle.text.proofs.Deliveries.{rows-deliver}
@@ -85,7 +85,7 @@ module _ (b : Board) (ps : List PageLanes) (answers : List (List ℕ)) (p : ℕ)
   bus = finished b ps
 
   range : PlanInRange b bus
-  range = plan-in-range (h .most) (h .text) (h .within) b (h .accepted) ps (h .lanes)
+  range = plan-in-range b (h .accepted) ps (h .lanes)
 
   wires-fit : All WireFits (bus .wires)
   wires-fit w m =
@@ -134,7 +134,7 @@ module _ (b : Board) (ps : List PageLanes) (answers : List (List ℕ)) (p : ℕ)
     unfolding laidGroups
     plan-fits out room =
         let page = h .pageCount in
-        let pages : length ps ≤ 64 = omega (arith, planned-long b ps (h .lanes), ranged (h .most) (h .text) (h .within) b (h .accepted) .fewPages) in
+        let pages : length ps ≤ 64 = omega (arith, planned-long b ps (h .lanes), h .accepted .fewPages) in
         let brick = h .busRows .brickCount in
         let wire = h .busRows .wireCount in
         let suppressed = h .portCount in

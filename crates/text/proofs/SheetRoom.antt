@@ -13,7 +13,7 @@ use Rattle.board.specs.Demands.{PageLanes, band}
 use Rattle.routes.specs.Bus.{Bus, Brick, BusWire, End, port, rerouter, Carries, onward, delivery, Port}
 use Rattle.routes.specs.Plan.{deliveries}
 use Rattle.routes.specs.PlanSheet.{fields, line, numbered, laneLine, brickLine, endFields, carriesFields, wireLine, portLine, totalLine, planSheet}
-use Rattle.text.proofs.Ranges.{All, all-none, all-more}
+use Rattle.board.proofs.Reach.{All, all-none, all-more}
 
 -- A line of at most ten fields has at most 128 bytes.
 fields-most : (fs : List (List ℕ)) → All (λ f. length f ≤ 11) fs → length (fields fs) ≤ 12 * length fs + 1

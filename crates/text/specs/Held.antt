@@ -4,11 +4,9 @@ use mathlib.Core.Path.{_≡_}
 use mathlib.Core.Bool.{Bool}
 use mathlib.Core.List.{List, _++_, map}
 use lib.ListN.{length, getD}
-use Rattle.sheet.specs.declared.Counts.{Counts}
 use Rattle.board.specs.Lists.{keep}
 use Rattle.board.specs.Board.{Board, given}
-use Rattle.board.specs.Refusals.{board, judged}
-use Rattle.board.specs.Walk.{WithinLibrary}
+use Rattle.board.specs.Accepted.{Accepted}
 use Rattle.board.specs.Demands.{PageLanes, planned, planLanes}
 use Rattle.board.specs.Planning.{pageRow}
 use Rattle.board.specs.Tables.{view}
@@ -30,10 +28,7 @@ totalsOf n k deliveries wires groups = record { rerouters = n; «bus_wires» = k
 
 -- The finished plan of an accepted sheet's board, in the first rows of the buffers: the pages' answers, the rerouters, the bus wires, the suppressed ports.
 pub record PlanHeld (b : Board) (ps : List PageLanes) (answers : List (List ℕ)) (p : ℕ) (rerouters : List (List ℕ)) (n : ℕ) (busWires : List (List ℕ)) (k : ℕ) (ports : List (List ℕ)) (u wires groups : ℕ) : Type 0 where
-  pub most : Counts
-  pub text : List ℕ
-  pub within : WithinLibrary most
-  pub accepted : judged most text ≡ board b
+  pub accepted : Accepted b
   pub lanes : planLanes b ≡ planned ps
   pub restAnswers : List (List ℕ)
   pub pageRows : answers ≡ map pageRow ps ++ restAnswers

@@ -14,7 +14,7 @@ use Rattle.plan.proofs.Planned.{planned-counts}
 use Rattle.plan.proofs.Calling.{within-library, work-lent, pagesLent, text-refusal, LanesTold, text-lanes, pages-ready, pages-refused, pages-laned}
 use Rattle.plan.specs.declared.PagesPlan.the-variants.{Planned}
 use Rattle.plan.specs.PagesPlan.{planCall, PagesPlanned}
-use Rattle.plan.proofs.Reading.{lanes-from}
+use Rattle.board.proofs.Planning.{lanes-from}
 use Rattle.plan.proofs.plan_bus.Statement.{statement}
 use Rattle.plan.proofs.plan_bus.Tie as tie
 use Rattle.plan.proofs.plan_bus.Reads as reads

@@ -3,7 +3,7 @@ use mathlib.Core.Bool.{true, false}
 use borrow.Author.Needs.{needs}
 use borrow.Author.Tests.{not-true, not-false}
 use Rattle.plan.specs.TextPlan.{fitsCounts, fitsLent}
-use Rattle.plan.proofs.Reading.{counts-few, checked-few, fits-counted, fitting-unfit, fitting-fits, fill-asks, board-read}
+use Rattle.plan.proofs.Reading.{counts-few, checked-accepted, fits-counted, fitting-unfit, fitting-fits, fill-asks, board-read}
 use Rattle.plan.proofs.survey_fitting.Statement.{statement}
 use Rattle.plan.proofs.survey_fitting.Tie as tie
 use Rattle.plan.proofs.survey_fitting.Reads as reads
@@ -22,7 +22,7 @@ enough c = sym (c .before .before .before .fits2 .ensures) ∙ not-false _ (c .b
 fits-requires : tie.Need-fits-requires
 fits-requires c κs =
     let p = c .before .before .before .before .before .before .before .pre .1 in
-    counts-few (p .1 .0) (c .before .before .before .before .before .before .before .args .counts) (p .1 .1 .counted) (checked-few (p .0) (p .1 .1))
+    counts-few (p .1 .0) (c .before .before .before .before .before .before .before .args .counts) (p .1 .1 .counted) (checked-accepted (p .0) (p .1 .1))
 
 returns : tie.Need-returns
 returns c =
@@ -35,7 +35,7 @@ total-requires : tie.Need-total-requires
 total-requires c κs =
     let s = c .before .before .before .before .before .before .before .before .before in
     let p = s .pre .1 in
-    counts-few (p .1 .0) (s .args .counts) (p .1 .1 .counted) (checked-few (p .0) (p .1 .1))
+    counts-few (p .1 .0) (s .args .counts) (p .1 .1 .counted) (checked-accepted (p .0) (p .1 .1))
 
 fill-rows-requires : tie.Need-fill-rows-requires
 fill-rows-requires c κs =

@@ -4,7 +4,7 @@ use mathlib.Core.Path.{_≡_, refl, sym, ap, _∙_, subst}
 use lib.ListN.{length}
 use lib.Seq.{length-take-le}
 use borrow.Author.Needs.{needs}
-use Rattle.plan.proofs.Fine.{Slices, slices}
+use Rattle.plan.proofs.Slices.{Slices, slices}
 use Rattle.plan.proofs.Planned.{crowded-page, crowded-is, survey-crowded, survey-laned}
 use Rattle.plan.proofs.survey_rows.Statement.{statement}
 use Rattle.plan.proofs.survey_rows.Tie as tie
@@ -13,7 +13,7 @@ use Rattle.plan.proofs.survey_rows.Lts as lts
 use Rattle.demands.proofs.demands.plan_board.Reads as plan-board-reads
 
 known : (s : tie.Start) → Slices (s .pre .0) (s .args .records .now) (s .args .counts)
-known s = slices (s .pre .0) (s .args .records .now) (s .args .counts) (s .pre .1 .sections) (s .pre .1 .counted) (s .pre .1 .few)
+known s = slices (s .pre .0) (s .args .records .now) (s .args .counts) (s .pre .1 .sections) (s .pre .1 .counted) (s .pre .1 .accepted)
 
 add-chips : tie.Need-add-chips
 add-chips c = let k = known (c .before .before .before .before .before .before .before) in omega (arith, k .few, k .below)
@@ -98,7 +98,7 @@ plan-board-requires c κs =
     let s = c .before .before .before .before .before .before .before .before .before .before .before .before .before .before .before .before .before .before .before .before .before .before .before .before .before in
     let k = known s in
     let r = s .pre .1 in
-    rw (k .pages, k .nodes, k .inner, k .execs, k .wires) (r .ranged, (r .indexes, r .room))
+    rw (k .pages, k .nodes, k .inner, k .execs, k .wires) ((s .pre .0, refl, r .accepted), (r .indexes, r .room))
 
 enum-known-plan : tie.Need-enum-known-plan
 enum-known-plan c = search needs
@@ -109,7 +109,7 @@ add-t71 c =
     let r = c .before .before .before .before .before .before .before .before .before .before .before .plan-board in
     let p = c .before .plan .given .0 .0 in
     let h = crowded-page (s .pre .0) p (crowded-is (known s) (r .result) (r .ensures) p (c .before .plan .given .1)) in
-    let f = s .pre .1 .few .0 in
+    let f = s .pre .1 .accepted .fewPages in
     omega arith
 
 enum-told : tie.Need-enum-told
@@ -143,7 +143,7 @@ returns : tie.Need-returns
 returns c =
     let s = c .before .before .before .before .before .before .before .before .before .before .before .before .before .before .before .before .before .before .before .before .before .before .before .before .before .before .before .before .before .before .before .before .before .before .before .before .before in
     let r = c .before .before .before .before .before .before .before .before .before .before .before .plan-board in
-    λ b rd. survey-crowded (slices b (s .args .records .now) (s .args .counts) (rd .sections) (rd .counted) (rd .few)) (r .result) (r .ensures) (rd .sections) (rd .counted) (c .before .plan .given .0 .0) (c .before .plan .given .1)
+    λ b rd. survey-crowded (slices b (s .args .records .now) (s .args .counts) (rd .sections) (rd .counted) (rd .accepted)) (r .result) (r .ensures) (rd .sections) (rd .counted) (c .before .plan .given .0 .0) (c .before .plan .given .1)
 
 same-length-9 : tie.Need-same-length-9
 same-length-9 c = search needs
@@ -173,7 +173,7 @@ returns-2 : tie.Need-returns-2
 returns-2 c =
     let s = c .before .before .before .before .before .before .before .before .before .before .before .before .before .before .before .before .before .before .before .before .before .before .before .before .before .before .before .before .before .before .before .before .before .before .before .before in
     let r = c .before .before .before .before .before .before .before .before .before .before .plan-board in
-    λ b rd. survey-laned (slices b (s .args .records .now) (s .args .counts) (rd .sections) (rd .counted) (rd .few)) (r .result) (r .ensures) (rd .sections) (rd .counted) (c .enum-told .given .1)
+    λ b rd. survey-laned (slices b (s .args .records .now) (s .args .counts) (rd .sections) (rd .counted) (rd .accepted)) (r .result) (r .ensures) (rd .sections) (rd .counted) (c .enum-told .given .1)
 
 pub survey-rows-spec : {M : Type 1} → statement M
 survey-rows-spec =

@@ -6,7 +6,8 @@ use Rattle.sheet.specs.declared.Counts.{Counts}
 use Rattle.board.specs.Walk.{WithinLibrary}
 use Rattle.gutter.proofs.Suppressing.{workLengths}
 use Rattle.answer.specs.Answering.{answerLent}
-use Rattle.answer.proofs.Program.{within-program, too-long, not-long}
+use Rattle.board.proofs.Accepting.{within-program}
+use Rattle.answer.proofs.Program.{too-long, not-long}
 use Rattle.answer.proofs.calls.answer_for_program.Statement.{statement}
 use Rattle.answer.proofs.calls.answer_for_program.Tie as tie
 

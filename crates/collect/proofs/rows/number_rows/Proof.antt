@@ -5,6 +5,7 @@ use lib.ListN.{length, getD, take, drop}
 use lib.Seq.{length-take-le}
 use Rattle.lanes.specs.Sort.{sortedRows}
 use Rattle.board.specs.Tables.{nodesAlone}
+use Rattle.board.proofs.Accepting.{nodes-few}
 use Rattle.collect.specs.Collecting.{Ranked}
 use Rattle.collect.proofs.KeyLaws.{lent-ranked, lent-length, lent-index, whole-length, facts-of-nodes}
 use native.Mathlib.Omega.{arith}
@@ -57,7 +58,7 @@ slice-aggregate-assign-rows c = sym (lent-size (c .before .before .before))
 assign-rows-requires : tie.Need-assign-rows-requires
 assign-rows-requires c κs =
     let s = c .before .before .before .before in
-    let n = filled s .before .before .pre .0 .count in (
+    let n = nodes-few (filled s .before .before .pre .0) in (
       omega (arith, lent-size s),
       λ k h. omega (arith, lent-index (nodes-in (filled s)) (keys-in (filled s)) (s .sort-rows .last .0) (room (filled s)) (filled s .before .before .pre .0) (filled s .fill-keys .ensures) (s .sort-rows .ensures) k h),
     )

@@ -9,16 +9,17 @@ use Rattle.sheet.specs.Table.{MISSING}
 use Rattle.board.specs.Board.{field}
 use Rattle.board.specs.Rows.{brickCell, turned}
 use Rattle.board.specs.Tables.{nodesAlone}
+use Rattle.board.proofs.Accepting.{nodes-few, nodes-half-x, nodes-half-y, nodes-x}
 use Rattle.collect.proofs.KeyLaws.{key-none, key-some, half-within}
 use Rattle.collect.proofs.rows.row_key.Statement.{statement}
 use Rattle.collect.proofs.rows.row_key.Tie as tie
 
 half-small : (c : tie.After-half-along) → c .half-along .result ≤ 1000
 half-small c =
-    half-within (turned (nodesAlone (c .before .before .before .args .nodes .now)) (c .before .before .before .args .i)) (c .half-along .result) _ _ 1000 (c .half-along .ensures) (c .before .before .before .pre .1 .halfX (c .before .before .before .args .i) (omega arith)) (c .before .before .before .pre .1 .halfY (c .before .before .before .args .i) (omega arith))
+    half-within (turned (nodesAlone (c .before .before .before .args .nodes .now)) (c .before .before .before .args .i)) (c .half-along .result) _ _ 1000 (c .half-along .ensures) (nodes-half-x (c .before .before .before .pre .1) (c .before .before .before .args .i)) (nodes-half-y (c .before .before .before .pre .1) (c .before .before .before .args .i))
 
 x-small : (c : tie.After-half-along) → field (c .before .before .before .args .nodes .now) (c .before .before .before .args .i) 8 ≤ 3000000
-x-small c = c .before .before .before .pre .1 .placed (c .before .before .before .args .i) (omega arith) (ap not (ne-eqb _ MISSING (c .before .if1 .left)))
+x-small c = nodes-x (c .before .before .before .pre .1) (c .before .before .before .args .i) (ap not (ne-eqb _ MISSING (c .before .if1 .left)))
 
 mul-node : tie.Need-mul-node
 mul-node c = search needs
@@ -30,7 +31,7 @@ array-read-page : tie.Need-array-read-page
 array-read-page c = search needs
 
 cast-t14 : tie.Need-cast-t14
-cast-t14 c = search needs
+cast-t14 c = let n = nodes-few (c .before .before .pre .1) in omega arith
 
 returns : tie.Need-returns
 returns c = sym (key-none (nodesAlone (c .before .before .args .nodes .now)) (c .before .before .args .i) (ap not (eq-eqb _ MISSING (c .if1 .taken))))
@@ -63,7 +64,7 @@ sub-t22 : tie.Need-sub-t22
 sub-t22 c = omega (arith, half-small c, x-small c)
 
 cast-t12 : tie.Need-cast-t12
-cast-t12 c = search needs
+cast-t12 c = let n = nodes-few (c .before .before .before .pre .1) in omega arith
 
 returns-2 : tie.Need-returns-2
 unfolding brickCell

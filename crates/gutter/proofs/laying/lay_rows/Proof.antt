@@ -2,7 +2,7 @@ use native.Mathlib.Omega.{arith}
 use mathlib.Core.Path.{_≡_, refl, sym, ap, _∙_, subst}
 use lib.Seq.{length-take-le}
 use borrow.Author.Needs.{needs}
-use Rattle.plan.proofs.Fine.{Slices, slices}
+use Rattle.plan.proofs.Slices.{Slices, slices}
 use Rattle.gutter.proofs.laying.lay_rows.Statement.{statement}
 use Rattle.gutter.proofs.laying.lay_rows.Tie as tie
 use Rattle.gutter.proofs.laying.lay_rows.Reads as reads
@@ -10,7 +10,7 @@ use Rattle.gutter.proofs.laying.lay_rows.Lts as lts
 use Rattle.gutter.proofs.lay.lay_lanes.Reads as lay-lanes-reads
 
 known : (s : tie.Start) → Slices (s .pre .0) (s .args .records .now) (s .args .counts)
-known s = slices (s .pre .0) (s .args .records .now) (s .args .counts) (s .pre .2 .sections) (s .pre .2 .counted) (s .pre .2 .few)
+known s = slices (s .pre .0) (s .args .records .now) (s .args .counts) (s .pre .2 .sections) (s .pre .2 .counted) (s .pre .2 .ready .accepted)
 
 add-chips : tie.Need-add-chips
 add-chips c = let k = known (c .before) in omega (arith, k .few, k .below)
@@ -82,7 +82,7 @@ returns : tie.Need-returns
 returns c =
     let s = c .before .before .before .before .before .before .before .before .before .before .before .before .before .before .before .before .before .before .before .before .before in
     λ b ps rd.
-    let k = slices b (s .args .records .now) (s .args .counts) (rd .sections) (rd .counted) (rd .few) in
+    let k = slices b (s .args .records .now) (s .args .counts) (rd .sections) (rd .counted) (rd .ready .accepted) in
     c .before .before .before .before .before .before .lay-lanes .ensures b ps (rw (k .pages, k .nodes, k .wires) (rd .ready))
 
 pub lay-rows-spec : {M : Type 1} → statement M

@@ -6,7 +6,7 @@ use Rattle.board.specs.Planning.{Planning, planning}
 use Rattle.plan.specs.TextPlan.{fitsLent}
 use Rattle.plan.proofs.Calling.{pages-ready}
 use Rattle.plan.proofs.Planned.{planned-counts}
-use Rattle.plan.proofs.Reading.{lanes-from}
+use Rattle.board.proofs.Planning.{lanes-from}
 use Rattle.sheet.specs.declared.Counts.{Counts}
 use Rattle.gutter.proofs.Suppressing.{BusTold, bus-told, bus-refusal}
 use Rattle.router.proofs.Routing.{corners-ready, lanes-told, plan-told, plan-refused}

@@ -4,14 +4,14 @@ use mathlib.Core.Path.{refl, sym, ap, _∙_}
 use mathlib.Core.List.{List}
 use lib.ListN.{length}
 use borrow.Author.Needs.{needs}
-use Rattle.plan.proofs.Fine.{Slices, slices}
+use Rattle.plan.proofs.Slices.{Slices, slices}
 use Rattle.routes.specs.Corners.{turnable}
 use Rattle.corners.specs.Turning.{hasRoom}
 use Rattle.router.proofs.turn.rows_have_room.Statement.{statement}
 use Rattle.router.proofs.turn.rows_have_room.Tie as tie
 
 known : (s : tie.Start) → Slices (s .pre .0 .0) (s .args .records .now) (s .args .counts)
-known s = let r = s .pre .0 .1 in slices (s .pre .0 .0) (s .args .records .now) (s .args .counts) (r .facts .sections) (r .counted) (r .few)
+known s = let r = s .pre .0 .1 in slices (s .pre .0 .0) (s .args .records .now) (s .args .counts) (r .facts .sections) (r .counted) (r .accepted)
 
 add-chips : tie.Need-add-chips
 add-chips c = let k = known (c .before) in omega (arith, k .few, k .below)
@@ -58,13 +58,13 @@ has-room-to-turn-requires c κs =
     let k = known s in
     let r = s .pre .0 .1 in
     let q = s .pre .1 in
-    rw (k .wires) (r .few .5, r .factsLong, q .0, q .1, q .2)
+    rw (k .wires) (r .accepted .fewWires, r .factsLong, q .0, q .1, q .2)
 
 returns : tie.Need-returns
 returns c =
     let a = c .before .before .before .before .before .before .before .before .args in
     λ b bus rd mutes.
-    let k = slices b (a .records .now) (a .counts) (rd .facts .sections) (rd .counted) (rd .few) in
+    let k = slices b (a .records .now) (a .counts) (rd .facts .sections) (rd .counted) (rd .accepted) in
     c .has-room-to-turn .ensures b bus (b .pages) (rd .nodeFacts) (record { pagesAre = refl; nodesAre = sym (k .nodes); wiresAre = sym (k .wires); nodesKnown = rd .facts .nodes-known; wiresKnown = rd .facts .wires-known }) mutes
     ∙ ap (λ (l : List (List ℕ)). hasRoom (length l) (a .n) (a .k) (a .u) (turnable b bus)) (k .wires)
 

@@ -4,14 +4,14 @@ use Prim.Native.Nat.{ℕ}
 use lib.ListN.{length}
 use lib.Seq.{length-take-le}
 use borrow.Author.Needs.{needs}
-use Rattle.plan.proofs.Fine.{Slices, slices}
+use Rattle.plan.proofs.Slices.{Slices, slices}
 use Rattle.corners.specs.Handed.{busIn}
 use Rattle.corners.specs.Turning.{TurnedAs, TurnedFrom}
 use Rattle.router.proofs.turn.turn_rows.Statement.{statement}
 use Rattle.router.proofs.turn.turn_rows.Tie as tie
 
 known : (s : tie.Start) → Slices (s .pre .0) (s .args .records .now) (s .args .counts)
-known s = slices (s .pre .0) (s .args .records .now) (s .args .counts) (s .pre .1 .sections) (s .pre .1 .counted) (s .pre .1 .few)
+known s = slices (s .pre .0) (s .args .records .now) (s .args .counts) (s .pre .1 .sections) (s .pre .1 .counted) (s .pre .1 .accepted)
 
 add-chips : tie.Need-add-chips
 add-chips c = let k = known (c .before) in omega (arith, k .few, k .below)
@@ -76,11 +76,11 @@ returns c =
     let a = s .args in
     let e = c .before .before .before .turn-corners in (
       λ b rd.
-          let k = slices b (a .records .now) (a .counts) (rd .sections) (rd .counted) (rd .few) in
+          let k = slices b (a .records .now) (a .counts) (rd .sections) (rd .counted) (rd .accepted) in
           subst (λ (W : ℕ). TurnedAs b (busIn (a .rerouters .now) (a .n) (a .bus-wires .now) (a .k) (a .ports .now) (a .u)) W (a .rerouters .now) (a .bus-wires .now) (a .n) (a .k) (a .u) (e .last .1 .1 .1 .1 .1 .0) (e .last .1 .1 .1 .1 .1 .1 .1 .0) (e .result)) (ap length (k .wires))
           (e .ensures .0 b (record { pagesAre = sym (k .pages); nodesAre = sym (k .nodes); wiresAre = sym (k .wires); nodesKnown = rd .nodes-known; wiresKnown = rd .wires-known })),
       λ b bus old oldWires rd mutes h.
-          let k = slices b (a .records .now) (a .counts) (rd .sections) (rd .counted) (rd .few) in
+          let k = slices b (a .records .now) (a .counts) (rd .sections) (rd .counted) (rd .accepted) in
           subst (λ (W : ℕ). TurnedFrom b bus old oldWires W (a .n) (a .k) (a .u) (e .last .1 .1 .1 .1 .1 .0) (e .last .1 .1 .1 .1 .1 .1 .1 .0) (e .result)) (ap length (k .wires))
           (e .ensures .1 b bus old oldWires (record { pagesAre = sym (k .pages); nodesAre = sym (k .nodes); wiresAre = sym (k .wires); nodesKnown = rd .nodes-known; wiresKnown = rd .wires-known }) mutes h),
     )

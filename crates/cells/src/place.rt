@@ -1,0 +1,27 @@
+// A rerouter put on the bus and booked: what the emission and the corner pass have in common.
+use crate::cells::book_brick;
+use routes::bus::Brick;
+use routes::bus::BusCount;
+use routes::bus::Feed;
+use routes::bus::Placed;
+use routes::bus::push_bus_node;
+ghost use Rattle.cells.specs.Placing.{OnePlace, PlacedOn};
+
+// A brick placed: its row, its one bus wire, and its place among the rerouters' chains.
+pub fn place(
+    rerouters: &mut [[u32; 10]],
+    bus_wires: &mut [[u32; 6]],
+    nexts: &mut [u32],
+    heads: &mut [u32],
+    count: BusCount,
+    feed: Feed,
+    brick: Brick,
+) -> Placed
+    requires { ⌜ OnePlace (now rerouters) (now «bus_wires») (now nexts) (now heads) count feed brick ⌝ }
+    ensures { λ r. ⌜ PlacedOn (now (rerouters .entry)) (now («bus_wires» .entry)) (now (nexts .entry)) (now (heads .entry)) count feed brick (now (rerouters .exit)) (now («bus_wires» .exit)) (now (nexts .exit)) (now (heads .exit)) r ⌝ }
+{
+    let n = count.rerouters;
+    let placed = push_bus_node(rerouters, bus_wires, count, feed, brick);
+    book_brick(rerouters, nexts, heads, n);
+    placed
+}
