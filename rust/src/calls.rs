@@ -9,7 +9,7 @@
 //! falls.
 //!
 //! These declarations are the only ones. Nothing checks them against the
-//! Rattle source (`crates/*/src/*export.rt`, `crates/lanes/src/lib.rt`): keep
+//! Rattle source (`crates/panzhyqur/src/`): keep
 //! them beside it.
 
 /// x, y, z, rotation, role, part, colour, page, lane, row.
