@@ -13,7 +13,7 @@ use Rattle.board.specs.Board.{Board}
 use Rattle.board.specs.Demands.{PageLanes}
 use Rattle.board.specs.Planning.{Planning, refused, lanesFor, planning, pageRow}
 use Rattle.board.specs.Walk.{WithinLibrary, countsIn}
-use Rattle.board.proofs.Lists.{never}
+use Rattle.base.proofs.Lists.{never}
 use Rattle.plan.specs.declared.Lent.{Lent}
 use Rattle.plan.specs.TextPlan.{fitsLent, LINE_MOST}
 use Rattle.plan.proofs.Fitting.{fits-all}

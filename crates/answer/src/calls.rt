@@ -2,6 +2,12 @@
 use crate::Answer;
 use crate::answer_within;
 use crate::tell_refusal;
+use base::rows::BusWireRow;
+use base::rows::PageRow;
+use base::rows::PortRow;
+use base::rows::Record;
+use base::rows::RerouterRow;
+use base::rows::WorkRow;
 use sheet::library_most;
 use sheet::program_most;
 ghost use mathlib.Core.List.{[], _∷_};
@@ -20,20 +26,20 @@ pub const PLAN_MOST: usize = 87_168;
 pub fn answer(
     text: &[u8],
     out: &mut [u8],
-    rerouters: &mut [[u32; 10]],
-    bus_wires: &mut [[u32; 6]],
-    ports: &mut [[u32; 2]],
-    answers: &mut [[u32; 2]],
-    records: &mut [[u32; 16]],
-    node_facts: &mut [[u32; 8]],
-    wire_facts: &mut [[u32; 8]],
-    taps: &mut [[u32; 8]],
-    groups: &mut [[u32; 8]],
-    page_facts: &mut [[u32; 8]],
-    demands: &mut [[u32; 8]],
-    keys: &mut [[u32; 8]],
-    spare: &mut [[u32; 8]],
-    marks: &mut [[u32; 8]],
+    rerouters: &mut [RerouterRow],
+    bus_wires: &mut [BusWireRow],
+    ports: &mut [PortRow],
+    answers: &mut [PageRow],
+    records: &mut [Record],
+    node_facts: &mut [WorkRow],
+    wire_facts: &mut [WorkRow],
+    taps: &mut [WorkRow],
+    groups: &mut [WorkRow],
+    page_facts: &mut [WorkRow],
+    demands: &mut [WorkRow],
+    keys: &mut [WorkRow],
+    spare: &mut [WorkRow],
+    marks: &mut [WorkRow],
 ) -> Answer
     ensures { λ r. ⌜ Answered (answerCall libraryMost (now (text .entry)) (answerLent (length (now (rerouters .entry))) (length (now («bus_wires» .entry))) (length (now (ports .entry))) (length (now (answers .entry))) (length (now (out .entry))) (length (now (marks .entry)) / 2 ∷ length (now (records .entry)) ∷ length (now («node_facts» .entry)) ∷ length (now («wire_facts» .entry)) ∷ length (now (taps .entry)) ∷ length (now (groups .entry)) ∷ length (now («page_facts» .entry)) ∷ length (now (demands .entry)) ∷ length (now (keys .entry)) ∷ length (now (spare .entry)) ∷ [])))
         (now (out .entry)) (now (rerouters .entry)) (now («bus_wires» .entry)) (now (ports .entry)) (now (answers .entry)) (now (out .exit)) (now (rerouters .exit)) (now («bus_wires» .exit)) (now (ports .exit)) (now (answers .exit)) r ⌝ }
@@ -63,20 +69,20 @@ pub fn answer(
 pub fn answer_for_program(
     text: &[u8],
     out: &mut [u8],
-    rerouters: &mut [[u32; 10]],
-    bus_wires: &mut [[u32; 6]],
-    ports: &mut [[u32; 2]],
-    answers: &mut [[u32; 2]],
-    records: &mut [[u32; 16]],
-    node_facts: &mut [[u32; 8]],
-    wire_facts: &mut [[u32; 8]],
-    taps: &mut [[u32; 8]],
-    groups: &mut [[u32; 8]],
-    page_facts: &mut [[u32; 8]],
-    demands: &mut [[u32; 8]],
-    keys: &mut [[u32; 8]],
-    spare: &mut [[u32; 8]],
-    marks: &mut [[u32; 8]],
+    rerouters: &mut [RerouterRow],
+    bus_wires: &mut [BusWireRow],
+    ports: &mut [PortRow],
+    answers: &mut [PageRow],
+    records: &mut [Record],
+    node_facts: &mut [WorkRow],
+    wire_facts: &mut [WorkRow],
+    taps: &mut [WorkRow],
+    groups: &mut [WorkRow],
+    page_facts: &mut [WorkRow],
+    demands: &mut [WorkRow],
+    keys: &mut [WorkRow],
+    spare: &mut [WorkRow],
+    marks: &mut [WorkRow],
 ) -> Answer
     ensures { λ r. ⌜ Answered (programCall (now (text .entry)) (answerLent (length (now (rerouters .entry))) (length (now («bus_wires» .entry))) (length (now (ports .entry))) (length (now (answers .entry))) (length (now (out .entry))) (length (now (marks .entry)) / 2 ∷ length (now (records .entry)) ∷ length (now («node_facts» .entry)) ∷ length (now («wire_facts» .entry)) ∷ length (now (taps .entry)) ∷ length (now (groups .entry)) ∷ length (now («page_facts» .entry)) ∷ length (now (demands .entry)) ∷ length (now (keys .entry)) ∷ length (now (spare .entry)) ∷ [])))
         (now (out .entry)) (now (rerouters .entry)) (now («bus_wires» .entry)) (now (ports .entry)) (now (answers .entry)) (now (out .exit)) (now (rerouters .exit)) (now («bus_wires» .exit)) (now (ports .exit)) (now (answers .exit)) r ⌝ }

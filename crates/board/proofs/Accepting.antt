@@ -13,13 +13,13 @@ use Rattle.sheet.specs.Table.{MISSING, ID_MOST, PORT_MOST, HALF_MOST, PAGE_MOST
 use Rattle.sheet.specs.Reading
 use Rattle.sheet.specs.Reading.{Reading, rows, reading, rowsFrom}
 use Rattle.sheet.proofs.Accepted.{COORDINATE_LOW, MayBe, NodeRow, PageRow, WireRow, accepted}
-use Rattle.board.specs.Lists.{Found, none, at, orElse, oldest}
+use Rattle.base.specs.Lists.{Found, none, at, orElse, oldest}
 use Rattle.board.specs.Board.{Board, boardOf, field, given, hasRow, pageOf, placed}
 use Rattle.board.specs.Refusals
 use Rattle.board.specs.Refusals.{Judged, board, judged, judgedBoard, idTwice, notThere, pageMissing, unplaced, rowUnplaced, nodeLine, firstLine}
 use Rattle.board.specs.Walk.{WithinLibrary}
 use Rattle.board.specs.Accepted.{COORDINATE_HIGH, Y_LOW, Y_HIGH, Accepted, AcceptedNodes}
-use Rattle.board.proofs.Lists.{never}
+use Rattle.base.proofs.Lists.{never}
 use Rattle.board.proofs.Sections.{Sections, sections}
 
 -- A test that finds nothing fails everywhere.

@@ -5,7 +5,7 @@ use mathlib.Core.Bool.{Bool, true, false}
 use mathlib.Core.List.{List, []}
 use native.Mathlib.Omega.{arith}
 use lib.Dec.{eqb}
-use Rattle.board.specs.Lists.{Found, none, at, newest}
+use Rattle.base.specs.Lists.{Found, none, at, newest}
 use Rattle.board.specs.Board.{Board, given, chipId, parentOf}
 use Rattle.board.specs.Refusals.{chipAt}
 use Rattle.board.specs.Groups.{topChip}

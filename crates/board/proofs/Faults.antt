@@ -14,7 +14,7 @@ use Rattle.sheet.specs.Reading.{rowsFrom}
 use Rattle.sheet.specs.Answer.{rowAt}
 use Rattle.sheet.proofs.Accepted.{zeros-at}
 use Rattle.sheet.proofs.Along.{row-at-row, row-at-next}
-use Rattle.board.specs.Lists.{Found, none, at, found, orElse, newest, oldest}
+use Rattle.base.specs.Lists.{Found, none, at, found, orElse, newest, oldest}
 use Rattle.board.specs.Board.{Board, field, given, kindChip, idOf, kindOf, chipId, parentOf, innerId, innerChip}
 use Rattle.board.specs.Refusals.{firstLine, nodeLine, chipLine, innerLine, bodyOf, chipAt, innerOf, bodyChip, nodeTwice, chipTwice, innerTwice, pageMissing, parentMissing, chipMissing, rowUnplaced, idTwice, notThere, unplaced, Judged, turnedAway, board, judgedBoard}
 use Rattle.board.specs.Index.{Index, BUCKETS, link, entryOf}

@@ -12,7 +12,7 @@ use Rattle.sheet.specs.Answer.{countsOf, checkedOf}
 use Rattle.sheet.proofs.Accepted.{Accepted, accepted, accepted-more}
 use Rattle.sheet.proofs.Walks.{walk-start}
 use Rattle.board.specs.declared.refusals.Fault.the-variants.{Refused, Fine}
-use Rattle.board.specs.Lists.{Found, none, at}
+use Rattle.base.specs.Lists.{Found, none, at}
 use Rattle.board.specs.Board.{Board, boardOf}
 use Rattle.board.specs.Refusals.{Judged, turnedAway, board, idTwice, notThere, unplaced, judgedBoard, judged}
 use Rattle.board.specs.Walk.{sheetBoard, countsIn, faultOf, WithinLibrary, Ready}

@@ -11,12 +11,12 @@ use lib.ListN.{length, getD, length-append, length-map, List·getD-eq-default}
 use Rattle.lanes.specs.Apart.{Rising}
 use Rattle.lanes.proofs.Promise.{lanes-apart}
 use Rattle.lanes.specs.Lanes.{Packed, full, laned, laneMost}
-use Rattle.board.specs.Lists.{Found, none, at, least, greatest}
+use Rattle.base.specs.Lists.{Found, none, at, least, greatest}
 use Rattle.board.specs.Board.{Board, hasGutter}
 use Rattle.board.specs.Rows.{REROUTER_SIZE}
 use Rattle.board.specs.Groups.{Tap, tapsOf, tapsIn}
 use Rattle.board.specs.Demands.{PageLanes, noLanes, laneIn, laneOf, laneY, BUS_BAND_GUTTER, LANE_PITCH, Planned, crowded, planned, planLanes, planUpto, packedOn, groupsOn, demandOf, firstRow, lastRow}
-use Rattle.board.proofs.Lists.{byTest, never}
+use Rattle.base.proofs.Lists.{byTest, never}
 
 -- A lane's height, without differences.
 height : (low n u : ℕ) → BUS_BAND_GUTTER + LANE_PITCH * laneMost ≤ low → n ≤ laneMost → u < n

@@ -3,11 +3,8 @@ pub mod Chips
 pub mod Sections
 pub mod Faults
 pub mod Judging
-pub mod Members
-pub mod Lists
 pub mod Taps
 pub mod LanesFit
-pub mod Views
 pub mod Accepting
 pub mod Planning
 pub mod Reach

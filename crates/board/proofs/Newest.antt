@@ -8,7 +8,7 @@ use lib.Dec.{eqb}
 use lib.ListN.{length, getD, set, length-set}
 use lib.Seq.{getD-set-same, getD-set-other}
 use borrow.Author.Tests.{eq-eqb, ne-eqb, eqb-true, eqb-false}
-use Rattle.board.specs.Lists.{Found, none, at, newest}
+use Rattle.base.specs.Lists.{Found, none, at, newest}
 use Rattle.board.specs.Index.{Chained, link, Index, BUCKETS, bucketOf}
 
 pub pick-true {ℓ} : {A : Type ℓ} (t : Bool) (x y : A) → t ≡ true → elim t [ true ↦ x | false ↦ y ] ≡ x

@@ -14,7 +14,7 @@ use Rattle.sheet.specs.Table.{SECTIONS, PAGES, NODES, CHIPS, INNER, EXECS, WIRE
 use Rattle.sheet.specs.Reading.{sectionIn, counted, listed}
 use Rattle.sheet.specs.Answer.{countedAll, countsOf}
 use Rattle.sheet.proofs.Accepted.{Accepted, Each, each-at, zeros-at, Rising, RowHeld, PageRow, NodeRow, ChipRow, InnerRow, ExecRow, WireRow, page-row, node-row, chip-row, inner-row, exec-row, wire-row}
-use Rattle.board.specs.Lists.{keep}
+use Rattle.base.specs.Lists.{keep}
 use Rattle.board.specs.Board.{Board, boardOf, section}
 use Rattle.board.proofs.Newest.{pick-true, pick-false}
 

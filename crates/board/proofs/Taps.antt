@@ -8,10 +8,10 @@ use mathlib.Core.List.{List, [], _∷_, List·Memᴰ, List·Memᴰ·head, List·
 use lib.Dec.{eqb}
 use lib.ListN.{length}
 use borrow.Author.Tests.{eqb-true, ne-eqb}
-use Rattle.board.specs.Lists.{at, keep, fold, upto}
+use Rattle.base.specs.Lists.{at, keep, fold, upto}
 use Rattle.board.specs.Board.{Board, sourceNode, sourcePort, targetNode, pageOf}
 use Rattle.board.specs.Groups.{Tap, groupFor, tapFor, addWire, tapsOf, wireOpen, anchorsOpen, anchorOf, targetAnchor}
-use Rattle.board.proofs.Lists.{same-three, byTest, byFound, none-at-all, keep-yes, keep-no, count-none}
+use Rattle.base.proofs.Lists.{same-three, byTest, byFound, none-at-all, keep-yes, keep-no, count-none}
 
 -- A group's source and page are those of each of its wires.
 pub record OfGroup (b : Board) (p w g : ℕ) : Type 0 where

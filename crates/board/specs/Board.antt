@@ -7,7 +7,7 @@ use lib.Dec.{eqb}
 use lib.ListN.{length, getD}
 use Rattle.sheet.specs.Table.{MISSING, PAGES, NODES, CHIPS, INNER, EXECS, WIRES}
 use Rattle.sheet.specs.Reading.{sectionIn}
-use Rattle.board.specs.Lists.{keep}
+use Rattle.base.specs.Lists.{keep}
 
 pub record Board : Type 0 where
   pub pages : List (List ℕ)

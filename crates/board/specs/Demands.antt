@@ -5,7 +5,7 @@ use mathlib.Core.List.{List, [], _∷_, _++_, map, reverse}
 use lib.Dec.{eqb, ltb}
 use lib.ListN.{length, getD}
 use Rattle.lanes.specs.Lanes.{Demand, Packed, full, laned, packed}
-use Rattle.board.specs.Lists.{Found, none, at, keep, least, greatest, upto, orElse}
+use Rattle.base.specs.Lists.{Found, none, at, keep, least, greatest, upto, orElse}
 use Rattle.board.specs.Board.{Board, hasGutter, minYOf}
 use Rattle.board.specs.Groups.{Tap, tapsOf, tapsIn, crosses, isBusWorthy, sourceAnchor}
 

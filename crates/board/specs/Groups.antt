@@ -4,7 +4,7 @@ use mathlib.Core.Bool.{Bool, true, false, not, _&&_, _||_}
 use mathlib.Core.List.{List, [], _∷_}
 use lib.Dec.{eqb}
 use lib.ListN.{length}
-use Rattle.board.specs.Lists.{Found, none, at, found, any, keep, fold, upto, newest}
+use Rattle.base.specs.Lists.{Found, none, at, found, any, keep, fold, upto, newest}
 use Rattle.board.specs.Board
 use Rattle.board.specs.Board.{Board, given, kindChip, kindInput, kindCoerce, classStorage, classInline, portLayout, idOf, kindOf, classOf, pinOf, xOf, yOf, pageOf, hasRow, chipId, parentOf, innerChip, innerClass, execNode, execPort, sourceNode, sourcePort, targetNode, targetPort}
 use Rattle.board.specs.Refusals.{bodyOf, innerOf}

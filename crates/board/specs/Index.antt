@@ -5,7 +5,7 @@ use mathlib.Core.Bool.{Bool}
 use mathlib.Core.List.{List}
 use lib.Dec.{eqb}
 use lib.ListN.{length, getD}
-use Rattle.board.specs.Lists.{Found, none, at, newest}
+use Rattle.base.specs.Lists.{Found, none, at, newest}
 use Rattle.board.specs.declared.ids.Found.{Found as FoundId}
 use Rattle.board.specs.declared.ids.Found.the-variants.{At, Nothing}
 

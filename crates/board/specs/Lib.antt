@@ -1,4 +1,3 @@
-pub mod Lists
 pub mod Board
 pub mod Refusals
 pub mod Rows

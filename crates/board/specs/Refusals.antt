@@ -6,7 +6,7 @@ use lib.Dec.{eqb, ltb, leb}
 use lib.ListN.{length}
 use Rattle.sheet.specs.declared.Counts.{Counts}
 use Rattle.sheet.specs.Reading.{Reading, refused, rows, reading}
-use Rattle.board.specs.Lists.{Found, none, at, found, orElse, newest, oldest}
+use Rattle.base.specs.Lists.{Found, none, at, found, orElse, newest, oldest}
 use Rattle.board.specs.Board.{Board, boardOf, given, kindChip, idOf, kindOf, pageOf, hasRow, placed, chipId, parentOf, innerId, innerChip}
 
 module _ (b : Board) where

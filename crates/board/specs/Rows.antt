@@ -4,7 +4,7 @@ use mathlib.Core.Bool.{Bool, true, false, not, _&&_, _||_}
 use mathlib.Core.List.{List, [], _∷_, map}
 use lib.Dec.{eqb, ltb, leb}
 use lib.ListN.{length}
-use Rattle.board.specs.Lists.{upto, keep, fold, any, greatest}
+use Rattle.base.specs.Lists.{upto, keep, fold, any, greatest}
 use Rattle.board.specs.Board.{Board, pageOf, downOf, hasRow, halfXOf, halfYOf, rotationOf, xOf, yOf}
 
 -- C2: a rerouter's extent in x and in y, `2 * REROUTER_HALF`.

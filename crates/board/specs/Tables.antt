@@ -5,16 +5,11 @@ use mathlib.Core.Bool.{Bool, true, false}
 use mathlib.Core.List.{List, [], _∷_, map, List·Memᴰ}
 use lib.ListN.{length, getD}
 use Rattle.sheet.specs.Table.{MISSING}
-use Rattle.board.specs.Lists.{Found, none, at, least, greatest}
+use Rattle.base.specs.Lists.{Found, none, at, least, greatest}
 use Rattle.board.specs.Board.{Board, field, hasRow, pageOf, sourceNode, targetNode}
 use Rattle.board.specs.Rows.{rowOf, rowTop}
 use Rattle.board.specs.Groups.{Tap, anchorOf, wireOpen, anchorsOpen, tapsOf, tapsIn, crosses}
 use Rattle.board.specs.Demands.{PageLanes, planned, noLanes, laneOf}
-
--- The first n rows of a table, each read as what it stands for, the newest first.
-abbrev pub view {ℓ} : {A : Type ℓ} → (List ℕ → A) → List (List ℕ) → ℕ → List A
-view read s zero = []
-view read s (suc n) = read (getD s n []) ∷ view read s n
 
 -- An index that may not be there, as one number.
 abbrev pub held : Found → ℕ

@@ -15,7 +15,7 @@ use Rattle.sheet.proofs.Accepted.{Accepted}
 use Rattle.board.specs.declared.refusals.Walk.{Walk}
 use Rattle.board.specs.declared.refusals.Fault.{Fault}
 use Rattle.board.specs.declared.refusals.Fault.the-variants.{Refused, Fine}
-use Rattle.board.specs.Lists.{Found, none, at, found}
+use Rattle.base.specs.Lists.{Found, none, at, found}
 use Rattle.board.specs.Board.{Board, boardOf, kindChip, idOf, kindOf, chipId, innerId}
 use Rattle.board.specs.Refusals.{firstLine, nodeTwice, chipTwice, innerTwice, pageMissing, parentMissing, chipMissing, rowUnplaced, Judged, turnedAway, board, judgedBoard, judged}
 use Rattle.board.specs.Index.{Index, entryOf}

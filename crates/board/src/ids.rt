@@ -1,6 +1,8 @@
 // Which record an id names, and a chip's top chip. Ids are chained by bucket, so that no board makes a lookup slow: at most ID_MOST / BUCKETS,
 // 244, further ids share a bucket.
-use sheet::table::MISSING;
+use base::ids::NodeId;
+use base::numbers::MISSING;
+use base::rows::Record;
 ghost use mathlib.Core.Path.{_≡_};
 ghost use mathlib.Core.List.{List};
 ghost use Prim.Native.Nat.{ℕ, _≤_, _<_};
@@ -15,9 +17,6 @@ pub enum Found {
     At(usize),
     Nothing,
 }
-
-// The id of a node or a chip.
-pub struct NodeId(pub u32);
 
 const BUCKETS: u32 = 4096;
 
@@ -59,7 +58,7 @@ pub fn add_id(ids: &mut [u32], nexts: &mut [u32], heads: &mut [u32], n: usize, i
 }
 
 // The newest of the first `n` chip records that has the id.
-fn chip_below(chips: &[[u32; 16]], n: usize, id: u32) -> Found
+fn chip_below(chips: &[Record], n: usize, id: u32) -> Found
     requires { ⌜ n ≤ length (now chips) ⌝ }
     ensures { λ r. ⌜ ((b : Board) → b .chips ≡ now (chips .entry) → r ≡ foundOf (chipAt b id n)) ⌝ }
 {
@@ -74,7 +73,7 @@ fn chip_below(chips: &[[u32; 16]], n: usize, id: u32) -> Found
 }
 
 // G1: a chip's top chip. A parent stands before its chips, so each search goes on below the record found.
-pub fn top_chip(chips: &[[u32; 16]], n: usize, id: NodeId) -> NodeId
+pub fn top_chip(chips: &[Record], n: usize, id: NodeId) -> NodeId
     requires { ⌜ n ≤ length (now chips) ⌝ }
     ensures { λ r. ⌜ ((b : Board) → b .chips ≡ now (chips .entry) → r .0 ≡ topChip b n (id .0)) ⌝ }
 {

@@ -1,13 +1,14 @@
 // Refusals 4 to 6, found line by line from the text, with every id entered into an index on the way.
 use crate::ids::Found;
-use crate::ids::NodeId;
 use crate::ids::add_id;
 use crate::ids::find_id;
+use base::ids::NodeId;
+use base::numbers::KIND_CHIP;
+use base::numbers::MISSING;
 use sheet::Checked;
 use sheet::Counts;
 use sheet::check_sheet;
 use sheet::row_at;
-use sheet::table::MISSING;
 ghost use mathlib.Core.Path.{_≡_};
 ghost use mathlib.Core.Bool.{true, false, not, _&&_};
 ghost use Prim.Native.Nat.{ℕ, _≤_, _<_, _+_};
@@ -15,7 +16,7 @@ ghost use lib.Dec.{eqb, leb};
 ghost use lib.ListN.{length, getD};
 ghost use Rattle.sheet.specs.Table.{libraryMost};
 ghost use Rattle.sheet.specs.Reading.{rowsFrom};
-ghost use Rattle.board.specs.Lists.{found};
+ghost use Rattle.base.specs.Lists.{found};
 ghost use Rattle.board.specs.Board.{given, idOf};
 ghost use Rattle.board.specs.Refusals.{judgedBoard, judged};
 ghost use Rattle.board.specs.Index.{Index, entryOf};
@@ -35,8 +36,6 @@ pub enum Fault {
     Refused { number: usize, line: usize },
     Fine,
 }
-
-const KIND_CHIP: u32 = 2;
 
 fn has_id(ids: &[u32], nexts: &[u32], heads: &[u32], n: usize, id: NodeId) -> bool
     requires { ⌜ Index (now ids) (now nexts) (now heads) n ⌝ }

@@ -8,11 +8,12 @@ use lib.Dec.{eqb, ltb}
 use lib.ListN.{length, getD, set}
 use borrow.Author.Tests.{eq-eqb, ne-eqb, eqb-true, eqb-false, ltb-true}
 use Rattle.sheet.specs.Table.{MISSING}
-use Rattle.board.specs.Lists.{Found, none, at, found, any, keep, newest, upto}
+use Rattle.base.specs.Lists.{Found, none, at, found, any, keep, newest, upto}
 use Rattle.board.specs.Board.{Board, field, hasRow, pageOf}
 use Rattle.board.specs.Rows
 use Rattle.board.specs.Rows.{cellsOverlap, rerouterCell, brickCell, bricksIn, nodesOn, rowOf}
-use Rattle.board.specs.Tables.{view, NodeFacts}
+use Rattle.base.specs.Views.{view}
+use Rattle.board.specs.Tables.{NodeFacts}
 use Rattle.board.proofs.Newest.{pick-true, pick-false, newest-same}
 use Rattle.routes.specs.Stops.{near}
 use Rattle.routes.specs.Levels.{Stop, claimNear, unclaimed}

@@ -8,7 +8,7 @@ use lib.Dec.{eqb}
 use lib.ListN.{length, getD, set}
 use lib.Seq.{getD-set-same, getD-set-other}
 use borrow.Author.Tests.{eq-eqb, ne-eqb, eqb-true, eqb-false}
-use Rattle.board.specs.Lists.{Found, none, at, found, newest}
+use Rattle.base.specs.Lists.{Found, none, at, found, newest}
 use Rattle.board.specs.Index.{Chained, link}
 use Rattle.board.proofs.Newest.{Following, follow-found, follow-end, chain-start, chain-next, chained-more, chained-same, link-below, Implies}
 use Rattle.cells.specs.Chains.{BUCKETS, Empty, Walkable, inBucket}

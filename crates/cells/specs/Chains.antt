@@ -6,7 +6,7 @@ use mathlib.Core.List.{List, [], _∷_}
 use lib.Dec.{eqb}
 use lib.ListN.{length, getD}
 use Rattle.sheet.specs.Table.{MISSING}
-use Rattle.board.specs.Lists.{found, newest}
+use Rattle.base.specs.Lists.{found, newest}
 use Rattle.board.specs.Board.{Board, field}
 use Rattle.board.specs.Index.{Chained}
 use Rattle.board.specs.Rows

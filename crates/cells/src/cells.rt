@@ -1,6 +1,12 @@
 // Cells and claims: whether a rerouter's cell is clear of a row's cells, and whether a span of a lane's column is unclaimed. The board's bricks, the
 // stops and the rerouters are each chained by bucket, so that no crowded row or tall lane makes a question slow.
-use routes::bus::MISSING;
+use base::numbers::MISSING;
+use base::numbers::ORIGIN;
+use base::numbers::PART_HEAD;
+use base::numbers::PART_LINK;
+use base::rows::Record;
+use base::rows::RerouterRow;
+use base::rows::WorkRow;
 ghost use mathlib.Core.Path.{_≡_};
 ghost use mathlib.Core.Bool.{true, false, _&&_, _||_};
 ghost use mathlib.Core.List.{List, []};
@@ -11,7 +17,8 @@ ghost use Rattle.board.specs.Index.{Chained};
 ghost use Rattle.board.specs.Rows.{cellsOverlap, rerouterCell, brickCell};
 ghost use Rattle.routes.specs.Stops.{near as nearTo};
 ghost use Rattle.routes.specs.Levels.{claimNear};
-ghost use Rattle.board.specs.Tables.{view, NodeFacts};
+ghost use Rattle.base.specs.Views.{view};
+ghost use Rattle.board.specs.Tables.{NodeFacts};
 ghost use Rattle.routes.specs.Bus.{Bus, clearOfRow};
 ghost use Rattle.routes.specs.Rerouters.{columnFree};
 ghost use Rattle.routes.specs.Tables.{stopIn};
@@ -32,13 +39,7 @@ pub enum Wanted {
     Beside { page: u32, row: u32, x: u32, y: u32 },
 }
 
-const ORIGIN: u32 = 2_000_000;
-
 const BUCKETS: u64 = 8192;
-
-const PART_HEAD: u32 = 2;
-
-const PART_LINK: u32 = 3;
 
 pub fn cells_overlap(a: Cell, b: Cell) -> bool
     ensures { λ r. ⌜ r ≡ cellsOverlap (cellOf a) (cellOf b) ⌝ }
@@ -98,7 +99,7 @@ pub fn chain(nexts: &mut [u32], heads: &mut [u32], k: usize, n: usize)
     heads[k] = (n + 1) as u32;
 }
 
-fn brick_bucket(rerouters: &[[u32; 10]], i: usize) -> usize
+fn brick_bucket(rerouters: &[RerouterRow], i: usize) -> usize
     requires { ⌜ i < length (now rerouters) ⌝ }
     ensures { λ r. ⌜ r ≡ brickBucket (now (rerouters .entry)) i ⌝ }
 {
@@ -112,7 +113,7 @@ fn brick_bucket(rerouters: &[[u32; 10]], i: usize) -> usize
 }
 
 // Whether a rerouter is what is asked for.
-fn brick_meets(rerouters: &[[u32; 10]], i: usize, wanted: Wanted) -> bool
+fn brick_meets(rerouters: &[RerouterRow], i: usize, wanted: Wanted) -> bool
     requires { ⌜ i < length (now rerouters) ⌝ }
     ensures { λ r. ⌜ r ≡ brickMeets (now (rerouters .entry)) wanted i ⌝ }
 {
@@ -139,7 +140,7 @@ fn brick_meets(rerouters: &[[u32; 10]], i: usize, wanted: Wanted) -> bool
 
 // Whether one of the first n rerouters, of those in bucket k, is what is asked for.
 fn brick_there(
-    rerouters: &[[u32; 10]],
+    rerouters: &[RerouterRow],
     nexts: &[u32],
     heads: &[u32],
     n: usize,
@@ -163,7 +164,7 @@ fn brick_there(
 
 // The same of the two buckets where what is near c may be.
 fn brick_near(
-    rerouters: &[[u32; 10]],
+    rerouters: &[RerouterRow],
     nexts: &[u32],
     heads: &[u32],
     n: usize,
@@ -197,7 +198,7 @@ fn brick_near(
 }
 
 // Whether a stop's own level claims a span that is near x in the lane's column.
-fn stop_claims(stops: &[[u32; 8]], i: usize, page: u32, lane: u32, x: u32) -> bool
+fn stop_claims(stops: &[WorkRow], i: usize, page: u32, lane: u32, x: u32) -> bool
     requires { ⌜ i < length (now stops) ⌝ }
     ensures { λ r. ⌜ r ≡ stopClaims (now (stops .entry)) page lane x i ⌝ }
 {
@@ -207,7 +208,7 @@ fn stop_claims(stops: &[[u32; 8]], i: usize, page: u32, lane: u32, x: u32) -> bo
 }
 
 fn claim_there(
-    stops: &[[u32; 8]],
+    stops: &[WorkRow],
     nexts: &[u32],
     heads: &[u32],
     n: usize,
@@ -232,7 +233,7 @@ fn claim_there(
 }
 
 fn claim_near(
-    stops: &[[u32; 8]],
+    stops: &[WorkRow],
     nexts: &[u32],
     heads: &[u32],
     n: usize,
@@ -282,7 +283,7 @@ fn cell_of_size(x: u32, y: u32, half_x: u32, half_y: u32) -> Cell
 }
 
 // C3: a brick's cell.
-pub fn brick_cell(nodes: &[[u32; 16]], i: usize) -> Cell
+pub fn brick_cell(nodes: &[Record], i: usize) -> Cell
     requires { ⌜ i < length (now nodes) ⌝ }
     ensures { λ r. ⌜ cellOf r ≡ brickCell (boardWith (now (nodes .entry))) i ⌝ }
 {
@@ -298,8 +299,8 @@ pub fn brick_cell(nodes: &[[u32; 16]], i: usize) -> Cell
 }
 
 fn node_meets(
-    nodes: &[[u32; 16]],
-    facts: &[[u32; 8]],
+    nodes: &[Record],
+    facts: &[WorkRow],
     i: usize,
     page: u32,
     row: u32,
@@ -316,8 +317,8 @@ fn node_meets(
 
 // Whether a brick of the board, of those in bucket k, stands in the row and overlaps a rerouter at x, y.
 fn node_there(
-    nodes: &[[u32; 16]],
-    facts: &[[u32; 8]],
+    nodes: &[Record],
+    facts: &[WorkRow],
     nexts: &[u32],
     heads: &[u32],
     k: usize,
@@ -354,7 +355,7 @@ pub fn empty_heads(heads: &mut [u32])
 }
 
 // The board's bricks, chained by page and row.
-pub fn book_nodes(nodes: &[[u32; 16]], facts: &[[u32; 8]], nexts: &mut [u32], heads: &mut [u32])
+pub fn book_nodes(nodes: &[Record], facts: &[WorkRow], nexts: &mut [u32], heads: &mut [u32])
     requires { ⌜ Empty (now heads) ⌝ }
     requires { ⌜ (length (now nodes) ≤ length (now facts)) × (length (now nodes) ≤ length (now nexts)) × (length (now nodes) < 4294967295) ⌝ }
     ensures { λ _. ⌜ Walkable (nodeBucket (now (nodes .entry)) (now (facts .entry))) (length (now (facts .entry))) (now (nexts .exit)) (now (heads .exit)) (length (now (nodes .entry))) ⌝ }
@@ -368,7 +369,7 @@ pub fn book_nodes(nodes: &[[u32; 16]], facts: &[[u32; 8]], nexts: &mut [u32], he
 }
 
 // The stops, chained by page, lane and level: what their own levels claim.
-pub fn book_claims(stops: &[[u32; 8]], n: usize, nexts: &mut [u32], heads: &mut [u32])
+pub fn book_claims(stops: &[WorkRow], n: usize, nexts: &mut [u32], heads: &mut [u32])
     requires { ⌜ Empty (now heads) ⌝ }
     requires { ⌜ (n ≤ length (now stops)) × (n ≤ length (now nexts)) × (n < 4294967295) ⌝ }
     ensures { λ _. ⌜ Walkable (stopBucket (now (stops .entry))) (length (now (stops .entry))) (now (nexts .exit)) (now (heads .exit)) n ⌝ }
@@ -382,7 +383,7 @@ pub fn book_claims(stops: &[[u32; 8]], n: usize, nexts: &mut [u32], heads: &mut 
 }
 
 // The rerouter just written, chained.
-pub fn book_brick(rerouters: &[[u32; 10]], nexts: &mut [u32], heads: &mut [u32], n: usize)
+pub fn book_brick(rerouters: &[RerouterRow], nexts: &mut [u32], heads: &mut [u32], n: usize)
     requires { ⌜ Walkable (brickBucket (now rerouters)) (length (now rerouters)) (now nexts) (now heads) n ⌝ }
     requires { ⌜ (n < length (now rerouters)) × (n < length (now nexts)) × (n < 4294967295) ⌝ }
     ensures { λ _. ⌜ Walkable (brickBucket (now (rerouters .entry))) (length (now (rerouters .entry))) (now (nexts .exit)) (now (heads .exit)) (suc n) ⌝ }
@@ -393,11 +394,11 @@ pub fn book_brick(rerouters: &[[u32; 10]], nexts: &mut [u32], heads: &mut [u32],
 
 // V6, R13: `claim_column`'s test: no claim on the span, by the stops' own levels or by the heads and links placed so far.
 pub fn column_free(
-    stops: &[[u32; 8]],
+    stops: &[WorkRow],
     claim_nexts: &[u32],
     claim_heads: &[u32],
     s: usize,
-    rerouters: &[[u32; 10]],
+    rerouters: &[RerouterRow],
     nexts: &[u32],
     heads: &[u32],
     n: usize,
@@ -432,11 +433,11 @@ pub fn column_free(
 
 // C6: clear of what is booked on a row: its bricks, and the rerouters placed beside it.
 pub fn row_clear(
-    nodes: &[[u32; 16]],
-    facts: &[[u32; 8]],
+    nodes: &[Record],
+    facts: &[WorkRow],
     node_nexts: &[u32],
     node_heads: &[u32],
-    rerouters: &[[u32; 10]],
+    rerouters: &[RerouterRow],
     nexts: &[u32],
     heads: &[u32],
     n: usize,

@@ -1,5 +1,7 @@
 // A rerouter put on the bus and booked: what the emission and the corner pass have in common.
 use crate::cells::book_brick;
+use base::rows::BusWireRow;
+use base::rows::RerouterRow;
 use routes::bus::Brick;
 use routes::bus::BusCount;
 use routes::bus::Feed;
@@ -9,8 +11,8 @@ ghost use Rattle.cells.specs.Placing.{OnePlace, PlacedOn};
 
 // A brick placed: its row, its one bus wire, and its place among the rerouters' chains.
 pub fn place(
-    rerouters: &mut [[u32; 10]],
-    bus_wires: &mut [[u32; 6]],
+    rerouters: &mut [RerouterRow],
+    bus_wires: &mut [BusWireRow],
     nexts: &mut [u32],
     heads: &mut [u32],
     count: BusCount,

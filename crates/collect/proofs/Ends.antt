@@ -9,7 +9,7 @@ use lib.ListN.{length, getD, replicate, length-replicate, getD-replicate}
 use borrow.Author.Tests.{eq-eqb, ne-eqb, eqb-true}
 use mir.Val.{boolByte}
 use Rattle.sheet.specs.Table.{MISSING}
-use Rattle.board.specs.Lists.{Found, none, at, found, any, upto, newest}
+use Rattle.base.specs.Lists.{Found, none, at, found, any, upto, newest}
 use Rattle.board.specs.Board.{Board, field, idOf, classOf, classInline, innerId, innerChip, innerClass}
 use Rattle.board.specs.Refusals.{bodyOf, innerOf}
 use Rattle.board.specs.Groups.{anchorOf, isBussable, topChip}

@@ -11,8 +11,8 @@ use lib.ListN.{length, getD, set, take, drop, length-set, length-append, length-
 use lib.Seq.{getD-set-same, getD-set-other, getD-take, length-take-le, take-at}
 use borrow.Author.Tests.{eq-eqb, ne-eqb, eqb-true, eqb-false, lt-ltb, le-ltb}
 use Rattle.sheet.specs.Table.{MISSING, HALF_MOST}
-use Rattle.lanes.specs.Sort.{lexLess, sortedRows, sorted}
-use Rattle.lanes.proofs.SortLaws.{clash, lex-order}
+use Rattle.base.specs.Sort.{lexLess, sortedRows, sorted}
+use Rattle.base.proofs.SortLaws.{clash, lex-order}
 use Rattle.collect.specs.declared.rows.Run.{Run}
 use Rattle.board.specs.Board.{Board, field, given, hasRow, pageOf, downOf}
 use Rattle.board.specs.Accepted.{AcceptedNodes}
@@ -21,7 +21,7 @@ use Rattle.board.specs.Rows.{turned, brickCell, bricksIn, nodesOn, downsOn, row
 use Rattle.board.specs.Tables.{nodesAlone, NodeFacts}
 use Rattle.collect.specs.Collecting.{rowKey, END_MOST, Ranked, runAfter}
 use Rattle.board.proofs.Newest.{pick-true, pick-false}
-use Rattle.board.proofs.Members.{mem-at, at-mem, sorted-in, sorted-from, length-sorted, sorted-ascending, ascending-at, lex-alone}
+use Rattle.base.proofs.Members.{mem-at, at-mem, sorted-in, sorted-from, length-sorted, sorted-ascending, ascending-at, lex-alone}
 use Rattle.collect.proofs.RowLaws.{On, row-first, row-next, row-same, top-is}
 
 module _ (b : Board) (i : ℕ) where

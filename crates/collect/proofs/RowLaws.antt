@@ -9,11 +9,11 @@ use mathlib.Core.List.{List, [], _∷_, map, List·Memᴰ as Mem, List·Memᴰ·
 use lib.Dec.{eqb, ltb}
 use lib.ListN.{length, getD}
 use borrow.Author.Tests.{ltb-true, ltb-false, eqb-true, eqb-false, eq-eqb, ne-eqb}
-use Rattle.lanes.proofs.SortLaws.{clash}
-use Rattle.board.specs.Lists.{keep, upto, fold, greatest}
+use Rattle.base.proofs.SortLaws.{clash}
+use Rattle.base.specs.Lists.{keep, upto, fold, greatest}
 use Rattle.board.specs.Board.{Board, hasRow, pageOf, downOf}
 use Rattle.board.specs.Rows.{insertDown, position, nodesOn, downsOn, rowOf, brickCell, bricksIn, rowTop}
-use Rattle.board.proofs.Members.{keep-in, keep-from, map-in, map-from, upto-in, upto-below}
+use Rattle.base.proofs.Members.{keep-in, keep-from, map-in, map-from, upto-in, upto-below}
 
 -- Each element is less than every later one.
 abbrev pub Rising : List ℕ → Type 0

@@ -10,14 +10,15 @@ use lib.ListN.{length, getD, set, replicate, length-set}
 use lib.Seq.{getD-set-same, getD-set-other}
 use borrow.Author.Tests.{eq-eqb, ne-eqb, eqb-true}
 use Rattle.sheet.specs.Table.{MISSING}
-use Rattle.lanes.proofs.SortLaws.{clash}
-use Rattle.board.specs.Lists.{Found, none, at, any, fold, upto, newest}
+use Rattle.base.proofs.SortLaws.{clash}
+use Rattle.base.specs.Lists.{Found, none, at, any, fold, upto, newest}
 use Rattle.board.specs.Board.{Board, field, given, hasRow, pageOf, xOf, yOf, sourceNode, sourcePort, targetNode, targetPort, classOf, kindOf, classInline, classStorage, kindChip, kindInput, kindCoerce}
 use Rattle.board.specs.Refusals.{bodyOf, innerOf}
 use Rattle.board.specs.Rows.{rowOf}
 use Rattle.board.specs.Groups.{Tap, anchorOf, topChip, isBussable, wireOpen, anchorsOpen, crossesAt, isBusWorthy, targetsExec, groupFor, tapFor, addWire, tapsOf}
 use Rattle.board.specs.Index.{Chained}
-use Rattle.board.specs.Tables.{view, held, flag, tapIn, tapRow, tapTarget, NodeFacts, WireFacts, TapTargets}
+use Rattle.base.specs.Views.{view}
+use Rattle.board.specs.Tables.{held, flag, tapIn, tapRow, tapTarget, NodeFacts, WireFacts, TapTargets}
 use Rattle.collect.specs.Collecting.{tapBucket, bucketIn, TAP_BUCKETS, Tapped}
 use Rattle.board.proofs.Newest.{Implies, Following, newest-same, follow-found, follow-end, chained-same, chained-more, chain-start, chain-next, chain-falls}
 use Rattle.collect.proofs.Ends.{found-below, held-there, held-gone, fresh-chains}

@@ -6,10 +6,10 @@ use mathlib.Core.List.{List, [], _∷_}
 use lib.Dec.{eqb}
 use lib.ListN.{length, getD}
 use Rattle.sheet.specs.Table.{MISSING, libraryMost}
-use Rattle.lanes.specs.Sort.{lexLess}
+use Rattle.base.specs.Sort.{lexLess}
 use Rattle.lanes.specs.LaneCall.{rowMost, countMost}
 use Rattle.collect.specs.declared.rows.Run.{Run}
-use Rattle.board.specs.Lists.{Found, none, at}
+use Rattle.base.specs.Lists.{Found, none, at}
 use Rattle.board.specs.Board.{Board, field, hasRow, pageOf, downOf}
 use Rattle.board.specs.Index.{Ids, Chained}
 use Rattle.board.specs.Rows.{brickCell}

@@ -1,7 +1,10 @@
 // `collect_bus_groups`: which wires a lane may carry, and which of them share one. First each wire's ends, then its target, then its tap.
-use crate::rows::MISSING;
+use base::ids::NodeId;
+use base::numbers::KIND_CHIP;
+use base::numbers::MISSING;
+use base::rows::Record;
+use base::rows::WorkRow;
 use board::ids::Found;
-use board::ids::NodeId;
 use board::ids::add_id;
 use board::ids::find_id;
 use board::ids::top_chip;
@@ -12,15 +15,14 @@ ghost use Prim.Native.Nat.{ℕ, _+_, _≤_, _<_};
 ghost use lib.Dec.{eqb};
 ghost use Rattle.sheet.specs.Table.{libraryMost};
 ghost use lib.ListN.{length, getD};
-ghost use Rattle.board.specs.Lists.{any, upto};
+ghost use Rattle.base.specs.Lists.{any, upto};
 ghost use Rattle.board.specs.Board.{Board, field, given, kindChip, kindInput, kindCoerce, classStorage, classInline, sourceNode, targetNode};
 ghost use Rattle.board.specs.Groups.{anchorOf, isBussable, wireOpen};
 ghost use Rattle.board.specs.Index.{Index, Ids, entryOf};
 ghost use Rattle.board.specs.Groups.{addWire, groupFor, tapsOf};
-ghost use Rattle.board.specs.Tables.{held, flag, view, tapIn, tapTarget, NodeFacts, WireFacts, TapTargets};
+ghost use Rattle.base.specs.Views.{view};
+ghost use Rattle.board.specs.Tables.{held, flag, tapIn, tapTarget, NodeFacts, WireFacts, TapTargets};
 ghost use Rattle.collect.specs.Collecting.{Indexes, tapBucket, Tapped};
-
-const KIND_CHIP: u32 = 2;
 
 const KIND_INPUT: u32 = 3;
 
@@ -56,9 +58,9 @@ pub struct End {
 
 // G2: the end at a node. A body node is its own anchor, a node inside a chip has the brick of the chip's top chip.
 fn find_end(
-    nodes: &[[u32; 16]],
-    chips: &[[u32; 16]],
-    inner: &[[u32; 16]],
+    nodes: &[Record],
+    chips: &[Record],
+    inner: &[Record],
     body_ids: &[u32],
     body_nexts: &[u32],
     body_heads: &[u32],
@@ -146,7 +148,7 @@ fn names(exec: [u32; 16], node: u32, port: u32) -> bool
 
 // Whether an X names the node and the port. X records are chained by node.
 fn targets_exec(
-    execs: &[[u32; 16]],
+    execs: &[Record],
     ids: &[u32],
     nexts: &[u32],
     heads: &[u32],
@@ -169,17 +171,17 @@ fn targets_exec(
 
 // Finds the ends of every wire: both anchors, and whether it passes the tests before any on them.
 fn find_ends(
-    nodes: &[[u32; 16]],
-    chips: &[[u32; 16]],
-    inner: &[[u32; 16]],
-    wires: &[[u32; 16]],
+    nodes: &[Record],
+    chips: &[Record],
+    inner: &[Record],
+    wires: &[Record],
     body_ids: &[u32],
     body_nexts: &[u32],
     body_heads: &[u32],
     inner_ids: &[u32],
     inner_nexts: &[u32],
     inner_heads: &[u32],
-    facts: &mut [[u32; 8]],
+    facts: &mut [WorkRow],
 )
     requires { ⌜ Indexes (now nodes) (now inner) (now «body_ids») (now «body_nexts») (now «body_heads») (now «inner_ids») (now «inner_nexts») (now «inner_heads») ⌝ }
     requires { ⌜ length (now wires) ≤ length (now facts) ⌝ }
@@ -220,7 +222,7 @@ fn find_ends(
 }
 
 // Chains the X records by node.
-fn index_execs(execs: &[[u32; 16]], ids: &mut [u32], nexts: &mut [u32], heads: &mut [u32])
+fn index_execs(execs: &[Record], ids: &mut [u32], nexts: &mut [u32], heads: &mut [u32])
     requires { ⌜ Index (now ids) (now nexts) (now heads) 0 ⌝ }
     requires { ⌜ (length (now execs) ≤ libraryMost .execs) × (length (now execs) ≤ length (now ids)) × (length (now execs) ≤ length (now nexts)) ⌝ }
     ensures { λ _. ⌜ Ids (now (ids .exit)) (now (nexts .exit)) (now (heads .exit)) (length (now (execs .entry))) (λ e. field (now (execs .entry)) e 1) ⌝ }
@@ -235,7 +237,7 @@ fn index_execs(execs: &[[u32; 16]], ids: &mut [u32], nexts: &mut [u32], heads: &
 
 // The tests on a wire's anchors.
 fn anchors_open(
-    execs: &[[u32; 16]],
+    execs: &[Record],
     ids: &[u32],
     nexts: &[u32],
     heads: &[u32],
@@ -279,8 +281,8 @@ fn anchors_open(
 
 // The target anchor of a wire that is not passed over, or MISSING.
 fn tap_target(
-    nodes: &[[u32; 16]],
-    execs: &[[u32; 16]],
+    nodes: &[Record],
+    execs: &[Record],
     ids: &[u32],
     nexts: &[u32],
     heads: &[u32],
@@ -312,13 +314,13 @@ fn tap_target(
 }
 
 fn mark_wires(
-    nodes: &[[u32; 16]],
-    execs: &[[u32; 16]],
-    wires: &[[u32; 16]],
+    nodes: &[Record],
+    execs: &[Record],
+    wires: &[Record],
     ids: &[u32],
     nexts: &[u32],
     heads: &[u32],
-    facts: &mut [[u32; 8]],
+    facts: &mut [WorkRow],
 )
     requires { ⌜ Ids (now ids) (now nexts) (now heads) (length (now execs)) (λ e. field (now execs) e 1) ⌝ }
     requires { ⌜ (length (now nodes) ≤ libraryMost .nodes) × (length (now wires) ≤ length (now facts)) ⌝ }
@@ -335,7 +337,7 @@ fn mark_wires(
 }
 
 // Finds the target anchor of every wire that is not passed over.
-fn mark_taps(nodes: &[[u32; 16]], execs: &[[u32; 16]], wires: &[[u32; 16]], facts: &mut [[u32; 8]])
+fn mark_taps(nodes: &[Record], execs: &[Record], wires: &[Record], facts: &mut [WorkRow])
     requires { ⌜ (length (now execs) ≤ libraryMost .execs) × (length (now nodes) ≤ libraryMost .nodes) × (length (now wires) ≤ length (now facts)) ⌝ }
     ensures { λ _. ⌜ ((b : Board) → b .nodes ≡ now (nodes .entry) → b .execs ≡ now (execs .entry) → b .wires ≡ now (wires .entry)
         → WireFacts b (now (facts .entry)) → WireFacts b (now (facts .exit)) × TapTargets b (now (facts .exit))) ⌝ }
@@ -368,8 +370,8 @@ fn same_key(tap: [u32; 8], earlier: [u32; 16], page: u32, wire: [u32; 16]) -> bo
 
 // The group of a wire to that page: that of the newest tap with the same key, else its own number.
 fn group_for(
-    wires: &[[u32; 16]],
-    taps: &[[u32; 8]],
+    wires: &[Record],
+    taps: &[WorkRow],
     nexts: &[u32],
     heads: &[u32],
     m: usize,
@@ -396,8 +398,8 @@ fn group_for(
 
 // One more tap, in front of its bucket's chain.
 fn push_tap(
-    wires: &[[u32; 16]],
-    taps: &mut [[u32; 8]],
+    wires: &[Record],
+    taps: &mut [WorkRow],
     nexts: &mut [u32],
     heads: &mut [u32],
     m: usize,
@@ -417,10 +419,10 @@ fn push_tap(
 
 // The tap of a wire to its target anchor, unless it is passed over. The count of taps comes back.
 fn add_tap(
-    nodes: &[[u32; 16]],
-    wires: &[[u32; 16]],
-    node_facts: &[[u32; 8]],
-    taps: &mut [[u32; 8]],
+    nodes: &[Record],
+    wires: &[Record],
+    node_facts: &[WorkRow],
+    taps: &mut [WorkRow],
     nexts: &mut [u32],
     heads: &mut [u32],
     m: usize,
@@ -463,11 +465,11 @@ fn add_tap(
 }
 
 fn append_all(
-    nodes: &[[u32; 16]],
-    wires: &[[u32; 16]],
-    node_facts: &[[u32; 8]],
-    wire_facts: &[[u32; 8]],
-    taps: &mut [[u32; 8]],
+    nodes: &[Record],
+    wires: &[Record],
+    node_facts: &[WorkRow],
+    wire_facts: &[WorkRow],
+    taps: &mut [WorkRow],
     nexts: &mut [u32],
     heads: &mut [u32],
 ) -> usize
@@ -489,11 +491,11 @@ fn append_all(
 
 // The taps of all wires that are not passed over, in order. Their count comes back.
 fn append_taps(
-    nodes: &[[u32; 16]],
-    wires: &[[u32; 16]],
-    node_facts: &[[u32; 8]],
-    wire_facts: &[[u32; 8]],
-    taps: &mut [[u32; 8]],
+    nodes: &[Record],
+    wires: &[Record],
+    node_facts: &[WorkRow],
+    wire_facts: &[WorkRow],
+    taps: &mut [WorkRow],
 ) -> usize
     requires { ⌜ (length (now wires) ≤ length (now taps)) × (length (now wires) ≤ libraryMost .wires) × (length (now wires) ≤ length (now «wire_facts»)) × (length (now nodes) ≤ libraryMost .nodes) × (length (now nodes) ≤ length (now «node_facts»)) ⌝ }
     ensures { λ r. ⌜ r ≤ length (now (wires .entry)) ⌝ }
@@ -515,20 +517,20 @@ fn append_taps(
 
 // `collect_bus_groups`: the ends of all wires, and the taps of those that a lane may carry, with their groups. The count of taps comes back.
 pub fn collect_bus_groups(
-    nodes: &[[u32; 16]],
-    chips: &[[u32; 16]],
-    inner: &[[u32; 16]],
-    execs: &[[u32; 16]],
-    wires: &[[u32; 16]],
+    nodes: &[Record],
+    chips: &[Record],
+    inner: &[Record],
+    execs: &[Record],
+    wires: &[Record],
     body_ids: &[u32],
     body_nexts: &[u32],
     body_heads: &[u32],
     inner_ids: &[u32],
     inner_nexts: &[u32],
     inner_heads: &[u32],
-    node_facts: &[[u32; 8]],
-    wire_facts: &mut [[u32; 8]],
-    taps: &mut [[u32; 8]],
+    node_facts: &[WorkRow],
+    wire_facts: &mut [WorkRow],
+    taps: &mut [WorkRow],
 ) -> usize
     requires { ⌜ Indexes (now nodes) (now inner) (now «body_ids») (now «body_nexts») (now «body_heads») (now «inner_ids») (now «inner_nexts») (now «inner_heads») ⌝ }
     requires { ⌜ (length (now execs) ≤ libraryMost .execs) × (length (now wires) ≤ libraryMost .wires) × (length (now nodes) ≤ length (now «node_facts»)) × (length (now wires) ≤ length (now «wire_facts»)) × (length (now wires) ≤ length (now taps)) ⌝ }

@@ -1,5 +1,8 @@
 // C4, C5: the rows of a page, numbered by their downs, and each row's top. Nodes are sorted by page, down and falling x end, so that a row is a run
 // of keys and its first key has its top.
+use base::numbers::MISSING;
+use base::rows::Record;
+use base::rows::WorkRow;
 ghost use mathlib.Core.Path.{_≡_};
 ghost use mathlib.Core.Bool.{true, false, _||_};
 ghost use mathlib.Core.List.{List, []};
@@ -11,8 +14,6 @@ ghost use Rattle.board.specs.Board.{Board, field};
 ghost use Rattle.board.specs.Accepted.{AcceptedNodes};
 ghost use Rattle.board.specs.Tables.{nodesAlone, NodeFacts};
 ghost use Rattle.collect.specs.Collecting.{rowKey, Ranked, runAfter};
-
-pub const MISSING: u32 = 4_294_967_295;
 
 const END_MOST: u32 = 4_000_000;
 
@@ -30,7 +31,7 @@ fn half_along(rotation: u32, half_x: u32, half_y: u32) -> u32
 }
 
 // The row by which a node is sorted. A node without a row comes behind all others.
-fn row_key(nodes: &[[u32; 16]], i: usize) -> [u32; 8]
+fn row_key(nodes: &[Record], i: usize) -> [u32; 8]
     requires { ⌜ i < length (now nodes) ⌝ }
     requires { ⌜ AcceptedNodes (now nodes) ⌝ }
     ensures { λ r. ⌜ r ≡ rowKey (nodesAlone (now (nodes .entry))) i ⌝ }
@@ -45,7 +46,7 @@ fn row_key(nodes: &[[u32; 16]], i: usize) -> [u32; 8]
     [page, node[11], END_MOST - end, i as u32, end, 0, 0, 0]
 }
 
-fn fill_keys(nodes: &[[u32; 16]], keys: &mut [[u32; 8]])
+fn fill_keys(nodes: &[Record], keys: &mut [WorkRow])
     requires { ⌜ length (now nodes) ≤ length (now keys) ⌝ }
     requires { ⌜ AcceptedNodes (now nodes) ⌝ }
     ensures { λ _. ⌜ ((i : ℕ) → i < length (now (nodes .entry)) → getD (now (keys .exit)) i [] ≡ rowKey (nodesAlone (now (nodes .entry))) i) ⌝ }
@@ -91,7 +92,7 @@ fn run_after(run: Run, key: [u32; 8]) -> Run
 }
 
 // Walks the sorted keys and gives each node its row's number and top.
-fn assign_rows(keys: &[[u32; 8]], facts: &mut [[u32; 8]])
+fn assign_rows(keys: &[WorkRow], facts: &mut [WorkRow])
     requires { ⌜ length (now keys) ≤ libraryMost .nodes ⌝ }
     requires { ⌜ ((k : ℕ) → k < length (now keys) → field (now keys) k 3 < length (now facts)) ⌝ }
     ensures { λ _. ⌜ ((b : Board) → Ranked b (now (keys .entry)) → NodeFacts b (now (facts .exit))) ⌝ }
@@ -114,10 +115,10 @@ fn assign_rows(keys: &[[u32; 8]], facts: &mut [[u32; 8]])
 
 // Finds the row of every node that has one: its number and its top. `keys` and `spare` are work space.
 pub fn number_rows(
-    nodes: &[[u32; 16]],
-    keys: &mut [[u32; 8]],
-    spare: &mut [[u32; 8]],
-    facts: &mut [[u32; 8]],
+    nodes: &[Record],
+    keys: &mut [WorkRow],
+    spare: &mut [WorkRow],
+    facts: &mut [WorkRow],
 )
     requires { ⌜ AcceptedNodes (now nodes) ⌝ }
     requires { ⌜ (length (now nodes) ≤ length (now keys)) × (length (now nodes) ≤ length (now spare)) × (length (now nodes) ≤ length (now facts)) ⌝ }
@@ -125,6 +126,6 @@ pub fn number_rows(
 {
     let n = nodes.len();
     fill_keys(nodes, keys);
-    lanes::sort::sort_rows(&mut keys[..n], spare);
+    base::sort::sort_rows(&mut keys[..n], spare);
     assign_rows(&keys[..n], facts);
 }

@@ -10,13 +10,14 @@ use lib.ListN.{length, getD, set}
 use lib.Seq.{getD-set-same, getD-set-other}
 use borrow.Author.Tests.{eq-eqb, ne-eqb, eqb-true, eqb-false, le-leb, lt-leb}
 use Rattle.sheet.specs.Table.{MISSING}
-use Rattle.board.specs.Lists.{Found, none, at, any, keep, newest}
+use Rattle.base.specs.Lists.{Found, none, at, any, keep, newest}
 use Rattle.board.specs.Board.{Board, field, idOf, yOf, pageOf, downOf, lineOf, rotationOf, hasRow, hasLine, innerChip}
 use Rattle.board.specs.Rows.{rerouterCell}
 use Rattle.board.specs.Groups.{anchorOf, topChip}
 use Rattle.board.specs.Refusals.{bodyOf, innerOf}
 use Rattle.board.specs.Index.{link}
-use Rattle.board.specs.Tables.{held, view}
+use Rattle.base.specs.Views.{view}
+use Rattle.board.specs.Tables.{held}
 use Rattle.board.proofs.Newest.{link-below, link-held}
 use Rattle.routes.specs.Bus
 use Rattle.routes.specs.Bus.{roleLine, partCorner, Bus, Feed, Port, clearOfRow, insertPort, samePort, portOf, muted, deliver}
@@ -29,7 +30,7 @@ use Rattle.corners.specs.CornerTables.{atSink, takenMarks, TurnOf, Asked
 use Rattle.corners.specs.declared.lay.Turn.{Turn}
 use Rattle.stops.specs.declared.levels.Found.the-variants.{None, At}
 use Rattle.stops.specs.declared.marks.Mark.{Mark}
-use Rattle.board.proofs.Lists.{clash, and-left, and-right}
+use Rattle.base.proofs.Lists.{clash, and-left, and-right}
 use Rattle.stops.proofs.MarkLaws.{same-mark}
 use Rattle.stops.proofs.LevelLaws.{same-test}
 use Rattle.corners.proofs.Blocking.{and-no, and-yes}

@@ -10,13 +10,14 @@ use lib.ListN.{length, getD, set}
 use lib.Seq.{getD-set-same, getD-set-other}
 use borrow.Author.Tests.{eq-eqb, ne-eqb, eqb-true, eqb-false}
 use Rattle.sheet.specs.Table.{MISSING}
-use Rattle.board.specs.Lists.{Found, none, at, keep, fold, upto}
+use Rattle.base.specs.Lists.{Found, none, at, keep, fold, upto}
 use Rattle.board.specs.Board.{Board, field, given, sourceNode, targetNode}
 use Rattle.board.specs.Groups.{anchorOf, wireOpen}
 use Rattle.board.specs.Refusals.{bodyOf}
 use Rattle.board.specs.Rows.{brickCell}
-use Rattle.board.specs.Tables.{held, view}
-use Rattle.board.proofs.Lists.{clash}
+use Rattle.base.specs.Views.{view}
+use Rattle.board.specs.Tables.{held}
+use Rattle.base.proofs.Lists.{clash}
 use Rattle.board.proofs.Newest.{pick-true, pick-false}
 use Rattle.routes.proofs.Room.{turned-before, corner-room}
 use Rattle.routes.specs.Bus

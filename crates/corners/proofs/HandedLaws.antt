@@ -10,10 +10,10 @@ use lib.Seq.{set-getD}
 use borrow.Author.Tests.{eqb-true, eqb-false}
 use Rattle.sheet.specs.Table.{MISSING}
 use Rattle.board.specs.Board.{Board}
-use Rattle.board.specs.Lists.{any}
-use Rattle.board.specs.Tables.{view}
-use Rattle.board.proofs.Lists.{same-two}
-use Rattle.board.proofs.Views.{length-view}
+use Rattle.base.specs.Lists.{any}
+use Rattle.base.specs.Views.{view}
+use Rattle.base.proofs.Lists.{same-two}
+use Rattle.base.proofs.Views.{length-view}
 use Rattle.routes.specs.Bus.{End, port, rerouter, Carries, onward, delivery, Port, samePort, portOf, muted}
 use Rattle.routes.specs.Buffers.{brickRow, wireRow, inward, brickIn, wireIn, portIn, Row, Rows}
 use Rattle.routes.proofs.Rows.{brick-row, wire-row, written-own}

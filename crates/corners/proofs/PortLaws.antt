@@ -8,10 +8,10 @@ use lib.Dec.{eqb}
 use lib.ListN.{length, getD, set}
 use lib.Seq.{getD-set-same, getD-set-other}
 use borrow.Author.Tests.{eq-eqb, ne-eqb, eqb-true, eqb-false}
-use Rattle.board.specs.Lists.{Found, none, at, newest}
+use Rattle.base.specs.Lists.{Found, none, at, newest}
 use Rattle.board.specs.Board.{field}
 use Rattle.board.specs.Index.{link}
-use Rattle.board.proofs.Lists.{same-two}
+use Rattle.base.proofs.Lists.{same-two}
 use Rattle.board.proofs.Newest.{Following, chain-start, chain-next, link-below, link-held, Implies}
 use Rattle.routes.specs.Bus.{Port, samePort}
 use Rattle.cells.specs.Chains.{BUCKETS, Empty}

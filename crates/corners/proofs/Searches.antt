@@ -8,7 +8,7 @@ use lib.Dec.{eqb, leb}
 use lib.ListN.{length}
 use borrow.Author.Tests.{eq-eqb, ne-eqb, le-leb, lt-leb, leb-true, leb-false}
 use Rattle.sheet.specs.Table.{MISSING}
-use Rattle.board.specs.Lists.{Found, none, at, any, keep}
+use Rattle.base.specs.Lists.{Found, none, at, any, keep}
 use Rattle.board.proofs.Newest.{pick-true, pick-false}
 use Rattle.routes.specs.Levels.{STAGGER_STEP, lowest, lighter, lightest, levelsIn}
 use Rattle.stops.specs.Laying.{levelAnswer}

@@ -8,13 +8,14 @@ use lib.Dec.{eqb, leb}
 use lib.ListN.{length, getD, replicate, length-replicate, getD-replicate}
 use borrow.Author.Tests.{eq-eqb, ne-eqb, leb-true}
 use Rattle.sheet.specs.Table.{MISSING}
-use Rattle.board.specs.Lists.{any, keep, upto}
+use Rattle.base.specs.Lists.{any, keep, upto}
 use Rattle.board.specs.Board.{Board, field, given, hasRow, pageOf}
 use Rattle.board.specs.Groups.{wireOpen}
 use Rattle.board.specs.Rows.{brickCell, rowOf}
 use Rattle.collect.proofs.RowLaws.{row-below}
-use Rattle.board.specs.Tables.{view, flag, NodeFacts}
-use Rattle.board.proofs.Lists.{and-left, and-right}
+use Rattle.base.specs.Views.{view}
+use Rattle.board.specs.Tables.{flag, NodeFacts}
+use Rattle.base.proofs.Lists.{and-left, and-right}
 use Rattle.routes.specs.Bus
 use Rattle.routes.specs.Bus.{samePort}
 use Rattle.cells.specs.Chains.{BUCKETS, Empty, Walkable, brickBucket, nodeBucket, boardWith, CellRows}

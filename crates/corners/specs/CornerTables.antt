@@ -6,11 +6,12 @@ use mathlib.Core.List.{List, [], _∷_}
 use lib.Dec.{eqb, leb}
 use lib.ListN.{length, getD}
 use Rattle.sheet.specs.Table.{MISSING}
-use Rattle.board.specs.Lists.{none, at, keep, upto}
+use Rattle.base.specs.Lists.{none, at, keep, upto}
 use Rattle.board.specs.Board.{Board, field, given, idOf, xOf, yOf, zOf, pageOf, hasRow, sourceNode, targetNode}
 use Rattle.board.specs.Rows.{brickCell, rowOf}
 use Rattle.board.specs.Groups.{anchorOf, wireOpen}
-use Rattle.board.specs.Tables.{NodeFacts, held, view}
+use Rattle.base.specs.Views.{view}
+use Rattle.board.specs.Tables.{NodeFacts, held}
 use Rattle.routes.specs.Bus
 use Rattle.routes.specs.Bus.{samePort, muted, place, placedFeed, portFeed, deliver}
 use Rattle.cells.specs.Chains.{Walkable, brickBucket, nodeBucket, boardWith, CellRows}

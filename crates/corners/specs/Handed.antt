@@ -4,8 +4,8 @@ use mathlib.Core.Path.{_≡_}
 use mathlib.Core.List.{List, []}
 use lib.ListN.{length, getD}
 use Rattle.board.specs.Board.{Board}
-use Rattle.board.specs.Lists.{any}
-use Rattle.board.specs.Tables.{view}
+use Rattle.base.specs.Lists.{any}
+use Rattle.base.specs.Views.{view}
 use Rattle.routes.specs.Bus.{Bus, Port, insertPort, samePort, portOf, muted}
 use Rattle.routes.specs.Buffers.{brickIn, wireIn, portIn}
 use Rattle.cells.specs.Chains.{CellRows}

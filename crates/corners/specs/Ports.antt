@@ -6,9 +6,9 @@ use mathlib.Core.List.{List}
 use lib.Dec.{eqb}
 use lib.ListN.{length, getD}
 use Rattle.sheet.specs.Table.{MISSING}
-use Rattle.board.specs.Lists.{Found, none, at, any}
+use Rattle.base.specs.Lists.{Found, none, at, any}
 use Rattle.board.specs.Board.{field}
-use Rattle.board.specs.Tables.{view}
+use Rattle.base.specs.Views.{view}
 use Rattle.routes.specs.Bus.{Port, samePort}
 use Rattle.routes.specs.Buffers.{portIn}
 use Rattle.cells.specs.Chains.{BUCKETS, Walkable}

@@ -1,4 +1,7 @@
 // Which of a turn's levels are blocked, found in one walk over the cells of its row: so a crowded row is not walked again for each level.
+use base::rows::Record;
+use base::rows::RerouterRow;
+use base::rows::WorkRow;
 use cells::cells::Cell;
 use cells::cells::brick_cell;
 use cells::cells::bucket;
@@ -57,7 +60,7 @@ fn block(ends: &mut [u64], levels: Levels, cell: Cell)
 }
 
 // Brick i of the board, where it stands in the row.
-fn block_node(nodes: &[[u32; 16]], facts: &[[u32; 8]], i: usize, levels: Levels, ends: &mut [u64])
+fn block_node(nodes: &[Record], facts: &[WorkRow], i: usize, levels: Levels, ends: &mut [u64])
     requires { ⌜ (i < length (now nodes)) × (i < length (now facts)) × (levels .count ≤ length (now ends)) ⌝ }
     ensures { λ _. ⌜ Blocks levels (λ k. nodeAt (now (nodes .entry)) (now (facts .entry)) levels k i) (now (ends .entry)) (now (ends .exit)) ⌝ }
 {
@@ -68,8 +71,8 @@ fn block_node(nodes: &[[u32; 16]], facts: &[[u32; 8]], i: usize, levels: Levels,
 
 // The bricks of the board in bucket k.
 fn block_nodes(
-    nodes: &[[u32; 16]],
-    facts: &[[u32; 8]],
+    nodes: &[Record],
+    facts: &[WorkRow],
     nexts: &[u32],
     heads: &[u32],
     k: usize,
@@ -103,7 +106,7 @@ fn rerouter_cell(row: [u32; 10]) -> Cell
 }
 
 // Rerouter i, where it stands beside the row.
-fn block_rerouter(rerouters: &[[u32; 10]], i: usize, levels: Levels, ends: &mut [u64])
+fn block_rerouter(rerouters: &[RerouterRow], i: usize, levels: Levels, ends: &mut [u64])
     requires { ⌜ (i < length (now rerouters)) × (levels .count ≤ length (now ends)) ⌝ }
     ensures { λ _. ⌜ Blocks levels (λ k. brickAt (now (rerouters .entry)) levels k i) (now (ends .entry)) (now (ends .exit)) ⌝ }
 {
@@ -114,7 +117,7 @@ fn block_rerouter(rerouters: &[[u32; 10]], i: usize, levels: Levels, ends: &mut 
 
 // The first n rerouters, of those in bucket k.
 fn block_rerouters(
-    rerouters: &[[u32; 10]],
+    rerouters: &[RerouterRow],
     nexts: &[u32],
     heads: &[u32],
     n: usize,
@@ -136,7 +139,7 @@ fn block_rerouters(
 
 // The same of the two buckets where a cell that overlaps at y may be.
 fn block_beside(
-    rerouters: &[[u32; 10]],
+    rerouters: &[RerouterRow],
     nexts: &[u32],
     heads: &[u32],
     n: usize,
@@ -171,11 +174,11 @@ fn spread(ends: &mut [u64], count: u32)
 
 // C6: the ends that tell of each level whether a corner there is clear of the sink's row.
 pub fn find_ends(
-    nodes: &[[u32; 16]],
-    facts: &[[u32; 8]],
+    nodes: &[Record],
+    facts: &[WorkRow],
     node_nexts: &[u32],
     node_heads: &[u32],
-    rerouters: &[[u32; 10]],
+    rerouters: &[RerouterRow],
     nexts: &[u32],
     heads: &[u32],
     n: usize,

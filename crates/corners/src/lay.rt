@@ -1,14 +1,18 @@
 // Corners (`lay_mini_bus`): a wire that goes down its own line's block turns once, beside its sink.
 use crate::blocked::Levels;
 use crate::blocked::find_ends;
+use base::ids::NodeId;
+use base::numbers::MISSING;
+use base::rows::BusWireRow;
+use base::rows::Record;
+use base::rows::RerouterRow;
+use base::rows::WorkRow;
 use cells::cells::brick_cell;
 use cells::place::place;
 use routes::bus::Brick;
 use routes::bus::BusCount;
 use routes::bus::End;
 use routes::bus::Feed;
-use routes::bus::MISSING;
-use routes::bus::NodeId;
 use routes::bus::push_delivery;
 use stops::levels::Found;
 use stops::levels::STAGGER_STEP;
@@ -23,7 +27,7 @@ ghost use mathlib.Core.Bool.{true, false};
 ghost use mathlib.Core.List.{List, []};
 ghost use Prim.Native.Nat.{ℕ, suc, _<_, _≤_};
 ghost use lib.ListN.{length, getD};
-ghost use Rattle.board.specs.Lists.{none, at, keep, upto};
+ghost use Rattle.base.specs.Lists.{none, at, keep, upto};
 ghost use Rattle.board.specs.Board.{Board, field};
 ghost use Rattle.board.specs.Groups.{anchorOf};
 ghost use Rattle.board.specs.Refusals.{bodyOf};
@@ -80,7 +84,7 @@ fn turns_down(source: [u32; 16], sink: [u32; 16]) -> bool
 }
 
 // Whether the anchor of an end is that end's own body node.
-fn is_body(nodes: &[[u32; 16]], anchor: u32, id: u32) -> bool
+fn is_body(nodes: &[Record], anchor: u32, id: u32) -> bool
     ensures { λ r. ⌜ (r ≡ true → anchor < length (now (nodes .entry))) ⌝ }
     ensures { λ r. ⌜ ((b : Board) → b .nodes ≡ now (nodes .entry) → anchor ≡ held (anchorOf b id) → bodyOf b id ≡ elim r [ true ↦ at anchor | false ↦ none ]) ⌝ }
 {
@@ -93,7 +97,7 @@ fn is_body(nodes: &[[u32; 16]], anchor: u32, id: u32) -> bool
 
 // K5: whether a corner at the level is clear of the sink's row, as its end tells, and no corner of the sink took the level.
 fn is_open_corner(
-    marks: &[[u32; 8]],
+    marks: &[WorkRow],
     mark_heads: &[u32],
     m: usize,
     turn: Turn,
@@ -121,13 +125,7 @@ fn is_open_corner(
 }
 
 // K5: the lowest level that is unused and clear, or none.
-fn lowest_corner(
-    marks: &[[u32; 8]],
-    mark_heads: &[u32],
-    m: usize,
-    ends: &[u64],
-    turn: Turn,
-) -> Found
+fn lowest_corner(marks: &[WorkRow], mark_heads: &[u32], m: usize, ends: &[u64], turn: Turn) -> Found
     requires { ⌜ Searchable (now marks) (now «mark_heads») m (now ends) turn ⌝ }
     ensures { λ r. ⌜ ((b : Board) (c : Cornering) (s t : ℕ) → LevelsTold b c s t (now (marks .entry)) m (now (ends .entry)) turn
         → r ≡ levelAnswer (lowest (openCorner b c s t) (turn .x) (levelsIn (turn .x) (turn .top)))) ⌝ }
@@ -150,7 +148,7 @@ fn lowest_corner(
 
 // K6: the least loaded level that is clear, or none. It goes from the highest down, so that the last one taken is the lowest.
 fn least_loaded_corner(
-    marks: &[[u32; 8]],
+    marks: &[WorkRow],
     mark_heads: &[u32],
     m: usize,
     ends: &[u64],
@@ -190,15 +188,15 @@ fn least_loaded_corner(
 
 // K5, K6: a corner's level, or none (K7). Half sizes go to 1,000 (S11), so there are no more levels than that.
 fn corner_level(
-    nodes: &[[u32; 16]],
-    facts: &[[u32; 8]],
+    nodes: &[Record],
+    facts: &[WorkRow],
     node_nexts: &[u32],
     node_heads: &[u32],
-    rerouters: &[[u32; 10]],
+    rerouters: &[RerouterRow],
     nexts: &[u32],
     heads: &[u32],
     n: usize,
-    marks: &[[u32; 8]],
+    marks: &[WorkRow],
     mark_heads: &[u32],
     m: usize,
     turn: Turn,
@@ -254,7 +252,7 @@ fn corner_brick(turn: Turn, level: u32) -> Brick
 }
 
 // What a corner from node s into node t goes by.
-fn turn_of(pages: &[[u32; 16]], nodes: &[[u32; 16]], facts: &[[u32; 8]], s: u32, t: u32) -> Turn
+fn turn_of(pages: &[Record], nodes: &[Record], facts: &[WorkRow], s: u32, t: u32) -> Turn
     requires { ⌜ InReach (now pages) (now nodes) (now facts) s t ⌝ }
     ensures { λ r. ⌜ r ≡ turnRead (now (pages .entry)) (now (nodes .entry)) (now (facts .entry)) s t ⌝ }
 {
@@ -277,8 +275,8 @@ fn turn_of(pages: &[[u32; 16]], nodes: &[[u32; 16]], facts: &[[u32; 8]], s: u32,
 
 // K10: the bus wire to a corner, and its delivery.
 fn place_corner(
-    rerouters: &mut [[u32; 10]],
-    bus_wires: &mut [[u32; 6]],
+    rerouters: &mut [RerouterRow],
+    bus_wires: &mut [BusWireRow],
     nexts: &mut [u32],
     heads: &mut [u32],
     count: BusCount,
@@ -309,7 +307,7 @@ fn place_corner(
 }
 
 // `turns_down` of two nodes.
-fn goes_down(nodes: &[[u32; 16]], s: u32, t: u32) -> bool
+fn goes_down(nodes: &[Record], s: u32, t: u32) -> bool
     requires { ⌜ (s < length (now nodes)) × (t < length (now nodes)) ⌝ }
     ensures { λ r. ⌜ ((b : Board) → b .nodes ≡ now (nodes .entry) → r ≡ turnsDown b s t) ⌝ }
 {
@@ -318,9 +316,9 @@ fn goes_down(nodes: &[[u32; 16]], s: u32, t: u32) -> bool
 
 // Whether a wire passes every test but that a level is found.
 fn turns(
-    nodes: &[[u32; 16]],
-    wires: &[[u32; 16]],
-    ends: &[[u32; 8]],
+    nodes: &[Record],
+    wires: &[Record],
+    ends: &[WorkRow],
     classes: &[u32],
     muted: &[u32],
     w: usize,
@@ -351,11 +349,11 @@ fn turns(
 
 // K9, K10: a corner, its delivery, its level taken and its target's port suppressed.
 fn with_corner(
-    rerouters: &mut [[u32; 10]],
-    bus_wires: &mut [[u32; 6]],
+    rerouters: &mut [RerouterRow],
+    bus_wires: &mut [BusWireRow],
     nexts: &mut [u32],
     heads: &mut [u32],
-    marks: &mut [[u32; 8]],
+    marks: &mut [WorkRow],
     mark_heads: &mut [u32],
     muted: &mut [u32],
     count: CornerCount,
@@ -400,16 +398,16 @@ fn with_corner(
 
 // The corner of a wire with source s and sink t, where a level is found.
 fn lay_corner(
-    pages: &[[u32; 16]],
-    nodes: &[[u32; 16]],
-    facts: &[[u32; 8]],
+    pages: &[Record],
+    nodes: &[Record],
+    facts: &[WorkRow],
     node_nexts: &[u32],
     node_heads: &[u32],
-    rerouters: &mut [[u32; 10]],
-    bus_wires: &mut [[u32; 6]],
+    rerouters: &mut [RerouterRow],
+    bus_wires: &mut [BusWireRow],
     nexts: &mut [u32],
     heads: &mut [u32],
-    marks: &mut [[u32; 8]],
+    marks: &mut [WorkRow],
     mark_heads: &mut [u32],
     muted: &mut [u32],
     count: CornerCount,
@@ -462,19 +460,19 @@ fn lay_corner(
 
 // K1: the corner of wire w, where it passes the tests and a level is found.
 fn turn_wire(
-    pages: &[[u32; 16]],
-    nodes: &[[u32; 16]],
-    wires: &[[u32; 16]],
-    facts: &[[u32; 8]],
-    ends: &[[u32; 8]],
+    pages: &[Record],
+    nodes: &[Record],
+    wires: &[Record],
+    facts: &[WorkRow],
+    ends: &[WorkRow],
     classes: &[u32],
     node_nexts: &[u32],
     node_heads: &[u32],
-    rerouters: &mut [[u32; 10]],
-    bus_wires: &mut [[u32; 6]],
+    rerouters: &mut [RerouterRow],
+    bus_wires: &mut [BusWireRow],
     nexts: &mut [u32],
     heads: &mut [u32],
-    marks: &mut [[u32; 8]],
+    marks: &mut [WorkRow],
     mark_heads: &mut [u32],
     muted: &mut [u32],
     count: CornerCount,
@@ -513,9 +511,9 @@ fn turn_wire(
 
 // Wire w, where it turns, behind the n found so far.
 fn note_turn(
-    nodes: &[[u32; 16]],
-    wires: &[[u32; 16]],
-    ends: &[[u32; 8]],
+    nodes: &[Record],
+    wires: &[Record],
+    ends: &[WorkRow],
     classes: &[u32],
     muted: &[u32],
     list: &mut [u32],
@@ -536,9 +534,9 @@ fn note_turn(
 
 // The wires that pass the tests at the start, in order. No other ever does, since a port suppressed stays so.
 pub fn find_turns(
-    nodes: &[[u32; 16]],
-    wires: &[[u32; 16]],
-    ends: &[[u32; 8]],
+    nodes: &[Record],
+    wires: &[Record],
+    ends: &[WorkRow],
     classes: &[u32],
     muted: &[u32],
     list: &mut [u32],
@@ -557,21 +555,21 @@ pub fn find_turns(
 
 // `lay_mini_bus`: the corners of the n wires that turn, in order.
 pub fn lay_corners(
-    pages: &[[u32; 16]],
-    nodes: &[[u32; 16]],
-    wires: &[[u32; 16]],
-    facts: &[[u32; 8]],
-    ends: &[[u32; 8]],
+    pages: &[Record],
+    nodes: &[Record],
+    wires: &[Record],
+    facts: &[WorkRow],
+    ends: &[WorkRow],
     classes: &[u32],
     node_nexts: &[u32],
     node_heads: &[u32],
     list: &[u32],
     n: usize,
-    rerouters: &mut [[u32; 10]],
-    bus_wires: &mut [[u32; 6]],
+    rerouters: &mut [RerouterRow],
+    bus_wires: &mut [BusWireRow],
     nexts: &mut [u32],
     heads: &mut [u32],
-    marks: &mut [[u32; 8]],
+    marks: &mut [WorkRow],
     mark_heads: &mut [u32],
     muted: &mut [u32],
     count: BusCount,

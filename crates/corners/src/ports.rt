@@ -1,4 +1,6 @@
 // Wires by target port: which share one, and which lead to a suppressed one. They are chained by bucket, so that each port is found in a few steps.
+use base::rows::PortRow;
+use base::rows::Record;
 use board::ids::Found;
 use cells::cells::chain;
 ghost use mathlib.Core.Path.{_≡_};
@@ -6,7 +8,7 @@ ghost use mathlib.Core.Bool.{Bool, _||_};
 ghost use Prim.Native.Nat.{ℕ, _<_, _≤_};
 ghost use lib.ListN.{length, getD};
 ghost use Rattle.board.specs.Index.{foundOf};
-ghost use Rattle.board.specs.Lists.{newest};
+ghost use Rattle.base.specs.Lists.{newest};
 ghost use Rattle.cells.specs.Chains.{Empty};
 ghost use Rattle.corners.specs.CornerTables.{portAt};
 ghost use Rattle.corners.specs.Ports.{portBucket, thePort, goesTo, WireWalk, classFor, Ported, PortRoom, FlaggedBy, amongPorts};
@@ -20,7 +22,7 @@ fn bucket_of(node: u32, port: u32) -> usize
 }
 
 // Whether a wire's target port is this one.
-fn goes_to(wires: &[[u32; 16]], i: usize, node: u32, port: u32) -> bool
+fn goes_to(wires: &[Record], i: usize, node: u32, port: u32) -> bool
     requires { ⌜ i < length (now wires) ⌝ }
     ensures { λ r. ⌜ r ≡ goesTo (now (wires .entry)) (thePort node port) i ⌝ }
 {
@@ -29,7 +31,7 @@ fn goes_to(wires: &[[u32; 16]], i: usize, node: u32, port: u32) -> bool
 
 // The newest of the first n wires that leads to the port.
 fn find_port(
-    wires: &[[u32; 16]],
+    wires: &[Record],
     nexts: &[u32],
     heads: &[u32],
     n: usize,
@@ -51,7 +53,7 @@ fn find_port(
 }
 
 // The class of wire w: that of an earlier wire to its port, or a new one.
-fn class_of(wires: &[[u32; 16]], classes: &[u32], nexts: &[u32], heads: &[u32], w: usize) -> u32
+fn class_of(wires: &[Record], classes: &[u32], nexts: &[u32], heads: &[u32], w: usize) -> u32
     requires { ⌜ WireWalk (now wires) (now nexts) (now heads) w ⌝ }
     requires { ⌜ (w < length (now wires)) × (w ≤ length (now classes)) × (w < 4294967296) ⌝ }
     ensures { λ r. ⌜ r ≡ classFor (now (classes .entry)) w (newest (goesTo (now (wires .entry)) (portAt (now (wires .entry)) w)) w) ⌝ }
@@ -63,7 +65,7 @@ fn class_of(wires: &[[u32; 16]], classes: &[u32], nexts: &[u32], heads: &[u32], 
 }
 
 // The classes of all wires, and their chains.
-pub fn class_ports(wires: &[[u32; 16]], classes: &mut [u32], nexts: &mut [u32], heads: &mut [u32])
+pub fn class_ports(wires: &[Record], classes: &mut [u32], nexts: &mut [u32], heads: &mut [u32])
     requires { ⌜ Empty (now heads) ⌝ }
     requires { ⌜ PortRoom (now wires) (now classes) (now nexts) (now classes) ⌝ }
     ensures { λ _. ⌜ Ported (now (wires .entry)) (now (classes .exit)) (now (nexts .exit)) (now (heads .exit)) (length (now (wires .entry))) ⌝ }
@@ -80,7 +82,7 @@ pub fn class_ports(wires: &[[u32; 16]], classes: &mut [u32], nexts: &mut [u32], 
 
 // The flag of the class of a suppressed port.
 fn flag_port(
-    wires: &[[u32; 16]],
+    wires: &[Record],
     classes: &[u32],
     nexts: &[u32],
     heads: &[u32],
@@ -100,11 +102,11 @@ fn flag_port(
 
 // The flags of the first u ports handed in, in whatever order, over flags that are all 0.
 pub fn flag_ports(
-    wires: &[[u32; 16]],
+    wires: &[Record],
     classes: &[u32],
     nexts: &[u32],
     heads: &[u32],
-    ports: &[[u32; 2]],
+    ports: &[PortRow],
     u: usize,
     flags: &mut [u32],
 )

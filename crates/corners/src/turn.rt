@@ -3,6 +3,11 @@ use crate::lay::find_turns;
 use crate::lay::lay_corners;
 use crate::ports::class_ports;
 use crate::ports::flag_ports;
+use base::rows::BusWireRow;
+use base::rows::PortRow;
+use base::rows::Record;
+use base::rows::RerouterRow;
+use base::rows::WorkRow;
 use cells::cells::book_brick;
 use cells::cells::book_nodes;
 use routes::bus::BusCount;
@@ -12,7 +17,7 @@ ghost use Prim.Native.Nat.{ℕ, _<_, _≤_};
 ghost use lib.ListN.{length, getD};
 ghost use Rattle.board.specs.Board.{Board};
 ghost use Rattle.routes.specs.Bus.{Bus};
-ghost use Rattle.board.specs.Lists.{keep, upto};
+ghost use Rattle.base.specs.Lists.{keep, upto};
 ghost use Rattle.cells.specs.Chains.{Walkable, Empty, brickBucket, CellRows};
 ghost use Rattle.routes.specs.Corners.{turns, turnable, corners};
 ghost use Rattle.routes.specs.Holding.{BusHeld};
@@ -36,7 +41,7 @@ fn know_wire(row: [u32; 6])
     ensures { λ _. ⌜ Row 6 row ⌝ }
 {}
 
-fn know_wires(bus_wires: &[[u32; 6]], k: usize)
+fn know_wires(bus_wires: &[BusWireRow], k: usize)
     requires { ⌜ k ≤ length (now «bus_wires») ⌝ }
     ensures { λ _. ⌜ Rows 6 (now («bus_wires» .entry)) k ⌝ }
 {
@@ -48,7 +53,7 @@ fn know_wires(bus_wires: &[[u32; 6]], k: usize)
 }
 
 // The first n rerouters, chained.
-fn book_rerouters(rerouters: &[[u32; 10]], n: usize, nexts: &mut [u32], heads: &mut [u32])
+fn book_rerouters(rerouters: &[RerouterRow], n: usize, nexts: &mut [u32], heads: &mut [u32])
     requires { ⌜ Empty (now heads) ⌝ }
     requires { ⌜ (n ≤ length (now rerouters)) × (n ≤ length (now nexts)) × (n < 4294967295) ⌝ }
     ensures { λ _. ⌜ Walkable (brickBucket (now (rerouters .entry))) (length (now (rerouters .entry))) (now (nexts .exit)) (now (heads .exit)) n ⌝ }
@@ -72,10 +77,10 @@ fn has_room(wires: usize, n: usize, k: usize, u: usize, turning: usize) -> bool
 
 // The classes of the wires, the flags of the ports handed in, and the wires that turn.
 fn find_turners(
-    nodes: &[[u32; 16]],
-    wires: &[[u32; 16]],
-    ends: &[[u32; 8]],
-    ports: &[[u32; 2]],
+    nodes: &[Record],
+    wires: &[Record],
+    ends: &[WorkRow],
+    ports: &[PortRow],
     u: usize,
     classes: &mut [u32],
     flags: &mut [u32],
@@ -95,12 +100,12 @@ fn find_turners(
 
 // Whether n rerouters, k bus wires and u suppressed ports leave room for all that may turn, where nothing is to be laid.
 pub fn has_room_to_turn(
-    nodes: &[[u32; 16]],
-    wires: &[[u32; 16]],
-    wire_facts: &[[u32; 8]],
+    nodes: &[Record],
+    wires: &[Record],
+    wire_facts: &[WorkRow],
     n: usize,
     k: usize,
-    ports: &[[u32; 2]],
+    ports: &[PortRow],
     u: usize,
 ) -> bool
     requires { ⌜ (length (now wires) ≤ 8192) × (length (now wires) ≤ length (now «wire_facts»)) × (u ≤ length (now ports)) × (n < 9223372036854775808) × (k < 9223372036854775808) ⌝ }
@@ -125,17 +130,17 @@ pub fn has_room_to_turn(
 
 // The corners of the `turning` wires in the list.
 fn lay_turners(
-    pages: &[[u32; 16]],
-    nodes: &[[u32; 16]],
-    wires: &[[u32; 16]],
-    facts: &[[u32; 8]],
-    ends: &[[u32; 8]],
+    pages: &[Record],
+    nodes: &[Record],
+    wires: &[Record],
+    facts: &[WorkRow],
+    ends: &[WorkRow],
     classes: &[u32],
     list: &[u32],
     turning: usize,
-    rerouters: &mut [[u32; 10]],
-    bus_wires: &mut [[u32; 6]],
-    marks: &mut [[u32; 8]],
+    rerouters: &mut [RerouterRow],
+    bus_wires: &mut [BusWireRow],
+    marks: &mut [WorkRow],
     flags: &mut [u32],
     count: BusCount,
 ) -> BusCount
@@ -178,18 +183,18 @@ fn lay_turners(
 
 // `lay_mini_bus` on n rerouters, k bus wires and u suppressed ports. The buffers stay as they are where there is no room for all that may turn.
 pub fn turn_corners(
-    pages: &[[u32; 16]],
-    nodes: &[[u32; 16]],
-    wires: &[[u32; 16]],
-    node_facts: &[[u32; 8]],
-    wire_facts: &[[u32; 8]],
-    rerouters: &mut [[u32; 10]],
+    pages: &[Record],
+    nodes: &[Record],
+    wires: &[Record],
+    node_facts: &[WorkRow],
+    wire_facts: &[WorkRow],
+    rerouters: &mut [RerouterRow],
     n: usize,
-    bus_wires: &mut [[u32; 6]],
+    bus_wires: &mut [BusWireRow],
     k: usize,
-    ports: &[[u32; 2]],
+    ports: &[PortRow],
     u: usize,
-    marks: &mut [[u32; 8]],
+    marks: &mut [WorkRow],
 ) -> Turned
     requires { ⌜ BoardFits (now pages) (now nodes) (now wires) (now «node_facts») (now «wire_facts») ⌝ }
     requires { ⌜ Lent (length (now wires)) (now rerouters) (now «bus_wires») (now ports) (now marks) n k u ⌝ }

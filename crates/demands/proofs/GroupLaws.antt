@@ -11,15 +11,16 @@ use lib.ListN.{length, getD, set}
 use lib.Seq.{getD-set-same, getD-set-other}
 use borrow.Author.Tests.{eq-eqb, ne-eqb, eqb-true, eqb-false, lt-ltb, le-ltb}
 use Rattle.sheet.specs.Table.{MISSING}
-use Rattle.lanes.proofs.SortLaws.{clash}
-use Rattle.board.specs.Lists.{Found, none, at, any, keep, fold, upto, least, greatest}
+use Rattle.base.proofs.SortLaws.{clash}
+use Rattle.base.specs.Lists.{Found, none, at, any, keep, fold, upto, least, greatest}
 use Rattle.board.specs.Board.{Board, field, hasRow, pageOf, sourceNode, targetNode, sourcePort}
 use Rattle.board.specs.Rows.{rowOf}
 use Rattle.board.specs.Groups.{Tap, anchorOf, groupFor, tapFor, addWire, tapsOf, tapsIn, sourceAnchor, targetAnchor, crosses, crossesAt, isBusWorthy}
 use Rattle.board.specs.Demands.{firstRow, lastRow, needsLane}
-use Rattle.board.specs.Tables.{view, held, flag, tapIn, tapTarget, groupRow, WireFacts}
+use Rattle.base.specs.Views.{view}
+use Rattle.board.specs.Tables.{held, flag, tapIn, tapTarget, groupRow, WireFacts}
 use Rattle.collect.specs.Collecting.{headPage, GroupSums}
-use Rattle.board.proofs.Members.{keep-in, keep-from, map-in, map-from}
+use Rattle.base.proofs.Members.{keep-in, keep-from, map-in, map-from}
 use Rattle.collect.proofs.RowLaws.{On, row-below}
 use Rattle.collect.proofs.Ends.{held-there}
 use Rattle.collect.proofs.TapLaws.{Carried, carried, carried-row, carried-below, add-none, add-some, anchor-below}

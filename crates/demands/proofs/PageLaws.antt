@@ -17,17 +17,18 @@ use Rattle.lanes.specs.declared.pack.Packing.{Packing}
 use Rattle.lanes.specs.declared.pack.Packing.the-variants.{Lanes, Full}
 use Rattle.lanes.specs.LaneCall.{faulty, Sound}
 use Rattle.lanes.specs.Keys.{demandOf, laneColumn, withLane, eachWith, rowsAfter, resultOf, PackedRows}
-use Rattle.lanes.proofs.SortLaws.{clash}
+use Rattle.base.proofs.SortLaws.{clash}
 use Rattle.lanes.proofs.Promise.{lanes-apart}
-use Rattle.board.specs.Lists.{Found, none, at, any, keep, upto}
+use Rattle.base.specs.Lists.{Found, none, at, any, keep, upto}
 use Rattle.board.specs.Board.{Board, field, sourceNode, targetNode, kindChip, kindInput, classStorage}
 use Rattle.board.specs.Groups.{Tap, anchorOf, tapsOf, sourceAnchor, targetAnchor, crosses, crossesAt, isBusWorthy}
 use Rattle.board.specs.Demands.{laneIn, firstRow, lastRow, needsLane}
-use Rattle.board.specs.Tables.{view, held, flag, tapIn, tapTarget}
+use Rattle.base.specs.Views.{view}
+use Rattle.board.specs.Tables.{held, flag, tapIn, tapTarget}
 use Rattle.collect.specs.Collecting.{relaned, headPage, Packable}
 use Rattle.demands.specs.PagePlan.{groupDemand, orderColumn, asking, AddedDemand, PageDemands, PagePacked}
 use Rattle.board.proofs.Newest.{pick-true, pick-false}
-use Rattle.board.proofs.Members.{at-mem, keep-from, map-in, map-from, upto-below}
+use Rattle.base.proofs.Members.{at-mem, keep-from, map-in, map-from, upto-below}
 use Rattle.collect.proofs.TapLaws.{view-more}
 use Rattle.demands.proofs.GroupLaws.{source-held, target-held, source-below, target-below}
 

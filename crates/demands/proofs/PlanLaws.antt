@@ -12,21 +12,22 @@ use lib.ListN.{length, getD, set, replicate, length-append, List·getD-append, L
 use lib.Seq.{getD-set-same, getD-set-other, getD-at}
 use borrow.Author.Tests.{eq-eqb, ne-eqb, eqb-true, eqb-false}
 use Rattle.sheet.specs.Table.{MISSING}
-use Rattle.lanes.specs.Sort.{sorted}
+use Rattle.base.specs.Sort.{sorted}
 use Rattle.lanes.specs.Lanes.{Demand, Packed, full, laned, packed, packIn, ranked, entries}
 use Rattle.lanes.specs.declared.pack.Packing.{Packing}
 use Rattle.lanes.specs.declared.pack.Packing.the-variants.{Lanes, Full}
-use Rattle.lanes.proofs.SortLaws.{clash}
-use Rattle.board.specs.Lists.{Found, none, at, keep}
+use Rattle.base.proofs.SortLaws.{clash}
+use Rattle.base.specs.Lists.{Found, none, at, keep}
 use Rattle.board.specs.Board.{Board, field, given, hasGutter, minYOf, pageOf}
 use Rattle.board.specs.Groups.{Tap, tapsOf, tapsIn}
 use Rattle.board.specs.Demands.{PageLanes, Planned, crowded, planned, noLanes, laneIn, laneOf, firstRow, lastRow, needsLane, demandOf, groupsOn, packedOn, planUpto, planLanes}
-use Rattle.board.specs.Tables.{view, held, tapIn, tapTarget, groupRow, GroupFacts, PageFacts}
+use Rattle.base.specs.Views.{view}
+use Rattle.board.specs.Tables.{held, tapIn, tapTarget, groupRow, GroupFacts, PageFacts}
 use Rattle.collect.specs.Collecting.{relaned, headPage, GroupSums, Packable}
 use Rattle.demands.specs.PagePlan.{PlanHeld}
 use Rattle.demands.specs.PagePlan.{groupDemand, asking, PagePacked, GutterPacked, Surveyed, Collected}
-use Rattle.board.proofs.Members.{keep-from, map-from}
-use Rattle.board.proofs.Views.{view-mem, length-view}
+use Rattle.base.proofs.Members.{keep-from, map-from}
+use Rattle.base.proofs.Views.{view-mem, length-view}
 use Rattle.demands.proofs.GroupLaws.{Known, known, known-row, row-first, row-last, row-consumers, first-last, last-most, length-group}
 use Rattle.demands.proofs.PageLaws.{asking-is, asker, map-same, reverse-from}
 

@@ -10,11 +10,12 @@ use Rattle.lanes.specs.Lanes.{Demand, full, laned, packed, laneMost}
 use Rattle.lanes.specs.Keys.{demandOf}
 use Rattle.lanes.specs.declared.pack.Packing.{Packing}
 use Rattle.lanes.specs.declared.pack.Packing.the-variants.{Lanes, Full}
-use Rattle.board.specs.Lists.{keep, upto}
+use Rattle.base.specs.Lists.{keep, upto}
 use Rattle.board.specs.Board.{Board, field, given}
 use Rattle.board.specs.Groups.{tapsOf}
 use Rattle.board.specs.Demands.{laneIn, PageLanes, crowded, planned, planLanes}
-use Rattle.board.specs.Tables.{view, tapIn, NodeFacts, WireFacts, GroupFacts, PageFacts}
+use Rattle.base.specs.Views.{view}
+use Rattle.board.specs.Tables.{tapIn, NodeFacts, WireFacts, GroupFacts, PageFacts}
 use Rattle.collect.specs.Collecting.{relaned, headPage, GroupSums}
 use Rattle.demands.specs.declared.demands.BoardPlan.{BoardPlan}
 use Rattle.demands.specs.declared.demands.Plan.{Plan}

@@ -1,8 +1,10 @@
 // `plan_bus`, its planning: what each group asks of the bus, and the lanes of each page.
+use base::numbers::MISSING;
+use base::rows::Record;
+use base::rows::WorkRow;
 use collect::groups::collect_bus_groups;
 use collect::groups::crosses_at;
 use collect::groups::is_bus_worthy_source;
-use collect::rows::MISSING;
 use collect::rows::number_rows;
 use lanes::pack::Packing;
 use lanes::rows::pack_rows;
@@ -13,11 +15,12 @@ ghost use Prim.Native.Nat.{ℕ, _+_, _≤_, _<_, min, max};
 ghost use lib.ListN.{length, getD};
 ghost use Rattle.sheet.specs.Table.{MISSING as GONE, libraryMost};
 ghost use Rattle.lanes.specs.Keys.{laneColumn};
-ghost use Rattle.board.specs.Lists.{at};
+ghost use Rattle.base.specs.Lists.{at};
 ghost use Rattle.board.specs.Board.{Board, field, sourceNode, targetNode};
 ghost use Rattle.board.specs.Groups.{Tap, anchorOf, crosses, crossesAt, sourceAnchor, targetAnchor, tapsOf};
 ghost use Rattle.board.specs.Demands.{laneIn, firstRow, lastRow, needsLane};
-ghost use Rattle.board.specs.Tables.{view, held, tapIn, tapTarget, flag, WireFacts};
+ghost use Rattle.base.specs.Views.{view};
+ghost use Rattle.board.specs.Tables.{held, tapIn, tapTarget, flag, WireFacts};
 ghost use Rattle.collect.specs.Collecting.{Indexes, relaned, headPage, GroupSums, Packable};
 ghost use Rattle.demands.specs.PagePlan.{PlanHeld};
 ghost use Rattle.demands.specs.PagePlan.{orderColumn, AddedDemand, PageDemands, PagePacked, GutterPacked, Surveyed, Collected, Room, BoardPlanned};
@@ -36,7 +39,7 @@ pub struct BoardPlan {
 }
 
 // Whether a wire that became a tap enters a chip or leaves one.
-fn wire_crosses(nodes: &[[u32; 16]], wire: [u32; 16], fact: [u32; 8]) -> bool
+fn wire_crosses(nodes: &[Record], wire: [u32; 16], fact: [u32; 8]) -> bool
     requires { ⌜ length (now nodes) ≤ libraryMost .nodes ⌝ }
     ensures { λ r. ⌜ ((b : Board) (w t : ℕ) → b .nodes ≡ now (nodes .entry) → getD (b .wires) w [] ≡ wire
         → getD fact 0 0 ≡ held (anchorOf b (sourceNode b w)) → getD fact 1 0 ≡ held (anchorOf b (targetNode b w)) → tapTarget b w ≡ at t
@@ -88,7 +91,7 @@ fn with_tap(row: [u32; 8], tap: [u32; 8], crosses: bool) -> [u32; 8]
 }
 
 // The rows of groups without a tap.
-fn clear_groups(n: usize, groups: &mut [[u32; 8]])
+fn clear_groups(n: usize, groups: &mut [WorkRow])
     requires { ⌜ n ≤ length (now groups) ⌝ }
     ensures { λ _. ⌜ ((g : ℕ) → g < n → getD (now (groups .exit)) g [] ≡ GONE ∷ 0 ∷ 0 ∷ 0 ∷ GONE ∷ GONE ∷ 0 ∷ 0 ∷ []) ⌝ }
 {
@@ -101,12 +104,12 @@ fn clear_groups(n: usize, groups: &mut [[u32; 8]])
 
 // Adds each tap to its group's row.
 fn sum_taps(
-    nodes: &[[u32; 16]],
-    wires: &[[u32; 16]],
-    wire_facts: &[[u32; 8]],
-    taps: &[[u32; 8]],
+    nodes: &[Record],
+    wires: &[Record],
+    wire_facts: &[WorkRow],
+    taps: &[WorkRow],
     m: usize,
-    groups: &mut [[u32; 8]],
+    groups: &mut [WorkRow],
 )
     requires { ⌜ (m ≤ length (now taps)) × (m ≤ libraryMost .wires) × (length (now nodes) ≤ libraryMost .nodes) × (length (now wires) ≤ length (now «wire_facts»)) × (length (now wires) ≤ length (now groups)) ⌝ }
     requires { ⌜ ((k : ℕ) → k < m → (field (now taps) k 1 < length (now wires)) × (field (now taps) k 7 < length (now wires))) ⌝ }
@@ -126,7 +129,7 @@ fn sum_taps(
 }
 
 // D1: taps on several rows, a wire that crosses, or a bus-worthy source.
-fn needs_lane(nodes: &[[u32; 16]], source: u32, row: [u32; 8]) -> bool
+fn needs_lane(nodes: &[Record], source: u32, row: [u32; 8]) -> bool
     ensures { λ r. ⌜ ((b : Board) (g : ℕ) → b .nodes ≡ now (nodes .entry) → source ≡ sourceAnchor b g → source < length (now (nodes .entry))
         → ((ts : List Tap) → getD row 0 0 ≡ firstRow b ts g → getD row 1 0 ≡ lastRow b ts g
         → getD row 3 0 ≡ flag (crosses b ts g) → r ≡ needsLane b ts g)) ⌝ }
@@ -145,7 +148,7 @@ fn needs_lane(nodes: &[[u32; 16]], source: u32, row: [u32; 8]) -> bool
 }
 
 // The page of a tap that is its group's first, where the group needs a lane; else MISSING.
-fn head_page(nodes: &[[u32; 16]], source: u32, tap: [u32; 8], row: [u32; 8]) -> u32
+fn head_page(nodes: &[Record], source: u32, tap: [u32; 8], row: [u32; 8]) -> u32
     ensures { λ r. ⌜ ((b : Board) (ts : List Tap) → b .nodes ≡ now (nodes .entry) → source ≡ sourceAnchor b (getD tap 1 0) → source < length (now (nodes .entry))
         → getD row 0 0 ≡ firstRow b ts (getD tap 1 0) → getD row 1 0 ≡ lastRow b ts (getD tap 1 0)
         → getD row 3 0 ≡ flag (crosses b ts (getD tap 1 0)) → r ≡ headPage b ts (tapIn tap)) ⌝ }
@@ -162,12 +165,12 @@ fn head_page(nodes: &[[u32; 16]], source: u32, tap: [u32; 8], row: [u32; 8]) -> 
 
 // Marks each tap with the page on which it asks for a lane.
 fn mark_heads(
-    nodes: &[[u32; 16]],
-    wires: &[[u32; 16]],
-    wire_facts: &[[u32; 8]],
-    taps: &[[u32; 8]],
+    nodes: &[Record],
+    wires: &[Record],
+    wire_facts: &[WorkRow],
+    taps: &[WorkRow],
     m: usize,
-    groups: &[[u32; 8]],
+    groups: &[WorkRow],
     marks: &mut [u32],
 )
     requires { ⌜ (m ≤ length (now taps)) × (m ≤ length (now marks)) × (length (now wires) ≤ length (now «wire_facts»)) × (length (now wires) ≤ length (now groups)) ⌝ }
@@ -197,9 +200,9 @@ fn demand_row(row: [u32; 8], group: u32) -> [u32; 8]
 fn add_demand(
     tap: [u32; 8],
     mark: u32,
-    groups: &[[u32; 8]],
+    groups: &[WorkRow],
     p: u32,
-    demands: &mut [[u32; 8]],
+    demands: &mut [WorkRow],
     n: usize,
 ) -> usize
     requires { ⌜ (n < length (now demands)) × (getD tap 1 0 < length (now groups)) ⌝ }
@@ -216,12 +219,12 @@ fn add_demand(
 
 // The demands of a page's groups, by rising first wire. Their count comes back.
 fn page_demands(
-    taps: &[[u32; 8]],
+    taps: &[WorkRow],
     marks: &[u32],
     m: usize,
-    groups: &[[u32; 8]],
+    groups: &[WorkRow],
     p: u32,
-    demands: &mut [[u32; 8]],
+    demands: &mut [WorkRow],
 ) -> usize
     requires { ⌜ (m ≤ length (now taps)) × (m ≤ length (now marks)) × (m ≤ length (now demands)) ⌝ }
     requires { ⌜ Packable (now taps) m (now groups) ⌝ }
@@ -245,7 +248,7 @@ fn with_lane(row: [u32; 8], lane: u32) -> [u32; 8]
 }
 
 // Writes the lane of each demand to its group's row.
-fn place_lanes(demands: &[[u32; 8]], groups: &mut [[u32; 8]])
+fn place_lanes(demands: &[WorkRow], groups: &mut [WorkRow])
     requires { ⌜ ((j : ℕ) → j < length (now demands) → field (now demands) j 3 < length (now groups)) ⌝ }
     ensures { λ _. ⌜ ((g : ℕ) → g < length (now (groups .entry))
         → getD (now (groups .exit)) g [] ≡ relaned (laneIn (map orderColumn (now (demands .entry))) (map laneColumn (now (demands .entry))) g) (getD (now (groups .entry)) g [])) ⌝ }
@@ -261,14 +264,14 @@ fn place_lanes(demands: &[[u32; 8]], groups: &mut [[u32; 8]])
 
 // Packs the demands of a page and gives its groups their lanes.
 fn plan_page(
-    taps: &[[u32; 8]],
+    taps: &[WorkRow],
     marks: &[u32],
     m: usize,
-    groups: &mut [[u32; 8]],
+    groups: &mut [WorkRow],
     p: u32,
-    demands: &mut [[u32; 8]],
-    keys: &mut [[u32; 8]],
-    spare: &mut [[u32; 8]],
+    demands: &mut [WorkRow],
+    keys: &mut [WorkRow],
+    spare: &mut [WorkRow],
 ) -> Packing
     requires { ⌜ (m ≤ libraryMost .wires) × (m ≤ length (now taps)) × (m ≤ length (now marks)) × (m ≤ length (now demands)) × (m ≤ length (now keys)) × (m ≤ length (now spare)) ⌝ }
     requires { ⌜ Packable (now taps) m (now groups) ⌝ }
@@ -287,14 +290,14 @@ fn plan_page(
 // The same, but a page without min_y gets no lanes.
 fn plan_gutter(
     page: [u32; 16],
-    taps: &[[u32; 8]],
+    taps: &[WorkRow],
     marks: &[u32],
     m: usize,
-    groups: &mut [[u32; 8]],
+    groups: &mut [WorkRow],
     p: u32,
-    demands: &mut [[u32; 8]],
-    keys: &mut [[u32; 8]],
-    spare: &mut [[u32; 8]],
+    demands: &mut [WorkRow],
+    keys: &mut [WorkRow],
+    spare: &mut [WorkRow],
 ) -> Packing
     requires { ⌜ (m ≤ libraryMost .wires) × (m ≤ length (now taps)) × (m ≤ length (now marks)) × (m ≤ length (now demands)) × (m ≤ length (now keys)) × (m ≤ length (now spare)) ⌝ }
     requires { ⌜ Packable (now taps) m (now groups) ⌝ }
@@ -308,15 +311,15 @@ fn plan_gutter(
 
 // Plans the pages in turn, up to the first that is crowded.
 fn plan_pages(
-    pages: &[[u32; 16]],
-    taps: &[[u32; 8]],
+    pages: &[Record],
+    taps: &[WorkRow],
     marks: &[u32],
     m: usize,
-    groups: &mut [[u32; 8]],
-    page_facts: &mut [[u32; 8]],
-    demands: &mut [[u32; 8]],
-    keys: &mut [[u32; 8]],
-    spare: &mut [[u32; 8]],
+    groups: &mut [WorkRow],
+    page_facts: &mut [WorkRow],
+    demands: &mut [WorkRow],
+    keys: &mut [WorkRow],
+    spare: &mut [WorkRow],
 ) -> Plan
     requires { ⌜ (m ≤ libraryMost .wires) × (m ≤ length (now taps)) × (m ≤ length (now marks)) × (m ≤ length (now demands)) × (m ≤ length (now keys)) × (m ≤ length (now spare))
         × (length (now pages) ≤ libraryMost .pages) × (length (now pages) ≤ length (now «page_facts»)) ⌝ }
@@ -348,17 +351,17 @@ fn plan_pages(
 
 // The lanes of all groups: what each group's taps add up to, which of them ask for a lane, and then page by page.
 fn plan_lanes(
-    pages: &[[u32; 16]],
-    nodes: &[[u32; 16]],
-    wires: &[[u32; 16]],
-    wire_facts: &[[u32; 8]],
-    taps: &[[u32; 8]],
+    pages: &[Record],
+    nodes: &[Record],
+    wires: &[Record],
+    wire_facts: &[WorkRow],
+    taps: &[WorkRow],
     m: usize,
-    groups: &mut [[u32; 8]],
-    page_facts: &mut [[u32; 8]],
-    demands: &mut [[u32; 8]],
-    keys: &mut [[u32; 8]],
-    spare: &mut [[u32; 8]],
+    groups: &mut [WorkRow],
+    page_facts: &mut [WorkRow],
+    demands: &mut [WorkRow],
+    keys: &mut [WorkRow],
+    spare: &mut [WorkRow],
 ) -> Plan
     requires { ⌜ ((b : Board) × Collected b (now pages) (now nodes) (now wires) (now «wire_facts») (now taps) m) ⌝ }
     requires { ⌜ (length (now pages) ≤ libraryMost .pages) × (length (now nodes) ≤ libraryMost .nodes) × (length (now wires) ≤ libraryMost .wires) × (m ≤ length (now wires)) × (m ≤ length (now taps))
@@ -386,26 +389,26 @@ fn plan_lanes(
 
 // Plans a board: its rows, its groups and its lanes.
 pub fn plan_board(
-    pages: &[[u32; 16]],
-    nodes: &[[u32; 16]],
-    chips: &[[u32; 16]],
-    inner: &[[u32; 16]],
-    execs: &[[u32; 16]],
-    wires: &[[u32; 16]],
+    pages: &[Record],
+    nodes: &[Record],
+    chips: &[Record],
+    inner: &[Record],
+    execs: &[Record],
+    wires: &[Record],
     body_ids: &[u32],
     body_nexts: &[u32],
     body_heads: &[u32],
     inner_ids: &[u32],
     inner_nexts: &[u32],
     inner_heads: &[u32],
-    node_facts: &mut [[u32; 8]],
-    wire_facts: &mut [[u32; 8]],
-    taps: &mut [[u32; 8]],
-    groups: &mut [[u32; 8]],
-    page_facts: &mut [[u32; 8]],
-    demands: &mut [[u32; 8]],
-    keys: &mut [[u32; 8]],
-    spare: &mut [[u32; 8]],
+    node_facts: &mut [WorkRow],
+    wire_facts: &mut [WorkRow],
+    taps: &mut [WorkRow],
+    groups: &mut [WorkRow],
+    page_facts: &mut [WorkRow],
+    demands: &mut [WorkRow],
+    keys: &mut [WorkRow],
+    spare: &mut [WorkRow],
 ) -> BoardPlan
     requires { ⌜ AcceptedNodes (now nodes) ⌝ }
     requires { ⌜ Indexes (now nodes) (now inner) (now «body_ids») (now «body_nexts») (now «body_heads») (now «inner_ids») (now «inner_nexts») (now «inner_heads») ⌝ }

@@ -10,13 +10,14 @@ use lib.Dec.{eqb, ltb}
 use lib.ListN.{length, getD, List·getD-eq-default}
 use borrow.Author.Tests.{eq-eqb, ne-eqb, eqb-true, eqb-false, lt-ltb, le-ltb, ltb-true, ltb-false}
 use Rattle.sheet.specs.Table.{MISSING}
-use Rattle.board.specs.Lists.{Found, none, at, any, keep, least}
+use Rattle.base.specs.Lists.{Found, none, at, any, keep, least}
 use Rattle.board.specs.Board.{Board, field, placed, hasRow, pageOf, xOf, sourceNode, sourcePort}
 use Rattle.board.specs.Rows.{rowOf}
 use Rattle.board.specs.Groups
 use Rattle.board.specs.Groups.{anchorOf, sourceAnchor, sourceRow, tapsIn}
 use Rattle.board.specs.Demands.{PageLanes, noLanes, laneOf, laneIn, laneY}
-use Rattle.board.specs.Tables.{held, view, tapIn, NodeFacts, WireFacts}
+use Rattle.base.specs.Views.{view}
+use Rattle.board.specs.Tables.{held, tapIn, NodeFacts, WireFacts}
 use Rattle.board.proofs.Newest.{pick-true, pick-false}
 use Rattle.routes.specs.Stops.{newGroup, newRow, newColumn}
 use Rattle.routes.specs.Levels.{Level, dropped, shared, own, laneFor}

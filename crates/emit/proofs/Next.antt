@@ -11,7 +11,8 @@ use lib.ListN.{length, getD}
 use Rattle.board.specs.Board.{Board, field}
 use Rattle.board.specs.Groups
 use Rattle.board.specs.Demands.{PageLanes}
-use Rattle.board.specs.Tables.{view, tapIn}
+use Rattle.base.specs.Views.{view}
+use Rattle.board.specs.Tables.{tapIn}
 use Rattle.board.proofs.Newest.{pick-true, pick-false}
 use Rattle.routes.specs.Stops.{newRow}
 use Rattle.routes.specs.Levels.{Stop, Level, stopsOf, stopFor, laneFor}

@@ -8,7 +8,7 @@ use lib.Dec.{eqb}
 use lib.ListN.{length, getD, set}
 use borrow.Author.Tests.{eq-eqb, ne-eqb}
 use Rattle.sheet.specs.Table.{MISSING}
-use Rattle.board.specs.Lists.{Found, none, at}
+use Rattle.base.specs.Lists.{Found, none, at}
 use Rattle.board.specs.Board.{Board, placed, xOf, yOf, targetNode, targetPort}
 use Rattle.board.specs.Rows.{rerouterCell}
 use Rattle.board.specs.Groups

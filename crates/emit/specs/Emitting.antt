@@ -6,12 +6,13 @@ use lib.Dec.{eqb, ltb}
 use mathlib.Core.List.{List, [], _∷_, List·Memᴰ}
 use lib.ListN.{length, getD, set}
 use Rattle.sheet.specs.Table.{MISSING}
-use Rattle.board.specs.Lists.{Found, none, at}
+use Rattle.base.specs.Lists.{Found, none, at}
 use Rattle.board.specs.Board.{Board, field, idOf, xOf, yOf, zOf, minYOf, sourceNode, sourcePort, targetNode, targetPort}
 use Rattle.board.specs.Groups
 use Rattle.board.specs.Groups.{sourceRow}
 use Rattle.board.specs.Demands.{PageLanes, noLanes, laneY}
-use Rattle.board.specs.Tables.{view, tapIn, NodeFacts, WireFacts}
+use Rattle.base.specs.Views.{view}
+use Rattle.board.specs.Tables.{tapIn, NodeFacts, WireFacts}
 use Rattle.routes.specs.Levels
 use Rattle.routes.specs.Levels.{laneFor, dropped, shared, own}
 use Rattle.routes.specs.Bus

@@ -1,10 +1,12 @@
 // What the walk over the taps holds, and the three places where it puts a brick: on the upstream feed, beside it as a tap, at the end of the row's chain.
 use crate::tables::Lane;
+use base::numbers::MISSING;
+use base::rows::BusWireRow;
+use base::rows::RerouterRow;
 use cells::place::place;
 use routes::bus::Brick;
 use routes::bus::BusCount;
 use routes::bus::Feed;
-use routes::bus::MISSING;
 ghost use mathlib.Core.Path.{_≡_};
 ghost use Rattle.routes.specs.Holding.{brickOf};
 ghost use Rattle.cells.specs.Placing.{OneOf};
@@ -71,8 +73,8 @@ pub(crate) fn row_brick(
 
 // A brick hung on the upstream feed, on which links and taps hang from then on.
 pub(crate) fn hang_on(
-    rerouters: &mut [[u32; 10]],
-    bus_wires: &mut [[u32; 6]],
+    rerouters: &mut [RerouterRow],
+    bus_wires: &mut [BusWireRow],
     nexts: &mut [u32],
     heads: &mut [u32],
     e: Emission,
@@ -99,8 +101,8 @@ pub(crate) fn hang_on(
 
 // A stop's tap, hung on the upstream feed: the row's chain begins there.
 pub(crate) fn tap_off(
-    rerouters: &mut [[u32; 10]],
-    bus_wires: &mut [[u32; 6]],
+    rerouters: &mut [RerouterRow],
+    bus_wires: &mut [BusWireRow],
     nexts: &mut [u32],
     heads: &mut [u32],
     e: Emission,
@@ -125,8 +127,8 @@ pub(crate) fn tap_off(
 
 // A brick chained to the end of the row's chain.
 pub(crate) fn chain_on(
-    rerouters: &mut [[u32; 10]],
-    bus_wires: &mut [[u32; 6]],
+    rerouters: &mut [RerouterRow],
+    bus_wires: &mut [BusWireRow],
     nexts: &mut [u32],
     heads: &mut [u32],
     e: Emission,

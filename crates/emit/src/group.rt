@@ -5,18 +5,23 @@ use crate::chain::hang_on;
 use crate::chain::lane_brick;
 use crate::chain::row_brick;
 use crate::tables::Lane;
+use base::numbers::MISSING;
+use base::numbers::PART_HEAD;
+use base::rows::BusWireRow;
+use base::rows::Record;
+use base::rows::RerouterRow;
+use base::rows::WorkRow;
 use cells::cells::column_free;
 use cells::cells::row_clear;
 use routes::bus::End;
 use routes::bus::Feed;
-use routes::bus::MISSING;
 ghost use mathlib.Core.Path.{_≡_};
 ghost use mathlib.Core.List.{List};
 ghost use lib.ListN.{length};
 ghost use Rattle.board.specs.Board.{Board};
 ghost use Rattle.board.specs.Groups.{Tap as LaidTap};
 ghost use Rattle.board.specs.Demands.{PageLanes};
-ghost use Rattle.board.specs.Tables.{view};
+ghost use Rattle.base.specs.Views.{view};
 ghost use Rattle.routes.specs.Tables.{stopIn};
 ghost use Rattle.cells.specs.Chains.{Walkable, stopBucket, nodeBucket};
 ghost use Rattle.routes.specs.Rerouters.{withSource, startGroup};
@@ -25,8 +30,6 @@ ghost use Rattle.emit.specs.Emitting.{Ready, Spends, Becomes, Knows, Lan
 const ROLE_SOURCE: u32 = 2;
 
 const PART_SOURCE: u32 = 1;
-
-const PART_HEAD: u32 = 2;
 
 // The emission where a group begins: at its port.
 fn at_port(e: Emission, l: Lane) -> Emission
@@ -53,12 +56,12 @@ fn at_port(e: Emission, l: Lane) -> Emission
 
 // R6: a source rerouter, where there is a source row and it is clear of that.
 fn with_source(
-    nodes: &[[u32; 16]],
-    facts: &[[u32; 8]],
+    nodes: &[Record],
+    facts: &[WorkRow],
     node_nexts: &[u32],
     node_heads: &[u32],
-    rerouters: &mut [[u32; 10]],
-    bus_wires: &mut [[u32; 6]],
+    rerouters: &mut [RerouterRow],
+    bus_wires: &mut [BusWireRow],
     nexts: &mut [u32],
     heads: &mut [u32],
     e: Emission,
@@ -106,16 +109,16 @@ fn with_source(
 
 // R5: a group begins at its port, with a head where the source is placed and the span there unclaimed.
 pub(crate) fn start_group(
-    nodes: &[[u32; 16]],
-    facts: &[[u32; 8]],
+    nodes: &[Record],
+    facts: &[WorkRow],
     node_nexts: &[u32],
     node_heads: &[u32],
-    stops: &[[u32; 8]],
+    stops: &[WorkRow],
     claim_nexts: &[u32],
     claim_heads: &[u32],
     claims: usize,
-    rerouters: &mut [[u32; 10]],
-    bus_wires: &mut [[u32; 6]],
+    rerouters: &mut [RerouterRow],
+    bus_wires: &mut [BusWireRow],
     nexts: &mut [u32],
     heads: &mut [u32],
     e: Emission,

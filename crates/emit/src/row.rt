@@ -4,6 +4,11 @@ use crate::chain::hang_on;
 use crate::chain::lane_brick;
 use crate::chain::tap_off;
 use crate::tables::Lane;
+use base::numbers::PART_LINK;
+use base::numbers::REROUTER_SIZE;
+use base::rows::BusWireRow;
+use base::rows::RerouterRow;
+use base::rows::WorkRow;
 use cells::cells::column_free;
 use routes::levels::Level;
 ghost use mathlib.Core.Path.{_≡_};
@@ -13,27 +18,23 @@ ghost use lib.ListN.{length};
 ghost use Rattle.board.specs.Board.{Board};
 ghost use Rattle.board.specs.Groups.{Tap as LaidTap};
 ghost use Rattle.board.specs.Demands.{PageLanes};
-ghost use Rattle.board.specs.Tables.{view};
+ghost use Rattle.base.specs.Views.{view};
 ghost use Rattle.routes.specs.Tables.{stopIn};
 ghost use Rattle.cells.specs.Chains.{Walkable, stopBucket};
 ghost use Rattle.routes.specs.Rerouters.{withLink, startRow};
 ghost use Rattle.routes.specs.Holding.{stopLevelOf};
 ghost use Rattle.emit.specs.Emitting.{Ready, Spends, Becomes, LaneRanges, LaneOf, sharedTap, LevelRange};
 
-const REROUTER_SIZE: u32 = 2;
-
-const PART_LINK: u32 = 3;
-
 const PART_TAP: u32 = 4;
 
 // R8: a link, unless its span is claimed.
 fn with_link(
-    stops: &[[u32; 8]],
+    stops: &[WorkRow],
     claim_nexts: &[u32],
     claim_heads: &[u32],
     claims: usize,
-    rerouters: &mut [[u32; 10]],
-    bus_wires: &mut [[u32; 6]],
+    rerouters: &mut [RerouterRow],
+    bus_wires: &mut [BusWireRow],
     nexts: &mut [u32],
     heads: &mut [u32],
     e: Emission,
@@ -92,12 +93,12 @@ fn share_tap(e: Emission) -> Emission
 
 // R7: a level of its own has a link and a tap; one taken over goes by the tap of the stop it was taken from.
 pub(crate) fn start_row(
-    stops: &[[u32; 8]],
+    stops: &[WorkRow],
     claim_nexts: &[u32],
     claim_heads: &[u32],
     claims: usize,
-    rerouters: &mut [[u32; 10]],
-    bus_wires: &mut [[u32; 6]],
+    rerouters: &mut [RerouterRow],
+    bus_wires: &mut [BusWireRow],
     nexts: &mut [u32],
     heads: &mut [u32],
     e: Emission,

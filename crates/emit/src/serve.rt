@@ -6,8 +6,12 @@ use crate::chain::chain_on;
 use crate::chain::row_brick;
 use crate::tables::Lane;
 use crate::tables::Tap;
+use base::ids::NodeId;
+use base::rows::BusWireRow;
+use base::rows::Record;
+use base::rows::RerouterRow;
+use base::rows::WorkRow;
 use cells::cells::row_clear;
-use routes::bus::NodeId;
 use routes::bus::push_delivery;
 ghost use mathlib.Core.List.{List};
 ghost use Prim.Native.Nat.{_<_};
@@ -23,12 +27,12 @@ const PART_GATE_SIDE: u32 = 5;
 
 // R10: a gate-side rerouter, if it is clear of the row.
 fn with_gate_side(
-    nodes: &[[u32; 16]],
-    facts: &[[u32; 8]],
+    nodes: &[Record],
+    facts: &[WorkRow],
     node_nexts: &[u32],
     node_heads: &[u32],
-    rerouters: &mut [[u32; 10]],
-    bus_wires: &mut [[u32; 6]],
+    rerouters: &mut [RerouterRow],
+    bus_wires: &mut [BusWireRow],
     nexts: &mut [u32],
     heads: &mut [u32],
     e: Emission,
@@ -73,7 +77,7 @@ fn with_gate_side(
 }
 
 // R11: a delivery, from the end of the row's chain.
-fn deliver(bus_wires: &mut [[u32; 6]], e: Emission, t: Tap) -> Emission
+fn deliver(bus_wires: &mut [BusWireRow], e: Emission, t: Tap) -> Emission
     requires { ⌜ e .count .wires < length (now «bus_wires») ⌝ }
     ensures { λ r. ⌜ Delivered (now («bus_wires» .entry)) e t (now («bus_wires» .exit)) r ⌝ }
 {
@@ -91,12 +95,12 @@ fn deliver(bus_wires: &mut [[u32; 6]], e: Emission, t: Tap) -> Emission
 
 // A tap served: in a new column a gate-side rerouter first.
 pub(crate) fn serve(
-    nodes: &[[u32; 16]],
-    facts: &[[u32; 8]],
+    nodes: &[Record],
+    facts: &[WorkRow],
     node_nexts: &[u32],
     node_heads: &[u32],
-    rerouters: &mut [[u32; 10]],
-    bus_wires: &mut [[u32; 6]],
+    rerouters: &mut [RerouterRow],
+    bus_wires: &mut [BusWireRow],
     nexts: &mut [u32],
     heads: &mut [u32],
     e: Emission,

@@ -1,6 +1,10 @@
 // What the emission reads off the tables: a tap and its group's lane, what the tap begins, and the level of the stop that it reaches.
-use routes::bus::MISSING;
-use routes::bus::NodeId;
+use base::ids::NodeId;
+use base::numbers::BUS_BAND_GUTTER;
+use base::numbers::LANE_PITCH;
+use base::numbers::MISSING;
+use base::rows::Record;
+use base::rows::WorkRow;
 use routes::levels::Level;
 ghost use mathlib.Core.Path.{_≡_};
 ghost use mathlib.Core.Bool.{true};
@@ -8,7 +12,8 @@ ghost use mathlib.Core.List.{[]};
 ghost use Prim.Native.Nat.{_+_, _-_, _*_, _<_, _≤_};
 ghost use lib.ListN.{length, getD};
 ghost use Rattle.board.specs.Demands.{laneY};
-ghost use Rattle.board.specs.Tables.{view, tapIn};
+ghost use Rattle.base.specs.Views.{view};
+ghost use Rattle.board.specs.Tables.{tapIn};
 ghost use Rattle.routes.specs.Tables.{stopIn};
 ghost use Rattle.routes.specs.Holding.{stopLevelOf};
 ghost use Rattle.emit.specs.Emitting.{rotationOver, rowOnPage, LaneInRange, laneRead, tapRead, NewsOf, ReachedNext};
@@ -53,10 +58,6 @@ pub struct Reached {
     pub level: Level,
 }
 
-const BUS_BAND_GUTTER: u32 = 6;
-
-const LANE_PITCH: u32 = 2;
-
 // R2: the y of a lane, of so many lanes.
 fn lane_y(min_y: u32, lanes: u32, lane: u32) -> u32
     requires { ⌜ (lane ≤ lanes) × (6 + 2 * (lanes - lane) ≤ «min_y») ⌝ }
@@ -76,7 +77,7 @@ fn chain_rotation(x: u32, low: u32) -> u32
 }
 
 // G10: the row of the source anchor, where that stands on the page.
-fn source_row(nodes: &[[u32; 16]], facts: &[[u32; 8]], s: usize, page: u32) -> u32
+fn source_row(nodes: &[Record], facts: &[WorkRow], s: usize, page: u32) -> u32
     requires { ⌜ (s < length (now nodes)) × (s < length (now facts)) ⌝ }
     ensures { λ r. ⌜ r ≡ rowOnPage (now (nodes .entry)) (now (facts .entry)) s page ⌝ }
 {
@@ -88,13 +89,13 @@ fn source_row(nodes: &[[u32; 16]], facts: &[[u32; 8]], s: usize, page: u32) -> u
 
 // The lane of a tap's group.
 pub(crate) fn lane_of(
-    pages: &[[u32; 16]],
-    nodes: &[[u32; 16]],
-    wires: &[[u32; 16]],
-    facts: &[[u32; 8]],
-    ends: &[[u32; 8]],
-    groups: &[[u32; 8]],
-    page_facts: &[[u32; 8]],
+    pages: &[Record],
+    nodes: &[Record],
+    wires: &[Record],
+    facts: &[WorkRow],
+    ends: &[WorkRow],
+    groups: &[WorkRow],
+    page_facts: &[WorkRow],
     page: u32,
     group: u32,
 ) -> Lane
@@ -124,7 +125,7 @@ pub(crate) fn lane_of(
     }
 }
 
-pub(crate) fn tap_at(laid: &[[u32; 8]], k: usize) -> Tap
+pub(crate) fn tap_at(laid: &[WorkRow], k: usize) -> Tap
     requires { ⌜ k < length (now laid) ⌝ }
     ensures { λ r. ⌜ r ≡ tapRead (getD (now (laid .entry)) k []) ⌝ }
 {
@@ -141,7 +142,7 @@ pub(crate) fn tap_at(laid: &[[u32; 8]], k: usize) -> Tap
 }
 
 // What the k-th tap begins: it is compared with the one before it.
-pub(crate) fn news_at(laid: &[[u32; 8]], k: usize) -> News
+pub(crate) fn news_at(laid: &[WorkRow], k: usize) -> News
     requires { ⌜ k < length (now laid) ⌝ }
     ensures { λ r. ⌜ NewsOf (view tapIn (now (laid .entry)) k) (tapIn (getD (now (laid .entry)) k [])) r ⌝ }
 {
@@ -163,7 +164,7 @@ pub(crate) fn news_at(laid: &[[u32; 8]], k: usize) -> News
     }
 }
 
-fn level_at(stops: &[[u32; 8]], j: usize) -> Level
+fn level_at(stops: &[WorkRow], j: usize) -> Level
     requires { ⌜ j < length (now stops) ⌝ }
     ensures { λ r. ⌜ stopLevelOf r ≡ stopIn (getD (now (stops .entry)) j []) .level ⌝ }
 {
@@ -179,7 +180,7 @@ fn level_at(stops: &[[u32; 8]], j: usize) -> Level
 }
 
 // A new row reaches the next stop.
-pub(crate) fn reach(stops: &[[u32; 8]], reached: Reached, fresh: bool) -> Reached
+pub(crate) fn reach(stops: &[WorkRow], reached: Reached, fresh: bool) -> Reached
     requires { ⌜ (fresh ≡ true → reached .stops < length (now stops)) ⌝ }
     ensures { λ r. ⌜ ReachedNext (now (stops .entry)) reached fresh r ⌝ }
 {

@@ -6,13 +6,17 @@ use crate::serve::serve;
 use crate::tables::Lane;
 use crate::tables::News;
 use crate::tables::Tap;
+use base::rows::BusWireRow;
+use base::rows::Record;
+use base::rows::RerouterRow;
+use base::rows::WorkRow;
 use routes::levels::Level;
 ghost use mathlib.Core.List.{List};
 ghost use lib.ListN.{length};
 ghost use Rattle.board.specs.Board.{Board};
 ghost use Rattle.board.specs.Groups.{Tap as LaidTap};
 ghost use Rattle.board.specs.Demands.{PageLanes};
-ghost use Rattle.board.specs.Tables.{view};
+ghost use Rattle.base.specs.Views.{view};
 ghost use Rattle.routes.specs.Tables.{stopIn};
 ghost use Rattle.cells.specs.Chains.{Walkable, stopBucket, nodeBucket};
 ghost use Rattle.routes.specs.Holding.{stopLevelOf};
@@ -20,16 +24,16 @@ ghost use Rattle.emit.specs.Emitting.{Ready, Spends, Becomes, Knows, Lan
 
 // A new group and a new row begin before the tap is served.
 fn begin(
-    nodes: &[[u32; 16]],
-    facts: &[[u32; 8]],
+    nodes: &[Record],
+    facts: &[WorkRow],
     node_nexts: &[u32],
     node_heads: &[u32],
-    stops: &[[u32; 8]],
+    stops: &[WorkRow],
     claim_nexts: &[u32],
     claim_heads: &[u32],
     claims: usize,
-    rerouters: &mut [[u32; 10]],
-    bus_wires: &mut [[u32; 6]],
+    rerouters: &mut [RerouterRow],
+    bus_wires: &mut [BusWireRow],
     nexts: &mut [u32],
     heads: &mut [u32],
     e: Emission,
@@ -101,16 +105,16 @@ fn begin(
 
 // One tap: its group, its row, its column, its delivery.
 pub(crate) fn emit_tap(
-    nodes: &[[u32; 16]],
-    facts: &[[u32; 8]],
+    nodes: &[Record],
+    facts: &[WorkRow],
     node_nexts: &[u32],
     node_heads: &[u32],
-    stops: &[[u32; 8]],
+    stops: &[WorkRow],
     claim_nexts: &[u32],
     claim_heads: &[u32],
     claims: usize,
-    rerouters: &mut [[u32; 10]],
-    bus_wires: &mut [[u32; 6]],
+    rerouters: &mut [RerouterRow],
+    bus_wires: &mut [BusWireRow],
     nexts: &mut [u32],
     heads: &mut [u32],
     e: Emission,

@@ -6,11 +6,15 @@ use crate::tables::news_at;
 use crate::tables::reach;
 use crate::tables::tap_at;
 use crate::tap::emit_tap;
+use base::ids::NodeId;
+use base::rows::BusWireRow;
+use base::rows::Record;
+use base::rows::RerouterRow;
+use base::rows::WorkRow;
 use cells::cells::empty_heads;
 use routes::bus::BusCount;
 use routes::bus::End;
 use routes::bus::Feed;
-use routes::bus::NodeId;
 use routes::levels::Level;
 ghost use mathlib.Core.Path.{_≡_};
 ghost use mathlib.Core.List.{List, []};
@@ -19,7 +23,8 @@ ghost use lib.ListN.{length, getD};
 ghost use Rattle.board.specs.Board.{Board};
 ghost use Rattle.board.specs.Groups.{Tap as LaidTap};
 ghost use Rattle.board.specs.Demands.{PageLanes};
-ghost use Rattle.board.specs.Tables.{view, tapIn};
+ghost use Rattle.base.specs.Views.{view};
+ghost use Rattle.board.specs.Tables.{tapIn};
 ghost use Rattle.routes.specs.Tables.{stopIn};
 ghost use Rattle.cells.specs.Chains.{Walkable, stopBucket, nodeBucket};
 ghost use Rattle.routes.specs.Holding.{BusHeld, stopLevelOf};
@@ -34,23 +39,23 @@ pub struct Walk {
 
 // The k-th tap.
 fn emit_next(
-    pages: &[[u32; 16]],
-    nodes: &[[u32; 16]],
-    wires: &[[u32; 16]],
-    facts: &[[u32; 8]],
-    ends: &[[u32; 8]],
-    groups: &[[u32; 8]],
-    page_facts: &[[u32; 8]],
-    laid: &[[u32; 8]],
+    pages: &[Record],
+    nodes: &[Record],
+    wires: &[Record],
+    facts: &[WorkRow],
+    ends: &[WorkRow],
+    groups: &[WorkRow],
+    page_facts: &[WorkRow],
+    laid: &[WorkRow],
     k: usize,
-    stops: &[[u32; 8]],
+    stops: &[WorkRow],
     claims: usize,
     node_nexts: &[u32],
     node_heads: &[u32],
     claim_nexts: &[u32],
     claim_heads: &[u32],
-    rerouters: &mut [[u32; 10]],
-    bus_wires: &mut [[u32; 6]],
+    rerouters: &mut [RerouterRow],
+    bus_wires: &mut [BusWireRow],
     nexts: &mut [u32],
     heads: &mut [u32],
     w: Walk,
@@ -137,23 +142,23 @@ fn start() -> Walk
 
 // The lanes of all laid taps, in the order of laying.
 pub fn emit_lanes(
-    pages: &[[u32; 16]],
-    nodes: &[[u32; 16]],
-    wires: &[[u32; 16]],
-    facts: &[[u32; 8]],
-    ends: &[[u32; 8]],
-    groups: &[[u32; 8]],
-    page_facts: &[[u32; 8]],
-    laid: &[[u32; 8]],
+    pages: &[Record],
+    nodes: &[Record],
+    wires: &[Record],
+    facts: &[WorkRow],
+    ends: &[WorkRow],
+    groups: &[WorkRow],
+    page_facts: &[WorkRow],
+    laid: &[WorkRow],
     n: usize,
-    stops: &[[u32; 8]],
+    stops: &[WorkRow],
     claims: usize,
     node_nexts: &[u32],
     node_heads: &[u32],
     claim_nexts: &[u32],
     claim_heads: &[u32],
-    rerouters: &mut [[u32; 10]],
-    bus_wires: &mut [[u32; 6]],
+    rerouters: &mut [RerouterRow],
+    bus_wires: &mut [BusWireRow],
     nexts: &mut [u32],
     heads: &mut [u32],
 ) -> BusCount

@@ -4,7 +4,7 @@ use mathlib.Core.Path.{_≡_, refl, sym, subst}
 use mathlib.Core.Logic.{⊎-elim}
 use mathlib.Core.List.{List, [], List·Memᴰ as Mem, List·Memᴰ·cases-cons as cases, List·Memᴰ·not-nil as nowhere}
 use lib.ListN.{length}
-use Rattle.board.specs.Lists.{Found, none, at, fold, upto}
+use Rattle.base.specs.Lists.{Found, none, at, fold, upto}
 use Rattle.board.specs.Board.{Board, xOf, yOf, targetNode, targetPort}
 use Rattle.board.specs.Groups.{Tap, tapFor, addWire, tapsOf}
 use Rattle.board.specs.Tables.{tapTarget}

@@ -6,12 +6,12 @@ use mathlib.Core.Logic.{_⊎_, inl, inr}
 use mathlib.Core.Bool.{Bool, _&&_}
 use mathlib.Core.List.{List, [], _∷_, List·Memᴰ as Mem, List·Memᴰ·head as here, List·Memᴰ·tail as there, List·Memᴰ·cases-cons as cases, List·Memᴰ·not-nil as nowhere}
 use lib.Dec.{eqb, leb}
-use Rattle.board.specs.Lists.{Found, none, at, found}
+use Rattle.base.specs.Lists.{Found, none, at, found}
 use Rattle.board.specs.Board.{Board}
 use Rattle.board.specs.Rows.{rowTop}
 use Rattle.board.specs.Groups.{Tap}
 use Rattle.board.specs.Demands.{PageLanes}
-use Rattle.board.proofs.Lists.{never, byTest, byFound}
+use Rattle.base.proofs.Lists.{never, byTest, byFound}
 use Rattle.routes.specs.Stops.{newRow, near, stopX}
 use Rattle.routes.specs.Levels.{Stop, keptAt, previousStop, levelWithBase, lowest, lighter, lightest, levelsIn, STAGGER_STEP, freeLevel, loadAt, unclaimed, findLevel, ownLevel, levelOf, stopFor, stopsOf, laneFor}
 

@@ -8,7 +8,8 @@ use mathlib.Core.List.{List, []}
 use lib.Dec.{eqb}
 use lib.ListN.{length, getD, replicate, length-replicate, getD-replicate}
 use Rattle.board.specs.Board.{field}
-use Rattle.board.specs.Tables.{view, tapIn}
+use Rattle.base.specs.Views.{view}
+use Rattle.board.specs.Tables.{tapIn}
 use Rattle.board.proofs.Newest.{pick-true, pick-false}
 use Rattle.routes.specs.Stops.{newGroup}
 use Rattle.routes.specs.Plan.{groupCount}

@@ -9,19 +9,20 @@ use lib.Dec.{eqb}
 use lib.ListN.{length, getD, List·getD-eq-default}
 use borrow.Author.Tests.{ne-eqb}
 use Rattle.sheet.specs.Table.{MISSING}
-use Rattle.board.specs.Lists.{Found, none, at, found, greatest}
+use Rattle.base.specs.Lists.{Found, none, at, found, greatest}
 use Rattle.board.specs.Board.{Board, field, given, hasRow, pageOf, xOf, yOf, halfXOf, halfYOf, minYOf}
 use Rattle.board.specs.Groups.{Tap, tapsOf, tapsIn, sourceAnchor}
 use Rattle.board.specs.Demands.{PageLanes, noLanes, laneOf}
 use Rattle.board.specs.Tables
-use Rattle.board.specs.Tables.{held, view, tapIn, groupRow}
-use Rattle.board.proofs.Lists.{never, and-left}
-use Rattle.board.proofs.Members.{map-in, map-from, keep-from}
+use Rattle.base.specs.Views.{view}
+use Rattle.board.specs.Tables.{held, tapIn, groupRow}
+use Rattle.base.proofs.Lists.{never, and-left}
+use Rattle.base.proofs.Members.{map-in, map-from, keep-from}
 use Rattle.collect.proofs.RowLaws.{On, on-from, row-below}
 use Rattle.collect.proofs.TapLaws.{carried-row, carried-below}
 use Rattle.demands.proofs.GroupLaws.{Known, known, known-row, source-held, source-below, target-held, target-below, least-any, in-group}
 use Rattle.board.proofs.LanesFit.{planned-fits}
-use Rattle.board.proofs.Views.{view-mem, length-view}
+use Rattle.base.proofs.Views.{view-mem, length-view}
 use Rattle.routes.specs.Stops.{isLaid, laidTaps}
 use Rattle.routes.specs.Levels.{Level, dropped, shared, own, keptAt, stopsOf}
 use Rattle.routes.specs.Tables.{GroupFacts, stopIn}

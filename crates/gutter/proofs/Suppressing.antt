@@ -14,7 +14,7 @@ use Rattle.board.specs.Planning.{Planning, refused, lanesFor, planning, records
 use Rattle.board.specs.Accepted.{Accepted}
 use Rattle.board.proofs.Accepting.{sheet-accepted}
 use Rattle.board.specs.Walk.{WithinLibrary, countsIn}
-use Rattle.board.proofs.Lists.{never}
+use Rattle.base.proofs.Lists.{never}
 use Rattle.plan.specs.declared.Lent.{Lent}
 use Rattle.plan.specs.TextPlan.{LINE_MOST, hasRoom, fitsCounts, fitsLent, shortest, WorkLent, TablesHold}
 use Rattle.plan.proofs.Fitting.{Fits, fits-all, shortest-front}

@@ -7,7 +7,8 @@ use Rattle.board.specs.Board.{Board}
 use Rattle.board.specs.Accepted.{Accepted}
 use Rattle.board.specs.Groups.{tapsOf}
 use Rattle.board.specs.Demands.{PageLanes, planned, planLanes}
-use Rattle.board.specs.Tables.{NodeFacts, WireFacts, GroupFacts, PageFacts, view, tapIn}
+use Rattle.base.specs.Views.{view}
+use Rattle.board.specs.Tables.{NodeFacts, WireFacts, GroupFacts, PageFacts, tapIn}
 
 -- A planned board of an accepted sheet, as `plan_board` leaves it in tables, and room for what is laid on it.
 pub record LanesReady (b : Board) (ps : List PageLanes) (pages nodes wires nodeFacts wireFacts groups pageFacts taps : List (List ℕ)) (m : ℕ) (laid spare stops marks rerouters busWires : List (List ℕ)) : Type 0 where

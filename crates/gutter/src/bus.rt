@@ -1,6 +1,11 @@
 // `lay_bus`: the rerouters and bus wires of the lanes, and the ports that their deliveries suppress.
 use crate::laying::TextBus;
 use crate::laying::lay_text;
+use base::rows::BusWireRow;
+use base::rows::PortRow;
+use base::rows::Record;
+use base::rows::RerouterRow;
+use base::rows::WorkRow;
 use plan::ANSWERS_MOST;
 use plan::Lent;
 use plan::OUT_MOST;
@@ -53,19 +58,19 @@ pub fn lay_within(
     text: &[u8],
     most: Counts,
     lent: Lent,
-    rerouters: &mut [[u32; 10]],
-    bus_wires: &mut [[u32; 6]],
-    ports: &mut [[u32; 2]],
-    records: &mut [[u32; 16]],
-    node_facts: &mut [[u32; 8]],
-    wire_facts: &mut [[u32; 8]],
-    taps: &mut [[u32; 8]],
-    groups: &mut [[u32; 8]],
-    page_facts: &mut [[u32; 8]],
-    demands: &mut [[u32; 8]],
-    keys: &mut [[u32; 8]],
-    spare: &mut [[u32; 8]],
-    marks: &mut [[u32; 8]],
+    rerouters: &mut [RerouterRow],
+    bus_wires: &mut [BusWireRow],
+    ports: &mut [PortRow],
+    records: &mut [Record],
+    node_facts: &mut [WorkRow],
+    wire_facts: &mut [WorkRow],
+    taps: &mut [WorkRow],
+    groups: &mut [WorkRow],
+    page_facts: &mut [WorkRow],
+    demands: &mut [WorkRow],
+    keys: &mut [WorkRow],
+    spare: &mut [WorkRow],
+    marks: &mut [WorkRow],
 ) -> BusText
     requires { ⌜ WorkLent (lent .work) (length (now records)) (now «node_facts») (now «wire_facts») (now taps) (now groups) (now «page_facts») (now demands) (now keys) (now spare) ⌝ }
     requires { ⌜ WithinLibrary most × BusLent lent (now marks) (now rerouters) (now «bus_wires») × (lent .ports ≤ length (now ports)) ⌝ }
@@ -112,19 +117,19 @@ pub fn lay_within(
 // The lanes of a sheet's board, laid. Each slice of work space has a row for each record, the marks two.
 pub fn lay_bus(
     text: &[u8],
-    rerouters: &mut [[u32; 10]],
-    bus_wires: &mut [[u32; 6]],
-    ports: &mut [[u32; 2]],
-    records: &mut [[u32; 16]],
-    node_facts: &mut [[u32; 8]],
-    wire_facts: &mut [[u32; 8]],
-    taps: &mut [[u32; 8]],
-    groups: &mut [[u32; 8]],
-    page_facts: &mut [[u32; 8]],
-    demands: &mut [[u32; 8]],
-    keys: &mut [[u32; 8]],
-    spare: &mut [[u32; 8]],
-    marks: &mut [[u32; 8]],
+    rerouters: &mut [RerouterRow],
+    bus_wires: &mut [BusWireRow],
+    ports: &mut [PortRow],
+    records: &mut [Record],
+    node_facts: &mut [WorkRow],
+    wire_facts: &mut [WorkRow],
+    taps: &mut [WorkRow],
+    groups: &mut [WorkRow],
+    page_facts: &mut [WorkRow],
+    demands: &mut [WorkRow],
+    keys: &mut [WorkRow],
+    spare: &mut [WorkRow],
+    marks: &mut [WorkRow],
 ) -> BusPlan
     ensures { λ r. ⌜ BusCalled (layCall (now (text .entry)) (busFits (length (now (rerouters .entry))) (length (now («bus_wires» .entry))) (length (now (ports .entry))) (length (now (marks .entry)) / 2 ∷ length (now (records .entry)) ∷ length (now («node_facts» .entry)) ∷ length (now («wire_facts» .entry)) ∷ length (now (taps .entry)) ∷ length (now (groups .entry)) ∷ length (now («page_facts» .entry)) ∷ length (now (demands .entry)) ∷ length (now (keys .entry)) ∷ length (now (spare .entry)) ∷ [])))
         (now (rerouters .entry)) (now («bus_wires» .entry)) (now (ports .entry)) (now (rerouters .exit)) (now («bus_wires» .exit)) (now (ports .exit)) r ⌝ }

@@ -1,4 +1,8 @@
 // Lays the lanes of a planned board: its taps in the order of laying, their stops with levels, and then rerouters and bus wires.
+use base::rows::BusWireRow;
+use base::rows::Record;
+use base::rows::RerouterRow;
+use base::rows::WorkRow;
 use cells::cells::book_claims;
 use cells::cells::book_nodes;
 use emit::walk::emit_lanes;
@@ -12,7 +16,8 @@ ghost use lib.ListN.{length, getD};
 ghost use Rattle.board.specs.Board.{Board};
 ghost use Rattle.board.specs.Groups.{Tap};
 ghost use Rattle.board.specs.Demands.{PageLanes};
-ghost use Rattle.board.specs.Tables.{view, tapIn};
+ghost use Rattle.base.specs.Views.{view};
+ghost use Rattle.board.specs.Tables.{tapIn};
 ghost use Rattle.routes.specs.Stops.{newGroup};
 ghost use Rattle.routes.specs.Levels.{stopsOf};
 ghost use Rattle.routes.specs.Rerouters.{emit};
@@ -31,13 +36,13 @@ pub struct LanesLaid {
 
 // The stops of the laid taps, with their levels: how many there are.
 fn lay_levels(
-    wire_facts: &[[u32; 8]],
-    node_facts: &[[u32; 8]],
-    groups: &[[u32; 8]],
-    laid: &[[u32; 8]],
+    wire_facts: &[WorkRow],
+    node_facts: &[WorkRow],
+    groups: &[WorkRow],
+    laid: &[WorkRow],
     n: usize,
-    stops: &mut [[u32; 8]],
-    marks: &mut [[u32; 8]],
+    stops: &mut [WorkRow],
+    marks: &mut [WorkRow],
 ) -> usize
     requires { ⌜ LaidFits (now «wire_facts») (now «node_facts») (now groups) (now laid) n ⌝ }
     requires { ⌜ (n ≤ length (now stops)) × (2 * n ≤ length (now marks)) ⌝ }
@@ -62,19 +67,19 @@ fn lay_levels(
 
 // The rerouters and bus wires of the laid taps, with the board's bricks and the stops' claims chained.
 fn emit_laid(
-    pages: &[[u32; 16]],
-    nodes: &[[u32; 16]],
-    wires: &[[u32; 16]],
-    node_facts: &[[u32; 8]],
-    wire_facts: &[[u32; 8]],
-    groups: &[[u32; 8]],
-    page_facts: &[[u32; 8]],
-    laid: &[[u32; 8]],
+    pages: &[Record],
+    nodes: &[Record],
+    wires: &[Record],
+    node_facts: &[WorkRow],
+    wire_facts: &[WorkRow],
+    groups: &[WorkRow],
+    page_facts: &[WorkRow],
+    laid: &[WorkRow],
     n: usize,
-    stops: &[[u32; 8]],
+    stops: &[WorkRow],
     claims: usize,
-    rerouters: &mut [[u32; 10]],
-    bus_wires: &mut [[u32; 6]],
+    rerouters: &mut [RerouterRow],
+    bus_wires: &mut [BusWireRow],
 ) -> BusCount
     requires { ⌜ LaidInRange (now pages) (now nodes) (now wires) (now «node_facts») (now «wire_facts») (now groups) (now «page_facts») (now laid) n (now stops) claims ⌝ }
     requires { ⌜ (length (now nodes) ≤ 4096) × (length (now nodes) ≤ length (now «node_facts»)) × (claims ≤ n) × (n ≤ 8192) × (5 * n ≤ length (now rerouters)) × (6 * n ≤ length (now «bus_wires»)) ⌝ }
@@ -113,7 +118,7 @@ fn emit_laid(
 }
 
 // Whether the tap in row `k` is the first of its group.
-fn is_new_group(laid: &[[u32; 8]], k: usize) -> bool
+fn is_new_group(laid: &[WorkRow], k: usize) -> bool
     requires { ⌜ k < length (now laid) ⌝ }
     ensures { λ r. ⌜ r ≡ newGroup (view tapIn (now (laid .entry)) k) (tapIn (getD (now (laid .entry)) k [])) ⌝ }
 {
@@ -124,7 +129,7 @@ fn is_new_group(laid: &[[u32; 8]], k: usize) -> bool
 }
 
 // How many groups the laid taps are of: a group's taps follow one another.
-fn count_groups(laid: &[[u32; 8]], n: usize) -> usize
+fn count_groups(laid: &[WorkRow], n: usize) -> usize
     requires { ⌜ n ≤ length (now laid) ⌝ }
     ensures { λ r. ⌜ r ≡ groupCount (view tapIn (now (laid .entry)) n) ⌝ }
 {
@@ -142,21 +147,21 @@ fn count_groups(laid: &[[u32; 8]], n: usize) -> usize
 
 // What `lay_bus` lays for the lanes of a planned board.
 pub fn lay_lanes(
-    pages: &[[u32; 16]],
-    nodes: &[[u32; 16]],
-    wires: &[[u32; 16]],
-    node_facts: &[[u32; 8]],
-    wire_facts: &[[u32; 8]],
-    groups: &[[u32; 8]],
-    page_facts: &[[u32; 8]],
-    taps: &[[u32; 8]],
+    pages: &[Record],
+    nodes: &[Record],
+    wires: &[Record],
+    node_facts: &[WorkRow],
+    wire_facts: &[WorkRow],
+    groups: &[WorkRow],
+    page_facts: &[WorkRow],
+    taps: &[WorkRow],
     m: usize,
-    laid: &mut [[u32; 8]],
-    spare: &mut [[u32; 8]],
-    stops: &mut [[u32; 8]],
-    marks: &mut [[u32; 8]],
-    rerouters: &mut [[u32; 10]],
-    bus_wires: &mut [[u32; 6]],
+    laid: &mut [WorkRow],
+    spare: &mut [WorkRow],
+    stops: &mut [WorkRow],
+    marks: &mut [WorkRow],
+    rerouters: &mut [RerouterRow],
+    bus_wires: &mut [BusWireRow],
 ) -> LanesLaid
     requires { ⌜ ((b : Board) × (ps : List PageLanes) × LanesReady b ps (now pages) (now nodes) (now wires) (now «node_facts») (now «wire_facts») (now groups) (now «page_facts») (now taps) m (now laid) (now spare) (now stops) (now marks) (now rerouters) (now «bus_wires»)) ⌝ }
     ensures { λ r. ⌜ ((b : Board) (ps : List PageLanes) → LanesReady b ps (now (pages .entry)) (now (nodes .entry)) (now (wires .entry)) (now («node_facts» .entry)) (now («wire_facts» .entry)) (now (groups .entry)) (now («page_facts» .entry)) (now (taps .entry)) m (now (laid .entry)) (now (spare .entry)) (now (stops .entry)) (now (marks .entry)) (now (rerouters .entry)) (now («bus_wires» .entry))

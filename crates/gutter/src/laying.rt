@@ -1,6 +1,10 @@
 // From a sheet's text to the rerouters and bus wires of its lanes: every refusal, the lanes, and `lay_lanes` over the tables.
 use crate::lay::LanesLaid;
 use crate::lay::lay_lanes;
+use base::rows::BusWireRow;
+use base::rows::Record;
+use base::rows::RerouterRow;
+use base::rows::WorkRow;
 use plan::Lent;
 use plan::TextPlan;
 use plan::plan_text;
@@ -34,20 +38,20 @@ pub enum TextBus {
 
 // The lanes of a board whose records stand in rows, one section after the other.
 fn lay_rows(
-    records: &[[u32; 16]],
+    records: &[Record],
     counts: Counts,
     m: usize,
-    node_facts: &[[u32; 8]],
-    wire_facts: &[[u32; 8]],
-    taps: &[[u32; 8]],
-    groups: &[[u32; 8]],
-    page_facts: &[[u32; 8]],
-    laid: &mut [[u32; 8]],
-    stops: &mut [[u32; 8]],
-    spare: &mut [[u32; 8]],
-    marks: &mut [[u32; 8]],
-    rerouters: &mut [[u32; 10]],
-    bus_wires: &mut [[u32; 6]],
+    node_facts: &[WorkRow],
+    wire_facts: &[WorkRow],
+    taps: &[WorkRow],
+    groups: &[WorkRow],
+    page_facts: &[WorkRow],
+    laid: &mut [WorkRow],
+    stops: &mut [WorkRow],
+    spare: &mut [WorkRow],
+    marks: &mut [WorkRow],
+    rerouters: &mut [RerouterRow],
+    bus_wires: &mut [BusWireRow],
 ) -> LanesLaid
     requires { ⌜ ((b : Board) × (ps : List PageLanes) × RowsReady b ps (now records) counts (now «node_facts») (now «wire_facts») (now taps) (now groups) (now «page_facts») m (now laid) (now stops) (now spare) (now marks) (now rerouters) (now «bus_wires»)) ⌝ }
     ensures { λ r. ⌜ ((b : Board) (ps : List PageLanes) → RowsReady b ps (now (records .entry)) counts (now («node_facts» .entry)) (now («wire_facts» .entry)) (now (taps .entry)) (now (groups .entry)) (now («page_facts» .entry)) m (now (laid .entry)) (now (stops .entry)) (now (spare .entry)) (now (marks .entry)) (now (rerouters .entry)) (now («bus_wires» .entry))
@@ -84,18 +88,18 @@ pub fn lay_text(
     text: &[u8],
     most: Counts,
     lent: Lent,
-    records: &mut [[u32; 16]],
-    node_facts: &mut [[u32; 8]],
-    wire_facts: &mut [[u32; 8]],
-    taps: &mut [[u32; 8]],
-    groups: &mut [[u32; 8]],
-    page_facts: &mut [[u32; 8]],
-    demands: &mut [[u32; 8]],
-    keys: &mut [[u32; 8]],
-    spare: &mut [[u32; 8]],
-    marks: &mut [[u32; 8]],
-    rerouters: &mut [[u32; 10]],
-    bus_wires: &mut [[u32; 6]],
+    records: &mut [Record],
+    node_facts: &mut [WorkRow],
+    wire_facts: &mut [WorkRow],
+    taps: &mut [WorkRow],
+    groups: &mut [WorkRow],
+    page_facts: &mut [WorkRow],
+    demands: &mut [WorkRow],
+    keys: &mut [WorkRow],
+    spare: &mut [WorkRow],
+    marks: &mut [WorkRow],
+    rerouters: &mut [RerouterRow],
+    bus_wires: &mut [BusWireRow],
 ) -> TextBus
     requires { ⌜ WorkLent (lent .work) (length (now records)) (now «node_facts») (now «wire_facts») (now taps) (now groups) (now «page_facts») (now demands) (now keys) (now spare) ⌝ }
     requires { ⌜ WithinLibrary most × BusLent lent (now marks) (now rerouters) (now «bus_wires») ⌝ }

@@ -5,13 +5,13 @@ use Prim.Native.Nat.{ℕ, _≤_, _<_}
 use native.Mathlib.Omega.{arith}
 use lib.ListN.{length, getD, take, drop, replicate, length-map, length-replicate}
 use lib.Seq.{take-at, set-set}
-use Rattle.lanes.specs.Sort.{sortedRows}
+use Rattle.base.specs.Sort.{sortedRows}
 use Rattle.lanes.specs.Lanes.{Demand, entries, packed, laned}
 use Rattle.lanes.specs.LaneCall.{Sound, answerTo, answered}
 use Rattle.lanes.specs.Keys.{keyOf, demandOf, indexIn, lanesIn, spread, withLane, laneColumn, eachWith, resultOf, rowsAfter, Seated, PackedNumbers, PackedRows}
 use Rattle.lanes.specs.declared.pack.Packing.{Packing}
 use Rattle.lanes.specs.declared.pack.Packing.the-variants.{Lanes, Full}
-use Rattle.lanes.proofs.Every.{all-of, all-at}
+use Rattle.base.proofs.Every.{all-of, all-at}
 use Rattle.lanes.proofs.RankLaws.{seated-result, seated-covers}
 use Rattle.lanes.proofs.SpreadLaws.{Covers, lanes-front, length-lanes, spread-each, lane-column}
 

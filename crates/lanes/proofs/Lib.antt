@@ -1,12 +1,7 @@
-pub mod SortLaws
-pub mod Filling
-pub mod MergeLaws
-pub mod HalvesLaws
 pub mod FindLaws
 pub mod LaneLaws
 pub mod StepLaws
 pub mod PackLaws
-pub mod Every
 pub mod RankLaws
 pub mod SpreadLaws
 pub mod NumberLaws

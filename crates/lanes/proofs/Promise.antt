@@ -17,7 +17,7 @@ use Rattle.lanes.proofs.FindLaws.{first-here, first-past, first-within}
 use Rattle.lanes.proofs.LaneLaws.{endsBefore}
 use Rattle.lanes.proofs.PackLaws.{pack-seat, pack-full}
 use Rattle.lanes.proofs.RankLaws.{ranked-all, ranked-any, Distinct, ranked-distinct}
-use Rattle.lanes.proofs.Every.{All, Any, all-map, all-map₂, any-map₂, any-with}
+use Rattle.base.proofs.Every.{All, Any, all-map, all-map₂, any-map₂, any-with}
 
 record Seat : Type 0 where
   entry : Entry

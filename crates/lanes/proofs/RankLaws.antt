@@ -8,14 +8,14 @@ use native.Mathlib.Omega.{arith}
 use lib.Dec.{ltb}
 use lib.ListN.{length, getD}
 use borrow.Author.Tests.{ltb-false}
-use Rattle.lanes.specs.Sort.{lexLess, sorted, inserted, sortedRows}
+use Rattle.base.specs.Sort.{lexLess, sorted, inserted, sortedRows}
 use Rattle.lanes.specs.Lanes.{Demand, noDemand, Entry, entries, span, ahead, ranked, packIn}
 use Rattle.lanes.specs.LaneCall.{rowMost, countMost, faulty, Sound}
 use Rattle.lanes.specs.Keys.{keyOf, entryOf, lanesIn, resultOf, Seated}
-use Rattle.lanes.proofs.SortLaws.{lex-lt, lex-eq, lex-gt, Compared, below, same, above, compared, clash, inserted-past, inserted-here}
+use Rattle.base.proofs.SortLaws.{lex-lt, lex-eq, lex-gt, Compared, below, same, above, compared, clash, inserted-past, inserted-here}
 use Rattle.lanes.specs.declared.pack.Packing.{Packing}
 use Rattle.lanes.proofs.SpreadLaws.{Covers}
-use Rattle.lanes.proofs.Every.{All, Any, all-of, all-inserted, all-sorted, any-sorted, all-at, all-mapped, any-mapped, any-map, inserted-keys, Agrees}
+use Rattle.base.proofs.Every.{All, Any, all-of, all-inserted, all-sorted, any-sorted, all-at, all-mapped, any-mapped, any-map, inserted-keys, Agrees}
 
 -- what a demand that is not faulty keeps to
 pub record Allowed (d : Demand) : Type 0 where

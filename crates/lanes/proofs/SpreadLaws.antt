@@ -10,7 +10,7 @@ use lib.ListN.{length, getD, take, drop, set, replicate, length-set, length-repl
 use lib.Seq.{getD-set-same, getD-set-other, set-append-left, ext-getD, length-take-le, take-suc, take-all}
 use Rattle.lanes.specs.Keys.{indexIn, laneIn, spread, lanesIn, eachWith, laneColumn, withLane}
 use Rattle.lanes.proofs.PackLaws.{spread-last}
-use Rattle.lanes.proofs.Every.{All, Any}
+use Rattle.base.proofs.Every.{All, Any}
 
 -- key rows that have every index below n and no other
 pub record Covers (n : ℕ) (ks : List (List ℕ)) : Type 0 where

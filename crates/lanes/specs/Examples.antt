@@ -2,7 +2,7 @@
 use mathlib.Core.Path.{_≡_, refl}
 use mathlib.Core.List.{List, [], _∷_, map}
 use Prim.Native.Nat.{ℕ}
-use Rattle.lanes.specs.Sort.{inserted, sorted, lexLess}
+use Rattle.base.specs.Sort.{inserted, sorted, lexLess}
 use Rattle.lanes.specs.Lanes.{Demand, entries, ahead, ranked, firstThat, laneFor, withTenant, laned, packIn, packed}
 
 -- demands, and the lanes that they get

@@ -4,7 +4,7 @@ use mathlib.Core.Bool.{Bool, true, false}
 use mathlib.Core.List.{List, [], _∷_}
 use lib.Dec.{ltb}
 use lib.ListN.{length, set, replicate}
-use Rattle.lanes.specs.Sort.{sorted, lexLess}
+use Rattle.base.specs.Sort.{sorted, lexLess}
 
 -- L4: the entries of a page's lane table
 abbrev pub laneMost : ℕ

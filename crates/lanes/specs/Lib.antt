@@ -1,4 +1,3 @@
-pub mod Sort
 pub mod Lanes
 pub mod LaneCall
 pub mod Keys

@@ -1,8 +1,9 @@
 // Lanes of a page's gutter (`layout/bus.rs`, `allocate_lanes`): demands in the order of L2, each into its lane by L3. Here is the lane call
-// with its refusals; `pack` has the packing, `rows` the same over a table's rows, `sort` the sort and `table` the lane table.
+// with its refusals; `pack` has the packing, `rows` the same over a table's rows and `table` the lane table.
+use base::rows::WorkRow;
+
 pub mod pack;
 pub mod rows;
-pub mod sort;
 pub mod table;
 
 ghost use mathlib.Core.Path.{_≡_};
@@ -91,7 +92,7 @@ fn first_fault(demands: &[u32], n: usize) -> usize
 }
 
 // Writes each demand's key row.
-fn keys_of_numbers(demands: &[u32], keys: &mut [[u32; 8]])
+fn keys_of_numbers(demands: &[u32], keys: &mut [WorkRow])
     requires { ⌜ (length (now keys) ≡ length (now demands) / 4) × (length (now keys) ≤ demandMost) × Sound (demandsOf (now demands)) ⌝ }
     ensures { λ _. ⌜ now (keys .exit) ≡ map keyOf (entries 0 (demandsOf (now (demands .entry)))) ⌝ }
 {
@@ -103,7 +104,7 @@ fn keys_of_numbers(demands: &[u32], keys: &mut [[u32; 8]])
 }
 
 // Writes each key row's lane at its index.
-fn lanes_to_numbers(keys: &[[u32; 8]], lanes: &mut [u32])
+fn lanes_to_numbers(keys: &[WorkRow], lanes: &mut [u32])
     requires { ⌜ ((k : ℕ) → k < length (now keys) → indexIn (getD (now keys) k []) < length (now lanes)) ⌝ }
     ensures { λ _. ⌜ now (lanes .exit) ≡ lanesIn (now (keys .entry)) (now (lanes .entry)) ⌝ }
 {
@@ -120,8 +121,8 @@ fn lanes_to_numbers(keys: &[[u32; 8]], lanes: &mut [u32])
 fn packed_numbers(
     demands: &[u32],
     lanes: &mut [u32],
-    keys: &mut [[u32; 8]],
-    spare: &mut [[u32; 8]],
+    keys: &mut [WorkRow],
+    spare: &mut [WorkRow],
 ) -> Packing
     requires { ⌜ (length (now keys) ≡ length (now demands) / 4) × (length (now keys) ≤ demandMost) × Sound (demandsOf (now demands)) ⌝ }
     requires { ⌜ (length (now keys) ≤ length (now lanes)) × (length (now keys) ≤ length (now spare)) ⌝ }
@@ -142,8 +143,8 @@ fn packed_numbers(
 pub fn allocate_lanes(
     demands: &[u32],
     lanes: &mut [u32],
-    work: &mut [[u32; 8]],
-    spare: &mut [[u32; 8]],
+    work: &mut [WorkRow],
+    spare: &mut [WorkRow],
 ) -> Allocation
     ensures { λ r. ⌜ Answered (now (demands .entry)) (now (lanes .entry)) (now (lanes .exit)) (length (now (work .entry))) (length (now (spare .entry))) (reportOf r) ⌝ }
 {

@@ -1,16 +1,17 @@
 // Packing demands into lanes over key rows: rank by span, rank by consumers, order, index, first row, last row, consumers, lane.
+use base::rows::WorkRow;
 ghost use mathlib.Core.Path.{_≡_};
 ghost use mathlib.Core.Bool.{false};
 ghost use Prim.Native.Nat.{_≤_};
 ghost use lib.ListN.{length, set};
 ghost use Rattle.lanes.specs.LaneCall.{faulty};
-ghost use Rattle.lanes.specs.Sort.{sortedRows};
+ghost use Rattle.base.specs.Sort.{sortedRows};
 ghost use Rattle.lanes.specs.Keys.{keyOf, demandIn, indexIn, laneIn, Seated};
-use crate::sort::sort_rows;
 use crate::table::LANE_MOST;
 use crate::table::LaneTable;
 use crate::table::Seat;
 use crate::table::take_lane;
+use base::sort::sort_rows;
 
 // The most of a demand's rows, and of its consumers and order.
 pub(crate) const ROW_MOST: u32 = 4095;
@@ -65,7 +66,7 @@ fn with_lane(key: [u32; 8], lane: u32) -> [u32; 8]
 }
 
 // Gives each key row in turn its lane, in its last column.
-fn seat_keys(keys: &mut [[u32; 8]]) -> Packing
+fn seat_keys(keys: &mut [WorkRow]) -> Packing
     ensures { λ r. ⌜ Seated (now (keys .entry)) (now (keys .exit)) r ⌝ }
 {
     let mut table = LaneTable {
@@ -88,7 +89,7 @@ fn seat_keys(keys: &mut [[u32; 8]]) -> Packing
 }
 
 // Sorts the key rows and gives each its lane.
-pub(crate) fn pack_keys(keys: &mut [[u32; 8]], spare: &mut [[u32; 8]]) -> Packing
+pub(crate) fn pack_keys(keys: &mut [WorkRow], spare: &mut [WorkRow]) -> Packing
     requires { ⌜ length (now keys) ≤ length (now spare) ⌝ }
     ensures { λ r. ⌜ Seated (sortedRows (now (keys .entry))) (now (keys .exit)) r ⌝ }
 {

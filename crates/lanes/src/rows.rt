@@ -1,4 +1,5 @@
 // The row form: demands in the first four columns of a table's rows, their lanes into the fifth. The other columns are left alone.
+use base::rows::WorkRow;
 ghost use mathlib.Core.Path.{_≡_};
 ghost use mathlib.Core.List.{[], map};
 ghost use Prim.Native.Nat.{ℕ, _≤_, _<_};
@@ -25,7 +26,7 @@ fn demand_in(row: [u32; 8]) -> BusDemand
 }
 
 // Writes each row's key row.
-fn keys_of_rows(demands: &[[u32; 8]], keys: &mut [[u32; 8]])
+fn keys_of_rows(demands: &[WorkRow], keys: &mut [WorkRow])
     requires { ⌜ (length (now keys) ≡ length (now demands)) × (length (now keys) ≤ demandMost) × Sound (map demandOf (now demands)) ⌝ }
     ensures { λ _. ⌜ KeyRows (now (demands .entry)) (now (keys .exit)) ⌝ }
 {
@@ -37,7 +38,7 @@ fn keys_of_rows(demands: &[[u32; 8]], keys: &mut [[u32; 8]])
 }
 
 // Writes each key row's lane into the row at its index.
-fn lanes_to_rows(keys: &[[u32; 8]], demands: &mut [[u32; 8]])
+fn lanes_to_rows(keys: &[WorkRow], demands: &mut [WorkRow])
     requires { ⌜ ((k : ℕ) → k < length (now keys) → indexIn (getD (now keys) k []) < length (now demands)) ⌝ }
     ensures { λ _. ⌜ now (demands .exit) ≡ spread withLane [] (now (keys .entry)) (now (demands .entry)) ⌝ }
 {
@@ -51,7 +52,7 @@ fn lanes_to_rows(keys: &[[u32; 8]], demands: &mut [[u32; 8]])
 }
 
 // Packs the demands of the rows, with as many key rows.
-fn packed_rows(demands: &mut [[u32; 8]], keys: &mut [[u32; 8]], spare: &mut [[u32; 8]]) -> Packing
+fn packed_rows(demands: &mut [WorkRow], keys: &mut [WorkRow], spare: &mut [WorkRow]) -> Packing
     requires { ⌜ (length (now keys) ≡ length (now demands)) × (length (now keys) ≤ demandMost) × Sound (map demandOf (now demands)) ⌝ }
     requires { ⌜ length (now keys) ≤ length (now spare) ⌝ }
     ensures { λ r. ⌜ PackedRows (now (demands .entry)) (now (demands .exit)) r ⌝ }
@@ -68,7 +69,7 @@ fn packed_rows(demands: &mut [[u32; 8]], keys: &mut [[u32; 8]], spare: &mut [[u3
 
 // Packs demands that are not faulty: row i has its first row, last row, consumers and order in columns 0 to 3. Where each has a
 // lane it goes to column 4; else the rows are as they were. `keys` and `spare` are work space of a row a demand each.
-pub fn pack_rows(demands: &mut [[u32; 8]], keys: &mut [[u32; 8]], spare: &mut [[u32; 8]]) -> Packing
+pub fn pack_rows(demands: &mut [WorkRow], keys: &mut [WorkRow], spare: &mut [WorkRow]) -> Packing
     requires { ⌜ (length (now demands) ≤ demandMost) × Sound (map demandOf (now demands)) ⌝ }
     requires { ⌜ (length (now demands) ≤ length (now keys)) × (length (now demands) ≤ length (now spare)) ⌝ }
     ensures { λ r. ⌜ PackedRows (now (demands .entry)) (now (demands .exit)) r ⌝ }

@@ -1,4 +1,10 @@
 // The calls for C and Rust: the answer as a struct of numbers.
+use base::rows::BusWireRow;
+use base::rows::PageRow;
+use base::rows::PortRow;
+use base::rows::Record;
+use base::rows::RerouterRow;
+use base::rows::WorkRow;
 use gutter::bus::BusPlan;
 use gutter::bus::lay_bus;
 use router::route::route;
@@ -24,19 +30,19 @@ pub struct PlanNumbers {
 #[no_mangle]
 pub extern "C" fn pz_lay_bus(
     text: &[u8],
-    rerouters: &mut [[u32; 10]],
-    bus_wires: &mut [[u32; 6]],
-    ports: &mut [[u32; 2]],
-    records: &mut [[u32; 16]],
-    node_facts: &mut [[u32; 8]],
-    wire_facts: &mut [[u32; 8]],
-    taps: &mut [[u32; 8]],
-    groups: &mut [[u32; 8]],
-    page_facts: &mut [[u32; 8]],
-    demands: &mut [[u32; 8]],
-    keys: &mut [[u32; 8]],
-    spare: &mut [[u32; 8]],
-    marks: &mut [[u32; 8]],
+    rerouters: &mut [RerouterRow],
+    bus_wires: &mut [BusWireRow],
+    ports: &mut [PortRow],
+    records: &mut [Record],
+    node_facts: &mut [WorkRow],
+    wire_facts: &mut [WorkRow],
+    taps: &mut [WorkRow],
+    groups: &mut [WorkRow],
+    page_facts: &mut [WorkRow],
+    demands: &mut [WorkRow],
+    keys: &mut [WorkRow],
+    spare: &mut [WorkRow],
+    marks: &mut [WorkRow],
 ) -> PlanNumbers
     ensures { λ r. ⌜ InNumbers planNumbers (BusCalled (layCall (now (text .entry)) (busFits (length (now (rerouters .entry))) (length (now («bus_wires» .entry))) (length (now (ports .entry))) (length (now (marks .entry)) / 2 ∷ length (now (records .entry)) ∷ length (now («node_facts» .entry)) ∷ length (now («wire_facts» .entry)) ∷ length (now (taps .entry)) ∷ length (now (groups .entry)) ∷ length (now («page_facts» .entry)) ∷ length (now (demands .entry)) ∷ length (now (keys .entry)) ∷ length (now (spare .entry)) ∷ [])))
         (now (rerouters .entry)) (now («bus_wires» .entry)) (now (ports .entry)) (now (rerouters .exit)) (now («bus_wires» .exit)) (now (ports .exit))) r ⌝ }
@@ -84,20 +90,20 @@ pub extern "C" fn pz_lay_bus(
 #[no_mangle]
 pub extern "C" fn pz_route(
     text: &[u8],
-    rerouters: &mut [[u32; 10]],
-    bus_wires: &mut [[u32; 6]],
-    ports: &mut [[u32; 2]],
-    answers: &mut [[u32; 2]],
-    records: &mut [[u32; 16]],
-    node_facts: &mut [[u32; 8]],
-    wire_facts: &mut [[u32; 8]],
-    taps: &mut [[u32; 8]],
-    groups: &mut [[u32; 8]],
-    page_facts: &mut [[u32; 8]],
-    demands: &mut [[u32; 8]],
-    keys: &mut [[u32; 8]],
-    spare: &mut [[u32; 8]],
-    marks: &mut [[u32; 8]],
+    rerouters: &mut [RerouterRow],
+    bus_wires: &mut [BusWireRow],
+    ports: &mut [PortRow],
+    answers: &mut [PageRow],
+    records: &mut [Record],
+    node_facts: &mut [WorkRow],
+    wire_facts: &mut [WorkRow],
+    taps: &mut [WorkRow],
+    groups: &mut [WorkRow],
+    page_facts: &mut [WorkRow],
+    demands: &mut [WorkRow],
+    keys: &mut [WorkRow],
+    spare: &mut [WorkRow],
+    marks: &mut [WorkRow],
 ) -> PlanNumbers
     ensures { λ r. ⌜ InNumbers planNumbers (PlanCalled (routeCall (now (text .entry)) (planFits (length (now (rerouters .entry))) (length (now («bus_wires» .entry))) (length (now (ports .entry))) (length (now (answers .entry))) (length (now (marks .entry)) / 2 ∷ length (now (records .entry)) ∷ length (now («node_facts» .entry)) ∷ length (now («wire_facts» .entry)) ∷ length (now (taps .entry)) ∷ length (now (groups .entry)) ∷ length (now («page_facts» .entry)) ∷ length (now (demands .entry)) ∷ length (now (keys .entry)) ∷ length (now (spare .entry)) ∷ [])))
         (now (rerouters .entry)) (now («bus_wires» .entry)) (now (ports .entry)) (now (answers .entry)) (now (rerouters .exit)) (now («bus_wires» .exit)) (now (ports .exit)) (now (answers .exit))) r ⌝ }

@@ -1,4 +1,5 @@
 // The lane call for C and Rust.
+use base::rows::WorkRow;
 use lanes::LaneReport;
 use lanes::allocate_lanes;
 use lanes::report;
@@ -9,8 +10,8 @@ ghost use Rattle.lanes.specs.LaneCall.{Answered};
 pub extern "C" fn pz_allocate_lanes(
     demands: &[u32],
     lanes: &mut [u32],
-    work: &mut [[u32; 8]],
-    spare: &mut [[u32; 8]],
+    work: &mut [WorkRow],
+    spare: &mut [WorkRow],
 ) -> LaneReport
     ensures { λ r. ⌜ Answered (now (demands .entry)) (now (lanes .entry)) (now (lanes .exit)) (length (now (work .entry))) (length (now (spare .entry))) r ⌝ }
 {

@@ -1,4 +1,7 @@
 // The call for C and Rust: the answer as a struct of numbers.
+use base::rows::PageRow;
+use base::rows::Record;
+use base::rows::WorkRow;
 use plan::PagesPlan;
 use plan::plan_bus;
 ghost use mathlib.Core.Path.{_≡_};
@@ -21,16 +24,16 @@ pub struct PagesNumbers {
 #[no_mangle]
 pub extern "C" fn pz_plan_bus(
     text: &[u8],
-    answers: &mut [[u32; 2]],
-    records: &mut [[u32; 16]],
-    node_facts: &mut [[u32; 8]],
-    wire_facts: &mut [[u32; 8]],
-    taps: &mut [[u32; 8]],
-    groups: &mut [[u32; 8]],
-    page_facts: &mut [[u32; 8]],
-    demands: &mut [[u32; 8]],
-    keys: &mut [[u32; 8]],
-    spare: &mut [[u32; 8]],
+    answers: &mut [PageRow],
+    records: &mut [Record],
+    node_facts: &mut [WorkRow],
+    wire_facts: &mut [WorkRow],
+    taps: &mut [WorkRow],
+    groups: &mut [WorkRow],
+    page_facts: &mut [WorkRow],
+    demands: &mut [WorkRow],
+    keys: &mut [WorkRow],
+    spare: &mut [WorkRow],
 ) -> PagesNumbers
     ensures { λ r. ⌜ InNumbers pagesNumbers (PagesPlanned (planCall (now (text .entry)) (length (now (answers .entry))) (length (now (records .entry)) ∷ length (now («node_facts» .entry)) ∷ length (now («wire_facts» .entry)) ∷ length (now (taps .entry)) ∷ length (now (groups .entry)) ∷ length (now («page_facts» .entry)) ∷ length (now (demands .entry)) ∷ length (now (keys .entry)) ∷ length (now (spare .entry)) ∷ []))
         (now (answers .entry)) (now (answers .exit))) r ⌝ }

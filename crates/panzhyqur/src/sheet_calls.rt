@@ -1,4 +1,5 @@
 // The calls for C and Rust: answers as structs of numbers.
+use base::rows::Record;
 use sheet::Checked;
 use sheet::Counts;
 use sheet::ReadAnswer;
@@ -64,7 +65,7 @@ pub extern "C" fn pz_check_sheet(text: &[u8], most: Counts) -> SheetNumbers
 }
 
 #[no_mangle]
-pub extern "C" fn pz_read_sheet(text: &[u8], most: Counts, rows: &mut [[u32; 16]]) -> SheetNumbers
+pub extern "C" fn pz_read_sheet(text: &[u8], most: Counts, rows: &mut [Record]) -> SheetNumbers
     ensures { λ r. ⌜ (r ≡ readNumbers (readOf (length (now (rows .entry))) (reading most (now (text .entry))))) × (now (rows .exit) ≡ rowsAfter (now (rows .entry)) (reading most (now (text .entry)))) ⌝ }
 {
     match read_sheet(text, most, rows) {

@@ -17,7 +17,7 @@ use Rattle.board.specs.Demands.{PageLanes, planLanes, noLanes}
 use Rattle.board.specs.Planning.{Planning, refused, lanesFor, planning, fitsPages, crowding, records, pageRow, pagesAfter, fitted}
 use Rattle.board.specs.Walk.{WithinLibrary, countsIn}
 use Rattle.lanes.specs.Lanes.{laneMost}
-use Rattle.board.proofs.Lists.{never}
+use Rattle.base.proofs.Lists.{never}
 use Rattle.plan.specs.declared.Lent.{Lent}
 use Rattle.plan.specs.declared.TextPlan
 use Rattle.plan.specs.declared.TextPlan.the-variants as answers

@@ -19,7 +19,7 @@ use Rattle.board.specs.Demands.{PageLanes, Planned, crowded, planned, noLanes, 
 use Rattle.demands.specs.PagePlan.{PlanHeld}
 use Rattle.board.specs.Walk.{countsIn}
 use Rattle.demands.specs.PagePlan.{BoardPlanned}
-use Rattle.board.proofs.Lists.{never}
+use Rattle.base.proofs.Lists.{never}
 use Rattle.board.proofs.LanesFit.{rising}
 use Rattle.plan.specs.declared.TextSurvey.the-variants as surveys
 use Rattle.plan.specs.TextPlan.{SectionsIn, FactsHold, LanesSurveyed}

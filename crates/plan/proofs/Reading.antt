@@ -22,7 +22,7 @@ use Rattle.board.specs.Planning.{Planning, refused, lanesFor, planning, crowdin
 use Rattle.collect.specs.Collecting.{Indexes}
 use Rattle.demands.specs.PagePlan.{Room}
 use Rattle.board.specs.Walk.{WithinLibrary, countsIn, boardChecked, Indexed, IndexedIf}
-use Rattle.board.proofs.Lists.{never}
+use Rattle.base.proofs.Lists.{never}
 use Rattle.board.proofs.Planning.{planning-refused, planning-fine}
 use Rattle.plan.specs.declared.Lent.{Lent}
 use Rattle.plan.specs.TextPlan.{fitsCounts, fitsLent, lentFor, fitting, WorkLent, BoardRead, BoardChecked}

@@ -9,7 +9,7 @@ use Rattle.board.specs.Refusals.{Judged, turnedAway, board}
 use Rattle.board.specs.Demands.{PageLanes, Planned, crowded, planned, planLanes}
 use Rattle.board.specs.Planning.{Planning, planning, crowding, judgedFor}
 use Rattle.board.specs.Walk.{countsIn}
-use Rattle.board.proofs.Lists.{never}
+use Rattle.base.proofs.Lists.{never}
 use Rattle.plan.specs.declared.TextPlan.{TextPlan}
 use Rattle.plan.specs.declared.TextSurvey.{TextSurvey}
 use Rattle.plan.specs.declared.TextSurvey.the-variants.{Refused, Crowded, Laned}

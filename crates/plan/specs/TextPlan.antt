@@ -13,7 +13,8 @@ use Rattle.board.specs.Refusals.{Judged, turnedAway, board, judged}
 use Rattle.board.specs.Groups.{tapsOf}
 use Rattle.board.specs.Demands.{PageLanes, Planned, crowded, planned, planLanes}
 use Rattle.board.specs.Planning.{Planning, refused, lanesFor, planning, fitsPages, crowding, records}
-use Rattle.board.specs.Tables.{view, tapIn, NodeFacts, WireFacts, GroupFacts, PageFacts}
+use Rattle.base.specs.Views.{view}
+use Rattle.board.specs.Tables.{tapIn, NodeFacts, WireFacts, GroupFacts, PageFacts}
 use Rattle.collect.specs.Collecting.{Indexes}
 use Rattle.board.specs.Walk.{countsIn, Indexed}
 use Rattle.board.specs.Accepted.{Accepted}

@@ -1,5 +1,10 @@
 // `plan_bus`: from a sheet's text to the lanes of every page, with every refusal in its order. Each call of the router starts with `plan_text`, or with
 // `survey_text` where it has more to try before a crowded page is refused.
+use base::numbers::BUS_BAND_GUTTER;
+use base::numbers::LANE_PITCH;
+use base::rows::PageRow;
+use base::rows::Record;
+use base::rows::WorkRow;
 use board::refusals::check_board;
 use demands::demands::Plan;
 use demands::demands::plan_board;
@@ -63,10 +68,6 @@ pub const PORTS_MOST: usize = 8_192;
 pub const ANSWERS_MOST: usize = 64;
 
 pub const OUT_MOST: usize = 12_591_232;
-
-const LANE_PITCH: u32 = 2;
-
-const BUS_BAND_GUTTER: u32 = 6;
 
 pub fn lesser(a: usize, b: usize) -> usize
     ensures { λ r. ⌜ r ≡ min a b ⌝ }
@@ -135,7 +136,7 @@ fn fits(lent: Lent, c: Counts) -> bool
 
 // The lanes of a board whose records stand in rows, one section after the other.
 fn survey_rows(
-    records: &[[u32; 16]],
+    records: &[Record],
     counts: Counts,
     body_ids: &[u32],
     body_nexts: &[u32],
@@ -143,14 +144,14 @@ fn survey_rows(
     inner_ids: &[u32],
     inner_nexts: &[u32],
     inner_heads: &[u32],
-    node_facts: &mut [[u32; 8]],
-    wire_facts: &mut [[u32; 8]],
-    taps: &mut [[u32; 8]],
-    groups: &mut [[u32; 8]],
-    page_facts: &mut [[u32; 8]],
-    demands: &mut [[u32; 8]],
-    keys: &mut [[u32; 8]],
-    spare: &mut [[u32; 8]],
+    node_facts: &mut [WorkRow],
+    wire_facts: &mut [WorkRow],
+    taps: &mut [WorkRow],
+    groups: &mut [WorkRow],
+    page_facts: &mut [WorkRow],
+    demands: &mut [WorkRow],
+    keys: &mut [WorkRow],
+    spare: &mut [WorkRow],
 ) -> TextSurvey
     requires { ⌜ ((b : Board) × BoardRead b (now records) counts (now «body_ids») (now «body_nexts») (now «body_heads») (now «inner_ids») (now «inner_nexts») (now «inner_heads»)
         (now «node_facts») (now «wire_facts») (now taps) (now groups) (now «page_facts») (now demands) (now keys) (now spare)) ⌝ }
@@ -212,15 +213,15 @@ fn survey_fitting(
     inner_ids: &[u32],
     inner_nexts: &[u32],
     inner_heads: &[u32],
-    records: &mut [[u32; 16]],
-    node_facts: &mut [[u32; 8]],
-    wire_facts: &mut [[u32; 8]],
-    taps: &mut [[u32; 8]],
-    groups: &mut [[u32; 8]],
-    page_facts: &mut [[u32; 8]],
-    demands: &mut [[u32; 8]],
-    keys: &mut [[u32; 8]],
-    spare: &mut [[u32; 8]],
+    records: &mut [Record],
+    node_facts: &mut [WorkRow],
+    wire_facts: &mut [WorkRow],
+    taps: &mut [WorkRow],
+    groups: &mut [WorkRow],
+    page_facts: &mut [WorkRow],
+    demands: &mut [WorkRow],
+    keys: &mut [WorkRow],
+    spare: &mut [WorkRow],
 ) -> TextSurvey
     requires { ⌜ WorkLent (lent .work) (length (now records)) (now «node_facts») (now «wire_facts») (now taps) (now groups) (now «page_facts») (now demands) (now keys) (now spare) ⌝ }
     requires { ⌜ WithinLibrary most × ((b : Board) × BoardChecked b most (now text) counts (now «body_ids») (now «body_nexts») (now «body_heads») (now «inner_ids») (now «inner_nexts») (now «inner_heads»)) ⌝ }
@@ -267,15 +268,15 @@ pub fn survey_text(
     text: &[u8],
     most: Counts,
     lent: Lent,
-    records: &mut [[u32; 16]],
-    node_facts: &mut [[u32; 8]],
-    wire_facts: &mut [[u32; 8]],
-    taps: &mut [[u32; 8]],
-    groups: &mut [[u32; 8]],
-    page_facts: &mut [[u32; 8]],
-    demands: &mut [[u32; 8]],
-    keys: &mut [[u32; 8]],
-    spare: &mut [[u32; 8]],
+    records: &mut [Record],
+    node_facts: &mut [WorkRow],
+    wire_facts: &mut [WorkRow],
+    taps: &mut [WorkRow],
+    groups: &mut [WorkRow],
+    page_facts: &mut [WorkRow],
+    demands: &mut [WorkRow],
+    keys: &mut [WorkRow],
+    spare: &mut [WorkRow],
 ) -> TextSurvey
     requires { ⌜ WorkLent (lent .work) (length (now records)) (now «node_facts») (now «wire_facts») (now taps) (now groups) (now «page_facts») (now demands) (now keys) (now spare) ⌝ }
     requires { ⌜ WithinLibrary most ⌝ }
@@ -347,15 +348,15 @@ pub fn plan_text(
     text: &[u8],
     most: Counts,
     lent: Lent,
-    records: &mut [[u32; 16]],
-    node_facts: &mut [[u32; 8]],
-    wire_facts: &mut [[u32; 8]],
-    taps: &mut [[u32; 8]],
-    groups: &mut [[u32; 8]],
-    page_facts: &mut [[u32; 8]],
-    demands: &mut [[u32; 8]],
-    keys: &mut [[u32; 8]],
-    spare: &mut [[u32; 8]],
+    records: &mut [Record],
+    node_facts: &mut [WorkRow],
+    wire_facts: &mut [WorkRow],
+    taps: &mut [WorkRow],
+    groups: &mut [WorkRow],
+    page_facts: &mut [WorkRow],
+    demands: &mut [WorkRow],
+    keys: &mut [WorkRow],
+    spare: &mut [WorkRow],
 ) -> TextPlan
     requires { ⌜ WorkLent (lent .work) (length (now records)) (now «node_facts») (now «wire_facts») (now taps) (now groups) (now «page_facts») (now demands) (now keys) (now spare) ⌝ }
     requires { ⌜ WithinLibrary most ⌝ }
@@ -390,7 +391,7 @@ fn band(lanes: u32) -> u32
 }
 
 // The page answers: lanes and band of each page.
-pub fn write_pages(page_facts: &[[u32; 8]], n: usize, answers: &mut [[u32; 2]])
+pub fn write_pages(page_facts: &[WorkRow], n: usize, answers: &mut [PageRow])
     requires { ⌜ (n ≤ length (now «page_facts»)) × (n ≤ length (now answers)) ⌝ }
     requires { ⌜ ((p : ℕ) → p < n → field (now «page_facts») p 0 ≤ laneMost) ⌝ }
     ensures { λ _. ⌜ ((ps : List PageLanes) → length ps ≡ n → PageFacts ps (now («page_facts» .entry)) → now (answers .exit) ≡ map pageRow ps ++ drop n (now (answers .entry))) ⌝ }
@@ -406,16 +407,16 @@ pub fn write_pages(page_facts: &[[u32; 8]], n: usize, answers: &mut [[u32; 2]])
 // The lanes and the band of every page of a sheet's board. Each slice of work space has a row for each record.
 pub fn plan_bus(
     text: &[u8],
-    answers: &mut [[u32; 2]],
-    records: &mut [[u32; 16]],
-    node_facts: &mut [[u32; 8]],
-    wire_facts: &mut [[u32; 8]],
-    taps: &mut [[u32; 8]],
-    groups: &mut [[u32; 8]],
-    page_facts: &mut [[u32; 8]],
-    demands: &mut [[u32; 8]],
-    keys: &mut [[u32; 8]],
-    spare: &mut [[u32; 8]],
+    answers: &mut [PageRow],
+    records: &mut [Record],
+    node_facts: &mut [WorkRow],
+    wire_facts: &mut [WorkRow],
+    taps: &mut [WorkRow],
+    groups: &mut [WorkRow],
+    page_facts: &mut [WorkRow],
+    demands: &mut [WorkRow],
+    keys: &mut [WorkRow],
+    spare: &mut [WorkRow],
 ) -> PagesPlan
     ensures { λ r. ⌜ PagesPlanned (planCall (now (text .entry)) (length (now (answers .entry))) (length (now (records .entry)) ∷ length (now («node_facts» .entry)) ∷ length (now («wire_facts» .entry)) ∷ length (now (taps .entry)) ∷ length (now (groups .entry)) ∷ length (now («page_facts» .entry)) ∷ length (now (demands .entry)) ∷ length (now (keys .entry)) ∷ length (now (spare .entry)) ∷ []))
         (now (answers .entry)) (now (answers .exit)) r ⌝ }

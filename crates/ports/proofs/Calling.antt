@@ -10,12 +10,12 @@ use lib.Dec.{eqb}
 use borrow.Author.Tests.{ne-eqb, eqb-false}
 use lib.ListN.{length, take, length-append, length-map}
 use lib.Seq.{length-take-le}
-use Rattle.lanes.proofs.Every.{All}
-use Rattle.board.specs.Lists.{any, keep, upto}
+use Rattle.base.proofs.Every.{All}
+use Rattle.base.specs.Lists.{any, keep, upto}
 use Rattle.board.specs.Accepted.{Accepted}
 use Rattle.board.specs.Board.{Board}
 use Rattle.board.specs.Demands.{PageLanes}
-use Rattle.board.proofs.Lists.{byTest, none-counted, neither, or-left, or-right}
+use Rattle.base.proofs.Lists.{byTest, none-counted, neither, or-left, or-right}
 use Rattle.routes.specs.Bus.{Bus, BusWire, End, port, rerouter, Carries, onward, delivery, Port, insertPort, samePort}
 use Rattle.routes.specs.Buffers.{wireRow, portIn, portsHeld}
 use Rattle.routes.specs.Tables.{writtenOver}

@@ -5,13 +5,13 @@ use mathlib.Core.Path.{_≡_, refl, sym, ap}
 use mathlib.Core.Bool.{Bool, true, false, _&&_}
 use mathlib.Core.List.{List, [], _∷_, append-nil}
 use lib.ListN.{length, length-append}
-use Rattle.lanes.proofs.Every.{All}
-use Rattle.board.specs.Lists.{fold, upto}
+use Rattle.base.proofs.Every.{All}
+use Rattle.base.specs.Lists.{fold, upto}
 use Rattle.board.specs.Accepted.{Accepted}
 use Rattle.board.specs.Board.{Board, placed, xOf}
 use Rattle.board.specs.Groups.{Tap, tapsOf, sourceRow}
 use Rattle.board.specs.Demands.{PageLanes}
-use Rattle.board.proofs.Lists.{byTest, byFound}
+use Rattle.base.proofs.Lists.{byTest, byFound}
 use Rattle.routes.specs.Stops.{newGroup, newRow, newColumn}
 use Rattle.routes.specs.Levels.{Level, dropped, shared, own, Stop, laneFor}
 use Rattle.routes.specs.Bus.{Bus, BusWire, Brick, Feed, emptyBus, place, deliver, portFeed, placedFeed, insertPort, portOf}

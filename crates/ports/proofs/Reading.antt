@@ -6,7 +6,7 @@ use mathlib.Core.List.{List, [], _∷_, _++_, map}
 use lib.ListN.{length, getD, set, length-append, length-map}
 use lib.Seq.{getD-set-same, getD-set-other, take-at}
 use Rattle.sheet.specs.Table.{MISSING}
-use Rattle.lanes.proofs.Every.{All}
+use Rattle.base.proofs.Every.{All}
 use Rattle.board.specs.Board.{Board, targetPort}
 use Rattle.board.specs.Accepted.{Accepted}
 use Rattle.routes.specs.Bus.{Bus, BusWire, End, port, rerouter, Carries, onward, delivery, Port}

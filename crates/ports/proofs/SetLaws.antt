@@ -8,9 +8,9 @@ use lib.Dec.{eqb, ltb}
 use lib.ListN.{length, take}
 use lib.Seq.{take-at}
 use borrow.Author.Tests.{lt-ltb, le-ltb, eq-eqb, ne-eqb}
-use Rattle.lanes.specs.Sort.{inserted, sorted, lexLess, sortedRows}
-use Rattle.lanes.proofs.SortLaws.{inserted-past, inserted-here, lex-order, Compared, below, same, above, compared}
-use Rattle.board.proofs.Lists.{clash, byTest}
+use Rattle.base.specs.Sort.{inserted, sorted, lexLess, sortedRows}
+use Rattle.base.proofs.SortLaws.{inserted-past, inserted-here, lex-order, Compared, below, same, above, compared}
+use Rattle.base.proofs.Lists.{clash, byTest}
 use Rattle.routes.specs.Bus.{Port, insertPort, samePort}
 use Rattle.routes.proofs.Views.{sorted-map}
 use Rattle.ports.specs.Ports.{targets, suppress, portsSet}

@@ -1,4 +1,8 @@
 // Suppressed ports: gathered from the deliveries, sorted, and written once each.
+use base::numbers::MISSING;
+use base::rows::BusWireRow;
+use base::rows::PortRow;
+use base::rows::WorkRow;
 ghost use mathlib.Core.Path.{_≡_};
 ghost use mathlib.Core.Bool.{not};
 ghost use mathlib.Core.List.{[], _++_, map};
@@ -7,10 +11,7 @@ ghost use lib.ListN.{length, getD, take, drop};
 ghost use Rattle.ports.specs.Ports.{targets};
 ghost use Rattle.routes.specs.Buffers.{portIn, portsHeld};
 ghost use Rattle.ports.specs.Settling.{deliversIn, wiresFrom, sortRow, again, unique, portsOver, Settleable, Settled};
-use lanes::sort::sort_rows;
-
-// No port, no wire, no distance.
-const MISSING: u32 = 4_294_967_295;
+use base::sort::sort_rows;
 
 // Whether a bus wire is a delivery to a port.
 fn delivers(row: [u32; 6]) -> bool
@@ -26,7 +27,12 @@ fn delivers(row: [u32; 6]) -> bool
 }
 
 // The targets of the deliveries among `count` bus wires, from the newest to the oldest: how many there are.
-fn gather_targets(bus_wires: &[[u32; 6]], from: usize, count: usize, rows: &mut [[u32; 8]]) -> usize
+fn gather_targets(
+    bus_wires: &[BusWireRow],
+    from: usize,
+    count: usize,
+    rows: &mut [WorkRow],
+) -> usize
     requires { ⌜ (from + count ≤ length (now «bus_wires»)) × (length (targets (wiresFrom (now «bus_wires») from count)) ≤ length (now rows)) ⌝ }
     ensures { λ n. ⌜ n ≡ length (targets (wiresFrom (now («bus_wires» .entry)) from count)) ⌝ }
     ensures { λ n. ⌜ take n (now (rows .exit)) ≡ map sortRow (targets (wiresFrom (now («bus_wires» .entry)) from count)) ⌝ }
@@ -45,7 +51,7 @@ fn gather_targets(bus_wires: &[[u32; 6]], from: usize, count: usize, rows: &mut 
 }
 
 // Puts the first `u` ports behind the first `n` rows.
-fn add_ports(ports: &[[u32; 2]], u: usize, rows: &mut [[u32; 8]], n: usize)
+fn add_ports(ports: &[PortRow], u: usize, rows: &mut [WorkRow], n: usize)
     requires { ⌜ (u ≤ length (now ports)) × (n + u ≤ length (now rows)) ⌝ }
     ensures { λ _. ⌜ take (n + u) (now (rows .exit)) ≡ take n (now (rows .entry)) ++ map sortRow (portsHeld (now (ports .entry)) u) ⌝ }
 {
@@ -57,7 +63,7 @@ fn add_ports(ports: &[[u32; 2]], u: usize, rows: &mut [[u32; 8]], n: usize)
 }
 
 // Whether the next row is another port, or there is none.
-fn last_of_its_kind(rows: &[[u32; 8]], i: usize) -> bool
+fn last_of_its_kind(rows: &[WorkRow], i: usize) -> bool
     requires { ⌜ i < length (now rows) ⌝ }
     ensures { λ r. ⌜ r ≡ not (again (portIn (getD (now (rows .entry)) i [])) (map portIn (drop (i + 1) (now (rows .entry))))) ⌝ }
 {
@@ -71,7 +77,7 @@ fn last_of_its_kind(rows: &[[u32; 8]], i: usize) -> bool
 }
 
 // Writes sorted ports without repetitions: how many there are.
-fn write_once_each(rows: &[[u32; 8]], ports: &mut [[u32; 2]]) -> usize
+fn write_once_each(rows: &[WorkRow], ports: &mut [PortRow]) -> usize
     requires { ⌜ length (unique (map portIn (now rows))) ≤ length (now ports) ⌝ }
     ensures { λ n. ⌜ n ≡ length (unique (map portIn (now (rows .entry)))) ⌝ }
     ensures { λ n. ⌜ now (ports .exit) ≡ portsOver (unique (map portIn (now (rows .entry)))) (now (ports .entry)) ⌝ }
@@ -91,13 +97,13 @@ fn write_once_each(rows: &[[u32; 8]], ports: &mut [[u32; 2]]) -> usize
 
 // The first `u` ports, in any order, and the targets of the deliveries among the bus wires from..to, ascending and each once: how many there are.
 pub fn settle_ports(
-    bus_wires: &[[u32; 6]],
+    bus_wires: &[BusWireRow],
     from: usize,
     to: usize,
-    ports: &mut [[u32; 2]],
+    ports: &mut [PortRow],
     u: usize,
-    rows: &mut [[u32; 8]],
-    spare: &mut [[u32; 8]],
+    rows: &mut [WorkRow],
+    spare: &mut [WorkRow],
 ) -> usize
     requires { ⌜ Settleable (now «bus_wires») from to (now ports) u (now rows) (now spare) ⌝ }
     ensures { λ r. ⌜ Settled (now («bus_wires» .entry)) from to (now (ports .entry)) u (now (ports .exit)) r ⌝ }

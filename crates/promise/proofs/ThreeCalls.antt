@@ -9,7 +9,7 @@ use lib.ListN.{length, length-append}
 use borrow.Author.Tests.{le-leb, leb-true}
 use Rattle.sheet.specs.declared.Counts.{Counts}
 use Rattle.sheet.specs.Table.{libraryMost}
-use Rattle.board.specs.Lists.{keep, upto}
+use Rattle.base.specs.Lists.{keep, upto}
 use Rattle.board.specs.Board.{Board}
 use Rattle.board.specs.Refusals
 use Rattle.board.specs.Refusals.{Judged, board, judged}
@@ -17,7 +17,7 @@ use Rattle.board.specs.Demands.{PageLanes, planned, planLanes}
 use Rattle.board.specs.Planning.{Planning, refused, lanesFor, planning, fitsPages, crowding, records, pagesAfter}
 use Rattle.board.specs.Accepted.{Accepted}
 use Rattle.board.proofs.Accepting.{sheet-accepted}
-use Rattle.board.proofs.Lists.{never, and-left, and-right}
+use Rattle.base.proofs.Lists.{never, and-left, and-right}
 use Rattle.plan.specs.TextPlan.{shortest}
 use Rattle.plan.specs.PagesPlan.{planCall, pagesPlan, PagesPlanned}
 use Rattle.plan.specs.declared.PagesPlan.{PagesPlan}

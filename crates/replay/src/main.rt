@@ -3,6 +3,7 @@
 use answer::Answer;
 use answer::calls::PLAN_MOST;
 use answer::calls::respond;
+use base::numbers::NEWLINE;
 use libc::STDOUT_FILENO;
 use walker::behind_line;
 use walker::first_line;
@@ -12,8 +13,6 @@ ghost use Prim.Native.Nat.{_+_, _≤_, _<_};
 ghost use lib.ListN.{length};
 ghost use Rattle.routes.specs.Route.{sheetOf};
 ghost use Rattle.answer.specs.Answering.{programRouted};
-
-const NEWLINE: u8 = 10;
 
 const PERCENT: u8 = b'%';
 

@@ -9,13 +9,13 @@ use lib.ListN.{length, getD, set, take, drop, length-set, length-append, length-
 use lib.Seq.{drop-append-add, drop-drop}
 use borrow.Author.Tests.{le-leb}
 use Rattle.sheet.specs.Table.{libraryMost}
-use Rattle.board.specs.Lists.{any, keep}
+use Rattle.base.specs.Lists.{any, keep}
 use Rattle.board.specs.Board.{Board}
 use Rattle.board.specs.Accepted.{Accepted}
 use Rattle.board.specs.Demands.{PageLanes, planned, planLanes}
-use Rattle.board.specs.Tables.{view}
-use Rattle.board.proofs.Lists.{clash, count-none, none-counted, count-reverse, byTest}
-use Rattle.board.proofs.Views.{view-take}
+use Rattle.base.specs.Views.{view}
+use Rattle.base.proofs.Lists.{clash, count-none, none-counted, count-reverse, byTest}
+use Rattle.base.proofs.Views.{view-take}
 use Rattle.routes.specs.Bus.{Bus, Brick, BusWire, Port, insertPort, place, deliver, samePort, portOf, muted}
 use Rattle.routes.specs.Buffers.{brickRow, wireRow, portRow, portIn, portsHeld}
 use Rattle.routes.specs.Tables.{writtenOver}

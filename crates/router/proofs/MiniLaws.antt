@@ -16,8 +16,8 @@ use Rattle.board.specs.Planning.{Planning, refused, planning, crowding, records
 use Rattle.board.specs.Refusals
 use Rattle.board.specs.Refusals.{Judged, board}
 use Rattle.board.specs.Walk.{WithinLibrary, countsIn}
-use Rattle.board.proofs.Lists.{and-left, and-right}
-use Rattle.board.proofs.Views.{length-view}
+use Rattle.base.proofs.Lists.{and-left, and-right}
+use Rattle.base.proofs.Views.{length-view}
 use Rattle.plan.specs.declared.Lent.{Lent}
 use Rattle.plan.specs.TextPlan.{fitsLent, fitting, shortest, WorkLent, FactsHold}
 use Rattle.plan.proofs.Fitting.{fits-all, shortest-front}

@@ -13,7 +13,7 @@ use Rattle.board.specs.Planning.{records}
 use Rattle.board.specs.Accepted.{Accepted}
 use Rattle.board.specs.Tables.{NodeFacts}
 use Rattle.board.specs.Walk.{countsIn}
-use Rattle.board.proofs.Lists.{byTest}
+use Rattle.base.proofs.Lists.{byTest}
 use Rattle.plan.specs.declared.Lent.{Lent}
 use Rattle.plan.specs.TextPlan.{fitsLent, FactsHold}
 use Rattle.plan.proofs.Fitting.{fits-all}

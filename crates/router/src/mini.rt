@@ -1,6 +1,11 @@
 // `lay_mini_bus`: the corners of a sheet's board on a bus that is handed in, and the ports that they suppress.
 use crate::turn::rows_have_room;
 use crate::turn::turn_rows;
+use base::rows::BusWireRow;
+use base::rows::PortRow;
+use base::rows::Record;
+use base::rows::RerouterRow;
+use base::rows::WorkRow;
 use corners::turn::Turned;
 use gutter::bus::BusPlan;
 use plan::ANSWERS_MOST;
@@ -45,12 +50,12 @@ fn holds(held: BusCounts, rerouters: usize, bus_wires: usize, ports: usize) -> b
 // Whether the buffers hold what is handed in, with room for all that may turn on a board whose records stand in rows.
 fn held_fits(
     held: BusCounts,
-    records: &[[u32; 16]],
+    records: &[Record],
     counts: Counts,
-    wire_facts: &[[u32; 8]],
-    rerouters: &[[u32; 10]],
-    bus_wires: &[[u32; 6]],
-    ports: &[[u32; 2]],
+    wire_facts: &[WorkRow],
+    rerouters: &[RerouterRow],
+    bus_wires: &[BusWireRow],
+    ports: &[PortRow],
 ) -> bool
     requires { ⌜ ((b : Board) × RowsKnown b (now records) counts (now «wire_facts»)) ⌝ }
     ensures { λ r. ⌜ ((b : Board) → RowsKnown b (now (records .entry)) counts (now («wire_facts» .entry)) → r ≡ heldFits (now (rerouters .entry)) (now («bus_wires» .entry)) (now (ports .entry)) held b) ⌝ }
@@ -84,16 +89,16 @@ fn refuse_crowded(fits: bool, line: usize) -> BusPlan
 // The corners of a board whose records stand in rows, on the bus that is handed in: 7 where the buffers do not hold it with all that may turn.
 fn turn_held(
     held: BusCounts,
-    records: &[[u32; 16]],
+    records: &[Record],
     counts: Counts,
-    node_facts: &[[u32; 8]],
-    wire_facts: &[[u32; 8]],
-    rerouters: &mut [[u32; 10]],
-    bus_wires: &mut [[u32; 6]],
-    ports: &mut [[u32; 2]],
-    rows: &mut [[u32; 8]],
-    spare: &mut [[u32; 8]],
-    marks: &mut [[u32; 8]],
+    node_facts: &[WorkRow],
+    wire_facts: &[WorkRow],
+    rerouters: &mut [RerouterRow],
+    bus_wires: &mut [BusWireRow],
+    ports: &mut [PortRow],
+    rows: &mut [WorkRow],
+    spare: &mut [WorkRow],
+    marks: &mut [WorkRow],
 ) -> BusPlan
     requires { ⌜ ((b : Board) × HeldReady b (now records) counts (now «node_facts») (now «wire_facts») (now rerouters) (now «bus_wires») (now ports) (now rows) (now spare) (now marks)) ⌝ }
     ensures { λ r. ⌜ ((b : Board) (ps : List PageLanes) → HeldReady b (now (records .entry)) counts (now («node_facts» .entry)) (now («wire_facts» .entry)) (now (rerouters .entry)) (now («bus_wires» .entry)) (now (ports .entry)) (now (rows .entry)) (now (spare .entry)) (now (marks .entry))
@@ -142,19 +147,19 @@ fn mini_within(
     most: Counts,
     lent: Lent,
     held: BusCounts,
-    rerouters: &mut [[u32; 10]],
-    bus_wires: &mut [[u32; 6]],
-    ports: &mut [[u32; 2]],
-    records: &mut [[u32; 16]],
-    node_facts: &mut [[u32; 8]],
-    wire_facts: &mut [[u32; 8]],
-    taps: &mut [[u32; 8]],
-    groups: &mut [[u32; 8]],
-    page_facts: &mut [[u32; 8]],
-    demands: &mut [[u32; 8]],
-    keys: &mut [[u32; 8]],
-    spare: &mut [[u32; 8]],
-    marks: &mut [[u32; 8]],
+    rerouters: &mut [RerouterRow],
+    bus_wires: &mut [BusWireRow],
+    ports: &mut [PortRow],
+    records: &mut [Record],
+    node_facts: &mut [WorkRow],
+    wire_facts: &mut [WorkRow],
+    taps: &mut [WorkRow],
+    groups: &mut [WorkRow],
+    page_facts: &mut [WorkRow],
+    demands: &mut [WorkRow],
+    keys: &mut [WorkRow],
+    spare: &mut [WorkRow],
+    marks: &mut [WorkRow],
 ) -> BusPlan
     requires { ⌜ WorkLent (lent .work) (length (now records)) (now «node_facts») (now «wire_facts») (now taps) (now groups) (now «page_facts») (now demands) (now keys) (now spare) ⌝ }
     requires { ⌜ WithinLibrary most × BusLent lent (now marks) (now rerouters) (now «bus_wires») × (lent .ports ≤ length (now ports)) ⌝ }
@@ -207,19 +212,19 @@ fn mini_within(
 pub fn lay_mini_bus(
     text: &[u8],
     held: BusCounts,
-    rerouters: &mut [[u32; 10]],
-    bus_wires: &mut [[u32; 6]],
-    ports: &mut [[u32; 2]],
-    records: &mut [[u32; 16]],
-    node_facts: &mut [[u32; 8]],
-    wire_facts: &mut [[u32; 8]],
-    taps: &mut [[u32; 8]],
-    groups: &mut [[u32; 8]],
-    page_facts: &mut [[u32; 8]],
-    demands: &mut [[u32; 8]],
-    keys: &mut [[u32; 8]],
-    spare: &mut [[u32; 8]],
-    marks: &mut [[u32; 8]],
+    rerouters: &mut [RerouterRow],
+    bus_wires: &mut [BusWireRow],
+    ports: &mut [PortRow],
+    records: &mut [Record],
+    node_facts: &mut [WorkRow],
+    wire_facts: &mut [WorkRow],
+    taps: &mut [WorkRow],
+    groups: &mut [WorkRow],
+    page_facts: &mut [WorkRow],
+    demands: &mut [WorkRow],
+    keys: &mut [WorkRow],
+    spare: &mut [WorkRow],
+    marks: &mut [WorkRow],
 ) -> BusPlan
     ensures { λ r. ⌜ BusCalled (miniCall (now (text .entry)) (busFits (length (now (rerouters .entry))) (length (now («bus_wires» .entry))) (length (now (ports .entry))) (length (now (marks .entry)) / 2 ∷ length (now (records .entry)) ∷ length (now («node_facts» .entry)) ∷ length (now («wire_facts» .entry)) ∷ length (now (taps .entry)) ∷ length (now (groups .entry)) ∷ length (now («page_facts» .entry)) ∷ length (now (demands .entry)) ∷ length (now (keys .entry)) ∷ length (now (spare .entry)) ∷ []))
         (now (rerouters .entry)) (now («bus_wires» .entry)) (now (ports .entry)) held)

@@ -1,5 +1,11 @@
 // The three calls in order: the lanes planned, laid, and the corners turned.
 use crate::turn::turn_rows;
+use base::rows::BusWireRow;
+use base::rows::PageRow;
+use base::rows::PortRow;
+use base::rows::Record;
+use base::rows::RerouterRow;
+use base::rows::WorkRow;
 use corners::turn::Turned;
 use gutter::bus::BusPlan;
 use gutter::bus::BusText;
@@ -35,19 +41,19 @@ pub struct Added {
 
 // The corners on top of the lanes' bus, and the ports that their deliveries suppress. There is always room: a wire that may turn is not delivered yet.
 fn add_corners(
-    records: &[[u32; 16]],
+    records: &[Record],
     counts: Counts,
-    node_facts: &[[u32; 8]],
-    wire_facts: &[[u32; 8]],
-    rerouters: &mut [[u32; 10]],
+    node_facts: &[WorkRow],
+    wire_facts: &[WorkRow],
+    rerouters: &mut [RerouterRow],
     n: usize,
-    bus_wires: &mut [[u32; 6]],
+    bus_wires: &mut [BusWireRow],
     k: usize,
-    ports: &mut [[u32; 2]],
+    ports: &mut [PortRow],
     u: usize,
-    marks: &mut [[u32; 8]],
-    sorting: &mut [[u32; 8]],
-    spare: &mut [[u32; 8]],
+    marks: &mut [WorkRow],
+    sorting: &mut [WorkRow],
+    spare: &mut [WorkRow],
 ) -> Added
     requires { ⌜ ((b : Board) × (ps : List PageLanes) × (old : List (List ℕ)) × (oldWires : List (List ℕ)) × (oldPorts : List (List ℕ)) × CornersReady b ps old oldWires oldPorts (now records) counts (now «node_facts») (now «wire_facts») (now rerouters) n (now «bus_wires») k (now ports) u (now marks) (now sorting) (now spare)) ⌝ }
     ensures { λ r. ⌜ ((b : Board) (ps : List PageLanes) (old oldWires oldPorts : List (List ℕ)) → CornersReady b ps old oldWires oldPorts (now (records .entry)) counts (now («node_facts» .entry)) (now («wire_facts» .entry)) (now (rerouters .entry)) n (now («bus_wires» .entry)) k (now (ports .entry)) u (now (marks .entry)) (now (sorting .entry)) (now (spare .entry))
@@ -89,20 +95,20 @@ pub fn route_within(
     text: &[u8],
     most: Counts,
     lent: Lent,
-    rerouters: &mut [[u32; 10]],
-    bus_wires: &mut [[u32; 6]],
-    ports: &mut [[u32; 2]],
-    answers: &mut [[u32; 2]],
-    records: &mut [[u32; 16]],
-    node_facts: &mut [[u32; 8]],
-    wire_facts: &mut [[u32; 8]],
-    taps: &mut [[u32; 8]],
-    groups: &mut [[u32; 8]],
-    page_facts: &mut [[u32; 8]],
-    demands: &mut [[u32; 8]],
-    keys: &mut [[u32; 8]],
-    spare: &mut [[u32; 8]],
-    marks: &mut [[u32; 8]],
+    rerouters: &mut [RerouterRow],
+    bus_wires: &mut [BusWireRow],
+    ports: &mut [PortRow],
+    answers: &mut [PageRow],
+    records: &mut [Record],
+    node_facts: &mut [WorkRow],
+    wire_facts: &mut [WorkRow],
+    taps: &mut [WorkRow],
+    groups: &mut [WorkRow],
+    page_facts: &mut [WorkRow],
+    demands: &mut [WorkRow],
+    keys: &mut [WorkRow],
+    spare: &mut [WorkRow],
+    marks: &mut [WorkRow],
 ) -> BusText
     requires { ⌜ WorkLent (lent .work) (length (now records)) (now «node_facts») (now «wire_facts») (now taps) (now groups) (now «page_facts») (now demands) (now keys) (now spare) ⌝ }
     requires { ⌜ WithinLibrary most × BusLent lent (now marks) (now rerouters) (now «bus_wires») × (lent .ports ≤ length (now ports)) × (lent .answers ≤ length (now answers)) ⌝ }
@@ -168,20 +174,20 @@ pub fn route_within(
 // The finished plan of a sheet's board and its page answers, or a refusal. Each slice of work space has a row for each record, the marks two.
 pub fn route(
     text: &[u8],
-    rerouters: &mut [[u32; 10]],
-    bus_wires: &mut [[u32; 6]],
-    ports: &mut [[u32; 2]],
-    answers: &mut [[u32; 2]],
-    records: &mut [[u32; 16]],
-    node_facts: &mut [[u32; 8]],
-    wire_facts: &mut [[u32; 8]],
-    taps: &mut [[u32; 8]],
-    groups: &mut [[u32; 8]],
-    page_facts: &mut [[u32; 8]],
-    demands: &mut [[u32; 8]],
-    keys: &mut [[u32; 8]],
-    spare: &mut [[u32; 8]],
-    marks: &mut [[u32; 8]],
+    rerouters: &mut [RerouterRow],
+    bus_wires: &mut [BusWireRow],
+    ports: &mut [PortRow],
+    answers: &mut [PageRow],
+    records: &mut [Record],
+    node_facts: &mut [WorkRow],
+    wire_facts: &mut [WorkRow],
+    taps: &mut [WorkRow],
+    groups: &mut [WorkRow],
+    page_facts: &mut [WorkRow],
+    demands: &mut [WorkRow],
+    keys: &mut [WorkRow],
+    spare: &mut [WorkRow],
+    marks: &mut [WorkRow],
 ) -> BusPlan
     ensures { λ r. ⌜ PlanCalled (routeCall (now (text .entry)) (planFits (length (now (rerouters .entry))) (length (now («bus_wires» .entry))) (length (now (ports .entry))) (length (now (answers .entry))) (length (now (marks .entry)) / 2 ∷ length (now (records .entry)) ∷ length (now («node_facts» .entry)) ∷ length (now («wire_facts» .entry)) ∷ length (now (taps .entry)) ∷ length (now (groups .entry)) ∷ length (now («page_facts» .entry)) ∷ length (now (demands .entry)) ∷ length (now (keys .entry)) ∷ length (now (spare .entry)) ∷ [])))
         (now (rerouters .entry)) (now («bus_wires» .entry)) (now (ports .entry)) (now (answers .entry)) (now (rerouters .exit)) (now («bus_wires» .exit)) (now (ports .exit)) (now (answers .exit)) r ⌝ }

@@ -1,4 +1,9 @@
 // The corner pass over a board whose records stand in rows.
+use base::rows::BusWireRow;
+use base::rows::PortRow;
+use base::rows::Record;
+use base::rows::RerouterRow;
+use base::rows::WorkRow;
 use corners::turn::Turned;
 use corners::turn::has_room_to_turn;
 use corners::turn::turn_corners;
@@ -16,17 +21,17 @@ ghost use Rattle.router.specs.Turn.{TurnReady, RowsKnown};
 
 // The corners of a board on n rerouters, k bus wires and u suppressed ports.
 pub fn turn_rows(
-    records: &[[u32; 16]],
+    records: &[Record],
     counts: Counts,
-    node_facts: &[[u32; 8]],
-    wire_facts: &[[u32; 8]],
-    rerouters: &mut [[u32; 10]],
+    node_facts: &[WorkRow],
+    wire_facts: &[WorkRow],
+    rerouters: &mut [RerouterRow],
     n: usize,
-    bus_wires: &mut [[u32; 6]],
+    bus_wires: &mut [BusWireRow],
     k: usize,
-    ports: &[[u32; 2]],
+    ports: &[PortRow],
     u: usize,
-    marks: &mut [[u32; 8]],
+    marks: &mut [WorkRow],
 ) -> Turned
     requires { ⌜ ((b : Board) × TurnReady b (now records) counts (now «node_facts») (now «wire_facts») (now rerouters) n (now «bus_wires») k (now ports) u (now marks)) ⌝ }
     ensures { λ r. ⌜ ((b : Board) → TurnReady b (now (records .entry)) counts (now («node_facts» .entry)) (now («wire_facts» .entry)) (now (rerouters .entry)) n (now («bus_wires» .entry)) k (now (ports .entry)) u (now (marks .entry))
@@ -58,12 +63,12 @@ pub fn turn_rows(
 
 // Whether n rerouters, k bus wires and u suppressed ports leave room for all that may turn on a board.
 pub fn rows_have_room(
-    records: &[[u32; 16]],
+    records: &[Record],
     counts: Counts,
-    wire_facts: &[[u32; 8]],
+    wire_facts: &[WorkRow],
     n: usize,
     k: usize,
-    ports: &[[u32; 2]],
+    ports: &[PortRow],
     u: usize,
 ) -> bool
     requires { ⌜ ((b : Board) × RowsKnown b (now records) counts (now «wire_facts»)) ⌝ }

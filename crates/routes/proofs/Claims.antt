@@ -6,12 +6,12 @@ use mathlib.Core.Bool.{Bool, true, false, _&&_, _||_}
 use mathlib.Core.List.{List, [], _∷_, List·Memᴰ, List·Memᴰ·head, List·Memᴰ·tail, List·Memᴰ·cases-cons, List·Memᴰ·not-nil}
 use lib.Dec.{eqb, ltb, leb}
 use borrow.Author.Tests.{not-true}
-use Rattle.board.specs.Lists.{Found, none, at, found, any}
+use Rattle.base.specs.Lists.{Found, none, at, found, any}
 use Rattle.board.specs.Board.{Board}
 use Rattle.board.specs.Rows.{rowTop}
 use Rattle.board.specs.Groups.{Tap}
 use Rattle.board.specs.Demands.{PageLanes}
-use Rattle.board.proofs.Lists.{clash, and-left, and-right, or-left, or-right, both, byTest, byFound, never}
+use Rattle.base.proofs.Lists.{clash, and-left, and-right, or-left, or-right, both, byTest, byFound, never}
 use Rattle.routes.specs.Stops.{newRow, near}
 use Rattle.routes.specs.Levels.{dropped, shared, own, Stop, keptAt, lowest, lighter, lightest, levelsIn, STAGGER_STEP, freeLevel, loadAt, unclaimed, claimNear, findLevel, ownLevel, levelWithBase, levelOf, stopFor, stopsOf, laneFor}
 use Rattle.routes.specs.Rerouters.{stopsBefore}

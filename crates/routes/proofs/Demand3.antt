@@ -6,12 +6,12 @@ use mathlib.Core.Bool.{true}
 use mathlib.Core.List.{List, [], _∷_, List·Memᴰ, List·Memᴰ·not-nil, List·Memᴰ·eq-of-singleton}
 use lib.ListN.{length}
 use borrow.Author.Tests.{eq-eqb}
-use Rattle.board.specs.Lists.{keep}
+use Rattle.base.specs.Lists.{keep}
 use Rattle.sheet.specs.Table.{ORIGIN, COORDINATE_MOST}
 use Rattle.board.specs.Board.{Board, hasGutter, minYOf}
 use Rattle.board.specs.Accepted.{Accepted}
 use Rattle.board.specs.Demands.{PageLanes, planned, planLanes}
-use Rattle.board.proofs.Lists.{never, clash, to-keep}
+use Rattle.base.proofs.Lists.{never, clash, to-keep}
 use Rattle.routes.specs.Bus.{Bus, Brick, BusWire, End, port, rerouter, Carries, onward, delivery, partCorner}
 use Rattle.routes.specs.Plan.{isDelivery, busOf, finished}
 use Rattle.routes.specs.Corners.{corners}

@@ -8,11 +8,11 @@ use mathlib.Core.List.{List, [], _∷_, List·Memᴰ, List·Memᴰ·head, List·
 use lib.Dec.{eqb}
 use lib.ListN.{length}
 use borrow.Author.Tests.{eq-eqb, not-true}
-use Rattle.board.specs.Lists.{any}
+use Rattle.base.specs.Lists.{any}
 use Rattle.board.specs.Board.{Board, sourceNode, sourcePort}
 use Rattle.board.specs.Groups.{Tap}
 use Rattle.board.specs.Demands.{PageLanes}
-use Rattle.board.proofs.Lists.{clash, and-left, and-right, or-left, or-right, none-of, keep-no}
+use Rattle.base.proofs.Lists.{clash, and-left, and-right, or-left, or-right, none-of, keep-no}
 use Rattle.board.proofs.Taps.{wireIs}
 use Rattle.routes.specs.Stops.{near}
 use Rattle.routes.specs.Levels.{Stop, own, unclaimed, claimNear}

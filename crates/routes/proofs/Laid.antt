@@ -8,13 +8,13 @@ use mathlib.Core.List.{List, [], _∷_, map, reverse, List·Memᴰ, List·Memᴰ
 use lib.Dec.{eqb, ltb, leb}
 use lib.ListN.{length, take, length-reverse}
 use borrow.Author.Tests.{eqb-true, eq-eqb, ltb-false, le-ltb, le-leb, not-false}
-use Rattle.lanes.specs.Sort.{sorted, lexLess}
-use Rattle.lanes.proofs.SortLaws.{Order, lex-order}
-use Rattle.board.specs.Lists.{at, found, any, keep}
+use Rattle.base.specs.Sort.{sorted, lexLess}
+use Rattle.base.proofs.SortLaws.{Order, lex-order}
+use Rattle.base.specs.Lists.{at, found, any, keep}
 use Rattle.board.specs.Board.{Board, pageOf}
 use Rattle.board.specs.Groups.{Tap, tapsOf, targetAnchor}
 use Rattle.board.specs.Demands.{PageLanes, laneOf}
-use Rattle.board.proofs.Lists.{clash, and-left, both, or-left, or-right, same-two, same-three, none-at-all, in-keep, to-keep, in-map, to-map, keep-yes, none-counted, count-tail, count-kept, count-le, Pairs, pairs-reverse, in-reverse, count-reverse, in-sorted, count-sorted, length-sorted, rises-sorted, never}
+use Rattle.base.proofs.Lists.{clash, and-left, both, or-left, or-right, same-two, same-three, none-at-all, in-keep, to-keep, in-map, to-map, keep-yes, none-counted, count-tail, count-kept, count-le, Pairs, pairs-reverse, in-reverse, count-reverse, in-sorted, count-sorted, length-sorted, rises-sorted, never}
 use Rattle.board.proofs.Taps.{wireIs, taps-of}
 use Rattle.routes.specs.Stops.{tapKey, tapBefore, laidTaps, isLaid, newGroup, newRow, newColumn}
 use Rattle.routes.specs.Demand3.{distinct, rowsUpTo, columnsOn}

@@ -8,11 +8,11 @@ use mathlib.Core.List.{List, [], _∷_}
 use lib.Dec.{eqb, ltb}
 use lib.ListN.{length}
 use borrow.Author.Tests.{eq-eqb, ne-eqb}
-use Rattle.board.specs.Lists.{any, keep, fold, upto}
+use Rattle.base.specs.Lists.{any, keep, fold, upto}
 use Rattle.board.specs.Board.{Board}
 use Rattle.board.specs.Accepted.{Accepted}
 use Rattle.board.specs.Demands.{PageLanes, planned, planLanes}
-use Rattle.board.proofs.Lists.{clash, byTest, keep-yes, keep-no, none-counted, count-tail, count-weaker, count-apart}
+use Rattle.base.proofs.Lists.{clash, byTest, keep-yes, keep-no, none-counted, count-tail, count-weaker, count-apart}
 use Rattle.routes.specs.Bus.{Bus, Port, insertPort, samePort, portOf, portFeed, placedFeed, muted}
 use Rattle.routes.specs.Corners.{turns, turnable, turnWire}
 use Rattle.routes.specs.Plan.{deliveries, busOf, finished}

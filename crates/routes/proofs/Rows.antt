@@ -9,9 +9,9 @@ use lib.ListN.{length, getD, take, drop, set, length-set, take-append-drop}
 use lib.Seq.{set-getD, drop-set-lt}
 use borrow.Author.Tests.{eqb-true, eqb-false, ne-eqb}
 use Rattle.sheet.specs.Table.{ORIGIN, MISSING}
-use Rattle.board.specs.Tables.{view}
-use Rattle.board.proofs.Lists.{same-two}
-use Rattle.board.proofs.Views.{view-more, length-view}
+use Rattle.base.specs.Views.{view}
+use Rattle.base.proofs.Lists.{same-two}
+use Rattle.base.proofs.Views.{view-more, length-view}
 use Rattle.routes.specs.Bus.{Brick, BusWire, End, port, rerouter, Carries, onward, delivery, Port}
 use Rattle.routes.specs.Buffers.{outward, brickRow, endRow, carriesRow, wireRow, portRow, inward, brickIn, endIn, carriesIn, wireIn, portIn, Row, Rows}
 use Rattle.routes.specs.Tables.{writtenOver}

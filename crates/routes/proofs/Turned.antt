@@ -8,12 +8,12 @@ use mathlib.Core.List.{List, [], _∷_, List·Memᴰ·head}
 use lib.Dec.{eqb, ltb}
 use lib.ListN.{length}
 use borrow.Author.Tests.{eq-eqb, ne-eqb}
-use Rattle.board.specs.Lists.{at, any, fold, upto}
+use Rattle.base.specs.Lists.{at, any, fold, upto}
 use Rattle.board.specs.Board.{Board, sourceNode, targetNode}
 use Rattle.board.specs.Groups.{wireOpen}
 use Rattle.board.specs.Refusals.{bodyOf}
 use Rattle.board.specs.Demands.{PageLanes}
-use Rattle.board.proofs.Lists.{clash, byTest, byFound, keep-no}
+use Rattle.base.proofs.Lists.{clash, byTest, byFound, keep-no}
 use Rattle.routes.specs.Bus.{Bus, Feed, Port, insertPort, samePort, portOf, portFeed, placedFeed, place, deliver, muted, port}
 use Rattle.routes.specs.Demand3.{here, names, timesDelivered, atPort, through}
 use Rattle.routes.specs.Corners.{Cornering, turnsDown, turns, turnWire, withCorner, cornerLevel, cornerBrick, corners}

@@ -6,10 +6,10 @@ use mathlib.Core.List.{List, [], _∷_, _++_, map, reverse, reverse-cons}
 use native.Mathlib.Omega.{arith}
 use lib.ListN.{length, getD, take, set, length-set}
 use lib.Seq.{ext-getD, take-suc-set}
-use Rattle.lanes.specs.Sort.{sorted, inserted, lexLess, sortedRows}
+use Rattle.base.specs.Sort.{sorted, inserted, lexLess, sortedRows}
 use Rattle.board.specs.Groups.{Tap}
 use Rattle.board.specs.Tables.{tapIn, tapRow}
-use Rattle.board.proofs.Views.{map-snoc}
+use Rattle.base.proofs.Views.{map-snoc}
 use Rattle.routes.specs.Stops.{tapBefore}
 use Rattle.routes.specs.Tables.{writtenOver}
 

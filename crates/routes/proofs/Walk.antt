@@ -6,12 +6,12 @@ use mathlib.Core.Bool.{Bool, true, false, _&&_}
 use mathlib.Core.List.{List, [], _∷_, List·Memᴰ·head}
 use lib.Dec.{eqb}
 use borrow.Author.Tests.{eqb-true, ne-eqb, not-false}
-use Rattle.board.specs.Lists.{Found, none, at, found, any}
+use Rattle.base.specs.Lists.{Found, none, at, found, any}
 use Rattle.board.specs.Board.{Board, placed, xOf}
 use Rattle.board.specs.Groups.{Tap, tapsOf, sourceRow}
 use Rattle.board.specs.Accepted.{Accepted}
 use Rattle.board.specs.Demands.{PageLanes, laneOf, planned, planLanes}
-use Rattle.board.proofs.Lists.{clash, and-right, same-two, byTest, byFound, none-at-all}
+use Rattle.base.proofs.Lists.{clash, and-right, same-two, byTest, byFound, none-at-all}
 use Rattle.board.proofs.Taps.{taps-of}
 use Rattle.board.proofs.LanesFit.{planned-fits}
 use Rattle.routes.specs.Stops.{laidTaps, newGroup, newRow, newColumn}

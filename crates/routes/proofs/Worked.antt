@@ -12,7 +12,7 @@ use Rattle.board.specs.Rows
 use Rattle.board.specs.Refusals
 use Rattle.board.specs.Refusals.{judged}
 use Rattle.lanes.specs.Lanes
-use Rattle.lanes.specs.Sort
+use Rattle.base.specs.Sort
 use Rattle.board.specs.Board.{Board}
 use Rattle.board.specs.Demands.{PageLanes, planned, planLanes}
 use Rattle.board.proofs.Accepting.{sheet-accepted, within-program}

@@ -4,7 +4,7 @@ use mathlib.Core.Bool.{Bool, true, false, not, _&&_, _||_}
 use mathlib.Core.List.{List, [], _∷_}
 use lib.Dec.{eqb, ltb}
 use lib.ListN.{length}
-use Rattle.board.specs.Lists.{any}
+use Rattle.base.specs.Lists.{any}
 use Rattle.board.specs.Board.{Board, sourceNode, sourcePort, targetNode, targetPort}
 use Rattle.board.specs.Rows.{Cell, cellsOverlap, rerouterCell, brickCell, bricksIn}
 

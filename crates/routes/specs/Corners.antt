@@ -4,7 +4,7 @@ use mathlib.Core.Bool.{Bool, true, false, not, _&&_, _||_}
 use mathlib.Core.List.{List, [], _∷_}
 use lib.Dec.{eqb, ltb}
 use lib.ListN.{length}
-use Rattle.board.specs.Lists.{Found, none, at, keep, fold, upto}
+use Rattle.base.specs.Lists.{Found, none, at, keep, fold, upto}
 use Rattle.sheet.specs.Table.{MISSING}
 use Rattle.board.specs.Board.{Board, idOf, xOf, yOf, zOf, pageOf, downOf, lineOf, rotationOf, hasLine, hasRow, sourceNode, targetNode}
 use Rattle.board.specs.Rows.{rerouterCell, brickCell, rowOf}

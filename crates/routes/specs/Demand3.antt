@@ -5,7 +5,7 @@ use mathlib.Core.Bool.{Bool, true, false, not, _&&_, _||_}
 use mathlib.Core.List.{List, [], _∷_, map, List·Memᴰ}
 use lib.Dec.{eqb, leb}
 use lib.ListN.{length}
-use Rattle.board.specs.Lists.{any, keep}
+use Rattle.base.specs.Lists.{any, keep}
 use Rattle.board.specs.Board.{Board, sourceNode, sourcePort, targetNode, targetPort}
 use Rattle.board.specs.Rows.{REROUTER_SIZE}
 use Rattle.board.specs.Groups.{Tap, tapsOf}

@@ -13,7 +13,7 @@ use Rattle.sheet.specs.Record
 use Rattle.sheet.specs.Text
 use Rattle.sheet.specs.Written
 use Rattle.lanes.specs.Lanes
-use Rattle.lanes.specs.Sort
+use Rattle.base.specs.Sort
 use Rattle.board.specs.Board
 use Rattle.board.specs.Demands
 use Rattle.board.specs.Groups

@@ -4,7 +4,7 @@ use mathlib.Core.Bool.{Bool, true, false, not, _&&_, _||_}
 use mathlib.Core.List.{List, [], _∷_, map}
 use lib.Dec.{eqb, ltb, leb}
 use lib.ListN.{length}
-use Rattle.board.specs.Lists.{Found, none, at, found, orElse, any, keep}
+use Rattle.base.specs.Lists.{Found, none, at, found, orElse, any, keep}
 use Rattle.board.specs.Board.{Board}
 use Rattle.board.specs.Rows.{rowTop}
 use Rattle.board.specs.Groups.{Tap}

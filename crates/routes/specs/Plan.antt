@@ -3,7 +3,7 @@ use Prim.Native.Nat.{ℕ, zero, suc, _+_, _-_}
 use mathlib.Core.Bool.{Bool, true, false, not, _&&_, _||_}
 use mathlib.Core.List.{List, [], _∷_, map}
 use lib.ListN.{length}
-use Rattle.board.specs.Lists.{Found, none, at, keep}
+use Rattle.base.specs.Lists.{Found, none, at, keep}
 use Rattle.board.specs.Board.{Board}
 use Rattle.board.specs.Groups.{Tap, tapsOf}
 use Rattle.board.specs.Demands.{PageLanes}

@@ -4,7 +4,7 @@ use mathlib.Core.Bool.{Bool, true, false, not, _&&_, _||_}
 use mathlib.Core.List.{List, [], _∷_}
 use lib.Dec.{eqb, ltb}
 use lib.ListN.{length, getD}
-use Rattle.board.specs.Lists.{Found, none, at, any}
+use Rattle.base.specs.Lists.{Found, none, at, any}
 use Rattle.sheet.specs.Table.{MISSING}
 use Rattle.board.specs.Board.{Board, placed, idOf, xOf, yOf, zOf, minYOf}
 use Rattle.board.specs.Rows.{REROUTER_SIZE, rerouterCell}

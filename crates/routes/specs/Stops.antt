@@ -4,8 +4,8 @@ use mathlib.Core.Bool.{Bool, true, false, not, _&&_, _||_}
 use mathlib.Core.List.{List, [], _∷_, map, reverse}
 use lib.Dec.{eqb, ltb, leb}
 use lib.ListN.{length}
-use Rattle.lanes.specs.Sort.{sorted, lexLess}
-use Rattle.board.specs.Lists.{Found, none, at, found, keep, least, greatest}
+use Rattle.base.specs.Sort.{sorted, lexLess}
+use Rattle.base.specs.Lists.{Found, none, at, found, keep, least, greatest}
 use Rattle.board.specs.Board.{Board, placed, xOf}
 use Rattle.board.specs.Rows.{REROUTER_SIZE}
 use Rattle.board.specs.Groups.{Tap, tapsIn, sourceAnchor}

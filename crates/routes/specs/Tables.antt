@@ -5,7 +5,7 @@ use mathlib.Core.Bool.{Bool, true, false}
 use mathlib.Core.List.{List, [], _∷_, List·Memᴰ, map}
 use lib.Dec.{eqb}
 use lib.ListN.{length, getD, set}
-use Rattle.board.specs.Lists.{least, greatest}
+use Rattle.base.specs.Lists.{least, greatest}
 use Rattle.board.specs.Board.{Board, field}
 use Rattle.board.specs.Groups.{Tap, tapsIn}
 use Rattle.board.specs.Demands.{PageLanes, laneOf, noLanes}

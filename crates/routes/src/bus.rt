@@ -1,15 +1,15 @@
 // The bus: rerouters and bus wires, and the two operations that each of them comes from (`push_bus_node`).
+use base::ids::NodeId;
+use base::ids::RerouterId;
+use base::numbers::MISSING;
+use base::numbers::ORIGIN;
+use base::rows::BusWireRow;
+use base::rows::RerouterRow;
 ghost use mathlib.Core.Path.{_≡_};
 ghost use Prim.Native.Nat.{_+_, _<_};
 ghost use lib.ListN.{length};
 ghost use Rattle.routes.specs.Buffers.{outward as outwardOf};
 ghost use Rattle.routes.specs.Holding.{endNode, endPort, RoomForBrick, RoomForWire, Placing, Delivering};
-
-// The id of a node.
-pub struct NodeId(pub u32);
-
-// The number of a rerouter.
-pub struct RerouterId(pub u32);
 
 // What a bus wire leaves.
 pub enum End {
@@ -49,10 +49,6 @@ pub struct Placed {
     pub feed: Feed,
 }
 
-const ORIGIN: u32 = 2_000_000;
-
-pub const MISSING: u32 = 4_294_967_295;
-
 // A held coordinate as a number of 32 bits.
 fn outward(c: u32) -> u32
     ensures { λ r. ⌜ r ≡ outwardOf c ⌝ }
@@ -81,8 +77,8 @@ fn end_port(end: End) -> u32
 
 // R13: a brick, and in the same step the bus wire that feeds it. Its depth is one more than its feeder's.
 pub fn push_bus_node(
-    rerouters: &mut [[u32; 10]],
-    bus_wires: &mut [[u32; 6]],
+    rerouters: &mut [RerouterRow],
+    bus_wires: &mut [BusWireRow],
     count: BusCount,
     feed: Feed,
     brick: Brick,
@@ -129,7 +125,7 @@ pub fn push_bus_node(
 
 // A delivery of wire `wire` to its target, with the distance counted so far.
 pub fn push_delivery(
-    bus_wires: &mut [[u32; 6]],
+    bus_wires: &mut [BusWireRow],
     count: BusCount,
     feed: Feed,
     node: NodeId,

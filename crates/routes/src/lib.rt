@@ -1,3 +1,4 @@
-// What is laid on a board: stops, levels, rerouters, bus wires, and the plan as text.
+// The bus in its buffers: rerouters and bus wires, each placed by one operation. The rules from stops to the finished plan, and demand 3, stand in `specs/`; the crates above have
+// their code.
 pub mod bus;
 pub mod levels;

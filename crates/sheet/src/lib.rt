@@ -1,4 +1,5 @@
 // Everything about text: board sheets are read here and plan sheets are written, and refusals 1 to 3 are decided.
+use base::rows::Record;
 ghost use mathlib.Core.Path.{_≡_};
 ghost use mathlib.Core.Bool.{true};
 ghost use mathlib.Core.List.{_++_};
@@ -133,7 +134,7 @@ pub fn row_at(text: &[u8], at: usize) -> RowAt
 }
 
 // Fills the first `n` rows with the rows of the lines from the text's start on.
-pub fn fill_rows(text: &[u8], rows: &mut [[u32; 16]], n: usize)
+pub fn fill_rows(text: &[u8], rows: &mut [Record], n: usize)
     requires { ⌜ (n ≡ length (sheetLines (now text))) × (n ≤ length (now rows)) × (allRead (sheetLines (now text)) ≡ true) ⌝ }
     ensures { λ _. ⌜ now (rows .exit) ≡ rowsFrom (now (text .entry)) ++ drop n (now (rows .entry)) ⌝ }
 {
@@ -148,7 +149,7 @@ pub fn fill_rows(text: &[u8], rows: &mut [[u32; 16]], n: usize)
 }
 
 // Reads a sheet into lent rows, one for each line. Rows that no line takes, and all rows on a refusal, stay as they were.
-pub fn read_sheet(text: &[u8], most: Counts, rows: &mut [[u32; 16]]) -> ReadAnswer
+pub fn read_sheet(text: &[u8], most: Counts, rows: &mut [Record]) -> ReadAnswer
     ensures { λ r. ⌜ (r ≡ readOf (length (now (rows .entry))) (reading most (now (text .entry)))) × (now (rows .exit) ≡ rowsAfter (now (rows .entry)) (reading most (now (text .entry)))) ⌝ }
 {
     match survey_sheet(text, most.list()) {

@@ -1,4 +1,5 @@
 // One line of a sheet: its section, and what its fields hold.
+use base::numbers::MISSING;
 ghost use mathlib.Core.Path.{_≡_};
 ghost use mathlib.Core.Bool.{false, true};
 ghost use Prim.Native.Nat.{ℕ, _+_, _-_, _≤_, _<_};
@@ -13,7 +14,6 @@ ghost use Rattle.sheet.specs.Walk.{Separator, separatorAt, numberIn, end
 use crate::number::Scanned;
 use crate::number::byte_is;
 use crate::number::number_at;
-use crate::table::MISSING;
 use crate::table::first_column;
 
 // What one field holds: the number held, a number that can be read and is out of range, or nothing that may stand there.

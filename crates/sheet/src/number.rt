@@ -1,4 +1,7 @@
 // The numbers of a sheet's fields.
+use base::numbers::DIGITS_MOST;
+use base::numbers::MINUS;
+use base::numbers::ZERO;
 ghost use mathlib.Core.Path.{_≡_};
 ghost use Prim.Native.Nat.{_+_, _≤_, min};
 ghost use lib.ListN.{length, drop};
@@ -24,13 +27,7 @@ pub enum Scanned {
     Minus(u64, usize),
 }
 
-const MINUS: u8 = 45;
-
-const ZERO: u8 = 48;
-
 const NINE: u8 = 57;
-
-const DIGITS_MOST: usize = 10;
 
 fn wide(b: u8) -> u64
     ensures { λ r. ⌜ r ≡ b ⌝ }

@@ -1,4 +1,5 @@
 // The sections' tables of fields.
+use base::numbers::MISSING;
 ghost use mathlib.Core.Path.{_≡_};
 ghost use Prim.Native.Nat.{_≤_};
 ghost use Rattle.sheet.specs.Table.{SECTIONS};
@@ -6,9 +7,6 @@ ghost use Rattle.sheet.specs.Walk.{firstColumn};
 
 // What is added to a coordinate before it is held: no number held is negative.
 pub const ORIGIN: u64 = 2_000_000;
-// What a missing field is held as.
-pub const MISSING: u32 = 4_294_967_295;
-
 // The columns of all sections, one section after the other: origin, low, high, gap.
 pub const COLUMNS: [[u32; 4]; 25] = [
     [2_000_000, 1_000_000, 3_000_000, 1],

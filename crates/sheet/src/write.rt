@@ -1,19 +1,14 @@
 // Writing: numbers and lines appended to a lent buffer. Each function takes the place to write at and gives the place behind what it wrote.
+use base::numbers::DIGITS_MOST;
+use base::numbers::MINUS;
+use base::numbers::MISSING;
+use base::numbers::ORIGIN;
+use base::numbers::ZERO;
 ghost use mathlib.Core.Path.{_≡_};
 ghost use mathlib.Core.List.{List, [], _∷_};
 ghost use Prim.Native.Nat.{ℕ, _+_, _≤_, _<_};
 ghost use lib.ListN.{length};
 ghost use Rattle.sheet.specs.Written.{Wrote, digitsOf, decimal, coordinateText, numberText};
-
-const ZERO: u8 = 48;
-
-const MINUS: u8 = 45;
-
-const ORIGIN: u32 = 2_000_000;
-
-const MISSING: u32 = 4_294_967_295;
-
-const DIGITS_MOST: usize = 10;
 
 // One byte: a letter, a tab, byte 10.
 pub fn put_byte(out: &mut [u8], at: usize, byte: u8) -> usize

@@ -9,7 +9,7 @@ use lib.Dec.{eqb, ltb}
 use lib.ListN.{length, getD, set, length-set}
 use lib.Seq.{getD-set-same, getD-set-other}
 use borrow.Author.Tests.{eq-eqb, ne-eqb, eqb-true, eqb-false, lt-ltb, ltb-true}
-use Rattle.board.specs.Lists.{Found, none, at, found}
+use Rattle.base.specs.Lists.{Found, none, at, found}
 use Rattle.board.specs.Board.{Board, field}
 use Rattle.board.specs.Rows.{REROUTER_SIZE, rowTop}
 use Rattle.board.specs.Groups.{Tap}
@@ -18,7 +18,7 @@ use Rattle.board.proofs.Newest.{pick-true, pick-false}
 use Rattle.routes.specs.Stops.{near, stopX}
 use Rattle.routes.specs.Levels.{Level, dropped, shared, own, Stop, keptAt, previousStop, levelWithBase, levelOf, ownLevel, findLevel}
 use Rattle.stops.specs.Laying.{levelAnswer, stopAnswer, keptEnd, Ends}
-use Rattle.board.specs.Tables.{view}
+use Rattle.base.specs.Views.{view}
 use Rattle.stops.specs.Marks.{Marks, markIn, onRow, inColumn, marksWith}
 use Rattle.stops.specs.declared.marks.Mark.{Mark}
 use Rattle.stops.specs.declared.levels.Found.the-variants.{None, At}

@@ -8,14 +8,15 @@ use native.Mathlib.Omega.{arith}
 use lib.Dec.{eqb}
 use lib.ListN.{length, getD, set, length-set, replicate, length-replicate, getD-replicate}
 use borrow.Author.Tests.{eq-eqb, ne-eqb}
-use Rattle.board.specs.Lists.{at}
+use Rattle.base.specs.Lists.{at}
 use Rattle.board.specs.Board.{Board, field}
 use Rattle.board.specs.Groups.{Tap}
 use Rattle.board.specs.Demands.{PageLanes}
-use Rattle.board.specs.Tables.{view, tapIn}
+use Rattle.base.specs.Views.{view}
+use Rattle.board.specs.Tables.{tapIn}
 use Rattle.board.specs.Index.{link}
 use Rattle.board.proofs.Newest.{pick-true, pick-false}
-use Rattle.board.proofs.Views.{view-more}
+use Rattle.base.proofs.Views.{view-more}
 use Rattle.routes.specs.Stops.{newRow, stopX}
 use Rattle.routes.specs.Levels.{Level, dropped, shared, own, Stop, previousStop, levelWithBase, levelOf, stopFor, stopsOf, laneFor}
 use Rattle.routes.specs.Tables.{stopIn}

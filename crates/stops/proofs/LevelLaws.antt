@@ -9,8 +9,8 @@ use lib.Dec.{eqb, ltb, leb}
 use lib.ListN.{length}
 use borrow.Author.Tests.{eq-eqb, ne-eqb, eqb-true, lt-ltb, ltb-true, le-leb, lt-leb, leb-true, leb-false}
 use Rattle.sheet.specs.Table.{MISSING}
-use Rattle.board.specs.Lists.{Found, none, at, any, keep}
-use Rattle.board.proofs.Lists.{clash, and-left, and-right, both, or-left, or-right}
+use Rattle.base.specs.Lists.{Found, none, at, any, keep}
+use Rattle.base.proofs.Lists.{clash, and-left, and-right, both, or-left, or-right}
 use Rattle.board.proofs.Newest.{pick-true, pick-false}
 use Rattle.routes.specs.Stops.{near}
 use Rattle.routes.specs.Levels.{Level, dropped, shared, own, Stop, STAGGER_STEP, keptAt, keptThere, claimNear, loadAt, unclaimed, freeLevel, findLevel, lowest, lighter, lightest, levelsIn}

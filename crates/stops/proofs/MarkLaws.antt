@@ -9,13 +9,13 @@ use lib.Dec.{eqb}
 use lib.ListN.{length, getD, set, length-map, List·getD-map}
 use lib.Seq.{getD-set-same, getD-set-other}
 use borrow.Author.Tests.{eq-eqb, ne-eqb, eqb-true}
-use Rattle.board.specs.Lists.{Found, none, at, found, any, keep, newest}
+use Rattle.base.specs.Lists.{Found, none, at, found, any, keep, newest}
 use Rattle.board.specs.Board.{field}
-use Rattle.board.specs.Tables.{view}
+use Rattle.base.specs.Views.{view}
 use Rattle.board.specs.Index.{link}
-use Rattle.board.proofs.Lists.{and-left, and-right, count-le}
+use Rattle.base.proofs.Lists.{and-left, and-right, count-le}
 use Rattle.board.proofs.Newest.{Following, Implies, chain-start, chain-next, chain-falls, chained-more, chained-same, link-held, link-below, follow-found, follow-end, pick-true, pick-false}
-use Rattle.board.proofs.Views.{view-set, view-more}
+use Rattle.base.proofs.Views.{view-set, view-more}
 use Rattle.stops.specs.Marks.{Marks, markIn, nextIn, markBucket, sameMark, countOf, MARK_BUCKETS}
 use Rattle.stops.specs.declared.marks.Mark.{Mark}
 

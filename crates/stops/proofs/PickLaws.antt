@@ -7,14 +7,15 @@ use native.Mathlib.Numerals.{add-one}
 use native.Mathlib.Omega.{arith}
 use lib.ListN.{length, getD, take, set, length-append}
 use lib.Seq.{take-suc-set, take-at}
-use Rattle.lanes.specs.Sort.{sorted, sortedRows}
+use Rattle.base.specs.Sort.{sorted, sortedRows}
 use Rattle.board.proofs.Newest.{pick-true, pick-false}
-use Rattle.board.specs.Lists.{keep}
+use Rattle.base.specs.Lists.{keep}
 use Rattle.board.specs.Board.{Board}
 use Rattle.board.specs.Groups.{Tap}
 use Rattle.board.specs.Demands.{PageLanes}
-use Rattle.board.specs.Tables.{view, tapIn, tapRow}
-use Rattle.board.proofs.Views.{view-take}
+use Rattle.base.specs.Views.{view}
+use Rattle.board.specs.Tables.{tapIn, tapRow}
+use Rattle.base.proofs.Views.{view-take}
 use Rattle.routes.specs.Stops.{tapBefore, isLaid, laidTaps}
 use Rattle.routes.proofs.Views.{taps-sorted, taps-read, tap-row}
 

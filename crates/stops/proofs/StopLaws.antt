@@ -8,14 +8,14 @@ use lib.Dec.{eqb, leb}
 use lib.ListN.{length}
 use borrow.Author.Tests.{eq-eqb, ne-eqb}
 use Rattle.sheet.specs.Table.{MISSING}
-use Rattle.board.specs.Lists.{Found, none, at, found, keep, least, greatest}
+use Rattle.base.specs.Lists.{Found, none, at, found, keep, least, greatest}
 use Rattle.board.specs.Board.{Board, field, xOf, sourceNode}
 use Rattle.board.specs.Groups.{Tap, tapsIn, anchorOf, sourceAnchor}
 use Rattle.board.specs.Demands.{PageLanes, laneOf}
 use Rattle.board.specs.Tables.{held}
 use Rattle.routes.specs.Stops.{MIN_LANE_TRAVEL, spread, longEnough, isLaid}
 use Rattle.stops.specs.Laying.{GroupFits, Tabled}
-use Rattle.board.proofs.Lists.{to-keep, to-map}
+use Rattle.base.proofs.Lists.{to-keep, to-map}
 
 -- Of a list that is not empty the least and the greatest have no other value to fall back on.
 least-there : (d u : ℕ) (l : List ℕ) → List·Memᴰ u l → least d l ≡ least 0 l

@@ -7,19 +7,20 @@ use mathlib.Core.List.{List, [], List·Memᴰ, List·Memᴰ·cases-cons, List·M
 use native.Mathlib.Omega.{arith}
 use lib.Dec.{eqb}
 use lib.ListN.{length, getD}
-use Rattle.lanes.specs.Sort.{sorted}
-use Rattle.board.specs.Lists.{Found, none, at, found, keep, fold, upto, newest}
+use Rattle.base.specs.Sort.{sorted}
+use Rattle.base.specs.Lists.{Found, none, at, found, keep, fold, upto, newest}
 use Rattle.board.specs.Board.{Board, classInline, kindCoerce, classOf, kindOf, field, hasRow, pageOf, sourceNode, targetNode}
 use Rattle.board.specs.Refusals.{bodyOf, innerOf}
 use Rattle.board.specs.Rows.{rowOf, rowTop}
 use Rattle.board.specs.Groups.{Tap, crossesAt, isBusWorthy, targetsExec, anchorOf, anchorsOpen, addWire, tapFor, tapsOf, wireOpen}
 use Rattle.board.specs.Demands.{PageLanes, laneOf}
-use Rattle.board.specs.Tables.{NodeFacts, held, view, tapIn}
+use Rattle.base.specs.Views.{view}
+use Rattle.board.specs.Tables.{NodeFacts, held, tapIn}
 use Rattle.board.specs.Index.{link}
-use Rattle.board.proofs.Lists.{never, and-left, and-right, byTest, byFound, in-keep, in-sorted, in-reverse}
+use Rattle.base.proofs.Lists.{never, and-left, and-right, byTest, byFound, in-keep, in-sorted, in-reverse}
 use Rattle.board.proofs.Taps.{taps-of}
 use Rattle.board.proofs.Newest.{link-below}
-use Rattle.board.proofs.Views.{view-mem}
+use Rattle.base.proofs.Views.{view-mem}
 use Rattle.routes.specs.Stops.{isLaid, laidTaps, tapBefore}
 use Rattle.routes.specs.Levels.{laneFor}
 use Rattle.stops.specs.Laying.{Tabled, LaidFacts}

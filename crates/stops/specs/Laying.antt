@@ -6,12 +6,13 @@ use mathlib.Core.List.{List, [], List·Memᴰ}
 use lib.Dec.{eqb}
 use lib.ListN.{length, getD}
 use Rattle.sheet.specs.Table.{MISSING}
-use Rattle.board.specs.Lists.{Found, none, at}
+use Rattle.base.specs.Lists.{Found, none, at}
 use Rattle.board.specs.Board.{Board, field}
 use Rattle.board.specs.Groups.{Tap}
 use Rattle.board.specs.Demands.{PageLanes, laneOf}
 use Rattle.board.specs.Rows.{rowTop}
-use Rattle.board.specs.Tables.{WireFacts, view, tapIn}
+use Rattle.base.specs.Views.{view}
+use Rattle.board.specs.Tables.{WireFacts, tapIn}
 use Rattle.board.specs.Index.{link}
 use Rattle.routes.specs.Levels.{Level, dropped, shared, own, Stop, previousStop, levelWithBase, laneFor}
 use Rattle.routes.specs.Tables.{GroupFacts, stopIn}

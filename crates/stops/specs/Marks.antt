@@ -5,9 +5,9 @@ use mathlib.Core.Bool.{Bool, _&&_}
 use mathlib.Core.List.{List, [], _∷_, map}
 use lib.Dec.{eqb}
 use lib.ListN.{length, getD}
-use Rattle.board.specs.Lists.{keep}
+use Rattle.base.specs.Lists.{keep}
 use Rattle.board.specs.Board.{field}
-use Rattle.board.specs.Tables.{view}
+use Rattle.base.specs.Views.{view}
 use Rattle.board.specs.Index.{Chained}
 use Rattle.routes.specs.Levels.{Level, dropped, shared, own, Stop}
 use Rattle.stops.specs.declared.marks.Mark.{Mark}

@@ -1,15 +1,19 @@
 // Levels: the first pass of `lay_bus`, which gives each stop its level.
+use base::numbers::MISSING;
+use base::numbers::REROUTER_SIZE;
+use base::rows::WorkRow;
 ghost use mathlib.Core.Path.{_≡_};
 ghost use mathlib.Core.List.{List, [], _∷_};
 ghost use Prim.Native.Nat.{_<_, _≤_, _+_, _*_};
 ghost use lib.Dec.{leb};
 ghost use lib.ListN.{length, getD};
 ghost use Rattle.sheet.specs.Table.{MISSING};
-ghost use Rattle.board.specs.Lists.{Found as FoundX};
+ghost use Rattle.base.specs.Lists.{Found as FoundX};
 ghost use Rattle.board.specs.Board.{Board};
 ghost use Rattle.board.specs.Rows.{rowTop};
 ghost use Rattle.board.specs.Demands.{PageLanes};
-ghost use Rattle.board.specs.Tables.{view, tapIn};
+ghost use Rattle.base.specs.Views.{view};
+ghost use Rattle.board.specs.Tables.{tapIn};
 ghost use Rattle.board.specs.Index.{link};
 ghost use Rattle.routes.specs.Stops.{newRow, near, stopX};
 ghost use Rattle.routes.specs.Levels.{Level as StopsLevel, Stop, STAGGER_STEP, levelsIn, lowest, lightest, freeLevel, unclaimed, loadAt, findLevel, keptAt, levelWithBase, levelOf, stopFor, stopsOf};
@@ -22,12 +26,8 @@ use crate::marks::ON_ROW;
 use crate::marks::add_mark;
 use crate::marks::count_of;
 use crate::marks::is_marked;
-use crate::stops::MISSING;
 use crate::stops::group_of;
 use routes::levels::Level;
-
-// C2: a rerouter's extent in x and in y, `2 * REROUTER_HALF`.
-pub const REROUTER_SIZE: u32 = 2;
 
 // The most wires, and so the most groups.
 pub const WIRES_MOST: usize = 8_192;
@@ -50,7 +50,7 @@ pub enum Found {
 
 // `claim_column`'s test: no claim of the lane's column overlaps the span of 2 at `level`. One that does starts at most 1 below or above.
 pub fn is_unclaimed(
-    marks: &[[u32; 8]],
+    marks: &[WorkRow],
     heads: &[u32],
     n: usize,
     page: u32,
@@ -105,7 +105,7 @@ pub fn is_unclaimed(
 
 // V4: load 0 on the row, and its span unclaimed.
 fn is_free(
-    marks: &[[u32; 8]],
+    marks: &[WorkRow],
     heads: &[u32],
     n: usize,
     page: u32,
@@ -145,7 +145,7 @@ pub fn is_within(level: u32, top: u32) -> bool
 
 // V3: the lowest free level, or none.
 fn lowest_free(
-    marks: &[[u32; 8]],
+    marks: &[WorkRow],
     heads: &[u32],
     n: usize,
     page: u32,
@@ -182,7 +182,7 @@ pub fn levels_in(base: u32, top: u32) -> u32
 
 // V7: the least loaded level that is unclaimed, the lowest of equals, or none. It goes from the highest down, so that the last one taken is the lowest.
 fn least_loaded(
-    marks: &[[u32; 8]],
+    marks: &[WorkRow],
     heads: &[u32],
     n: usize,
     page: u32,
@@ -224,7 +224,7 @@ fn least_loaded(
 
 // V3, V8: the lowest free level; else the least loaded that can be claimed (V7); else base, if that can.
 pub fn find_level(
-    marks: &[[u32; 8]],
+    marks: &[WorkRow],
     heads: &[u32],
     n: usize,
     page: u32,
@@ -283,7 +283,7 @@ fn is_near(x: u32, p: u32) -> bool
 
 // The level of a stop at `base`: that of the group's last kept stop where that has this base, else one that the finder gives.
 fn level_of(
-    marks: &[[u32; 8]],
+    marks: &[WorkRow],
     heads: &[u32],
     n: usize,
     end: [u32; 4],
@@ -349,7 +349,7 @@ fn note_end(ends: &mut [[u32; 4]], g: usize, base: u32, level: Level)
 
 // A kept stop is marked on its row, an own level in its lane's column too.
 fn mark_stop(
-    marks: &mut [[u32; 8]],
+    marks: &mut [WorkRow],
     heads: &mut [u32],
     n: usize,
     tap: [u32; 8],
@@ -411,9 +411,9 @@ fn lay_stop(
     tap: [u32; 8],
     lane: u32,
     top: u32,
-    stops: &mut [[u32; 8]],
+    stops: &mut [WorkRow],
     ends: &mut [[u32; 4]],
-    marks: &mut [[u32; 8]],
+    marks: &mut [WorkRow],
     heads: &mut [u32],
     counts: StopCounts,
     n: usize,
@@ -441,7 +441,7 @@ fn lay_stop(
 }
 
 // Whether the tap in row `k` is the first of its group on its row.
-fn is_new_row(laid: &[[u32; 8]], k: usize) -> bool
+fn is_new_row(laid: &[WorkRow], k: usize) -> bool
     requires { ⌜ k < length (now laid) ⌝ }
     ensures { λ r. ⌜ r ≡ newRow (view tapIn (now (laid .entry)) k) (tapIn (getD (now (laid .entry)) k [])) ⌝ }
 {
@@ -458,15 +458,15 @@ fn is_new_row(laid: &[[u32; 8]], k: usize) -> bool
 
 // Lays the stop of the tap in row `k`, where it is the first of its group on its row.
 fn lay_tap(
-    wire_facts: &[[u32; 8]],
-    node_facts: &[[u32; 8]],
-    groups: &[[u32; 8]],
-    laid: &[[u32; 8]],
+    wire_facts: &[WorkRow],
+    node_facts: &[WorkRow],
+    groups: &[WorkRow],
+    laid: &[WorkRow],
     n: usize,
     k: usize,
-    stops: &mut [[u32; 8]],
+    stops: &mut [WorkRow],
     ends: &mut [[u32; 4]],
-    marks: &mut [[u32; 8]],
+    marks: &mut [WorkRow],
     heads: &mut [u32],
     counts: StopCounts,
 ) -> StopCounts
@@ -501,14 +501,14 @@ fn lay_tap(
 
 // Lays the stops of the first `n` laid taps.
 fn fill_stops(
-    wire_facts: &[[u32; 8]],
-    node_facts: &[[u32; 8]],
-    groups: &[[u32; 8]],
-    laid: &[[u32; 8]],
+    wire_facts: &[WorkRow],
+    node_facts: &[WorkRow],
+    groups: &[WorkRow],
+    laid: &[WorkRow],
     n: usize,
-    stops: &mut [[u32; 8]],
+    stops: &mut [WorkRow],
     ends: &mut [[u32; 4]],
-    marks: &mut [[u32; 8]],
+    marks: &mut [WorkRow],
     heads: &mut [u32],
 ) -> StopCounts
     requires { ⌜ LaidFits (now «wire_facts») (now «node_facts») (now groups) (now laid) n ⌝ }
@@ -542,13 +542,13 @@ fn fill_stops(
 // The first pass of `lay_bus`: the stops of the laid taps in the first rows of `stops`, one for each row of each group, with their levels and marks.
 // The heads come in as zeros. What marks there are is told, so that the second pass can go on from the claims.
 pub fn lay_stops(
-    wire_facts: &[[u32; 8]],
-    node_facts: &[[u32; 8]],
-    groups: &[[u32; 8]],
-    laid: &[[u32; 8]],
+    wire_facts: &[WorkRow],
+    node_facts: &[WorkRow],
+    groups: &[WorkRow],
+    laid: &[WorkRow],
     n: usize,
-    stops: &mut [[u32; 8]],
-    marks: &mut [[u32; 8]],
+    stops: &mut [WorkRow],
+    marks: &mut [WorkRow],
     heads: &mut [u32],
 ) -> StopCounts
     requires { ⌜ LaidFits (now «wire_facts») (now «node_facts») (now groups) (now laid) n ⌝ }

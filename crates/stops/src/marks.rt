@@ -1,10 +1,11 @@
 // Marks: the levels in use on rows and claimed in lanes' columns, found by bucket, so that a level is asked for in a few steps however many stops there are.
+use base::rows::WorkRow;
 ghost use mathlib.Core.Path.{_≡_};
 ghost use mathlib.Core.List.{[], _∷_};
 ghost use Prim.Native.Nat.{_+_, _<_};
 ghost use lib.ListN.{length, getD};
-ghost use Rattle.board.specs.Lists.{any, newest};
-ghost use Rattle.board.specs.Tables.{view};
+ghost use Rattle.base.specs.Lists.{any, newest};
+ghost use Rattle.base.specs.Views.{view};
 ghost use Rattle.board.specs.Index.{link};
 ghost use Rattle.stops.specs.Marks.{Marks, markIn, markBucket, sameMark, countOf};
 
@@ -50,7 +51,7 @@ fn is_mark(m: Mark, row: [u32; 8]) -> bool
 }
 
 // The newest of the first `n` marks that equals `m`: 0 for none, or one more than its index.
-fn find_mark(rows: &[[u32; 8]], heads: &[u32], n: usize, m: Mark) -> usize
+fn find_mark(rows: &[WorkRow], heads: &[u32], n: usize, m: Mark) -> usize
     requires { ⌜ Marks (now rows) (now heads) n ⌝ }
     ensures { λ r. ⌜ r ≡ link (newest (λ j. sameMark m (markIn (getD (now (rows .entry)) j []))) n) ⌝ }
 {
@@ -66,7 +67,7 @@ fn find_mark(rows: &[[u32; 8]], heads: &[u32], n: usize, m: Mark) -> usize
 }
 
 // Whether `m` is among the first `n` marks.
-pub fn is_marked(rows: &[[u32; 8]], heads: &[u32], n: usize, m: Mark) -> bool
+pub fn is_marked(rows: &[WorkRow], heads: &[u32], n: usize, m: Mark) -> bool
     requires { ⌜ Marks (now rows) (now heads) n ⌝ }
     ensures { λ r. ⌜ r ≡ any (sameMark m) (view markIn (now (rows .entry)) n) ⌝ }
 {
@@ -74,7 +75,7 @@ pub fn is_marked(rows: &[[u32; 8]], heads: &[u32], n: usize, m: Mark) -> bool
 }
 
 // How many of the first `n` marks equal `m`: the newest one knows.
-pub fn count_of(rows: &[[u32; 8]], heads: &[u32], n: usize, m: Mark) -> u32
+pub fn count_of(rows: &[WorkRow], heads: &[u32], n: usize, m: Mark) -> u32
     requires { ⌜ Marks (now rows) (now heads) n ⌝ }
     ensures { λ r. ⌜ r ≡ countOf m (view markIn (now (rows .entry)) n) ⌝ }
 {
@@ -86,7 +87,7 @@ pub fn count_of(rows: &[[u32; 8]], heads: &[u32], n: usize, m: Mark) -> u32
 }
 
 // One more mark.
-pub fn add_mark(rows: &mut [[u32; 8]], heads: &mut [u32], n: usize, m: Mark)
+pub fn add_mark(rows: &mut [WorkRow], heads: &mut [u32], n: usize, m: Mark)
     requires { ⌜ Marks (now rows) (now heads) n ⌝ }
     requires { ⌜ (n < length (now rows)) × (n < 65536) ⌝ }
     ensures { λ _. ⌜ Marks (now (rows .exit)) (now (heads .exit)) (n + 1) ⌝ }

@@ -1,19 +1,20 @@
 // Stops: which groups are laid, and their taps in the order of laying.
+use base::numbers::MISSING;
+use base::rows::Record;
+use base::rows::WorkRow;
 ghost use mathlib.Core.Path.{_≡_};
 ghost use mathlib.Core.List.{List, List·Memᴰ, map};
 ghost use Prim.Native.Nat.{_≤_, min, max};
 ghost use lib.ListN.{length, take};
-ghost use Rattle.board.specs.Lists.{keep};
+ghost use Rattle.base.specs.Lists.{keep};
 ghost use Rattle.board.specs.Board.{Board};
 ghost use Rattle.board.specs.Groups.{Tap};
 ghost use Rattle.board.specs.Demands.{PageLanes};
-ghost use Rattle.board.specs.Tables.{view, tapIn, tapRow};
+ghost use Rattle.base.specs.Views.{view};
+ghost use Rattle.board.specs.Tables.{tapIn, tapRow};
 ghost use Rattle.routes.specs.Stops.{longEnough, isLaid, laidTaps};
 ghost use Rattle.stops.specs.Laying.{GroupFits, TapsFit, Tabled};
-use lanes::sort::sort_rows;
-
-// A missing field or lane.
-pub const MISSING: u32 = 4_294_967_295;
+use base::sort::sort_rows;
 
 // A lane whose source and taps span less is already a short hop.
 pub const MIN_LANE_TRAVEL: u32 = 6;
@@ -31,12 +32,7 @@ fn greater(a: u32, b: u32) -> u32
 }
 
 // T1: whether the source anchor of group `g` is unplaced, or taps and source lie far enough apart.
-pub fn long_enough(
-    nodes: &[[u32; 16]],
-    wire_facts: &[[u32; 8]],
-    groups: &[[u32; 8]],
-    g: usize,
-) -> bool
+pub fn long_enough(nodes: &[Record], wire_facts: &[WorkRow], groups: &[WorkRow], g: usize) -> bool
     requires { ⌜ GroupFits (now nodes) (now «wire_facts») (now groups) g ⌝ }
     ensures { λ r. ⌜ ((b : Board) (ts : List Tap) (ps : List PageLanes) (t : Tap)
         → Tabled b ts ps (now (nodes .entry)) (now («wire_facts» .entry)) (now (groups .entry))
@@ -53,7 +49,7 @@ pub fn long_enough(
 }
 
 // Whether the taps of group `g` are laid.
-fn is_laid(nodes: &[[u32; 16]], wire_facts: &[[u32; 8]], groups: &[[u32; 8]], g: usize) -> bool
+fn is_laid(nodes: &[Record], wire_facts: &[WorkRow], groups: &[WorkRow], g: usize) -> bool
     requires { ⌜ GroupFits (now nodes) (now «wire_facts») (now groups) g ⌝ }
     ensures { λ r. ⌜ ((b : Board) (ts : List Tap) (ps : List PageLanes) (t : Tap)
         → Tabled b ts ps (now (nodes .entry)) (now («wire_facts» .entry)) (now (groups .entry))
@@ -74,12 +70,12 @@ pub fn group_of(tap: [u32; 8]) -> usize
 
 // Copies the taps of laid groups, from the newest to the oldest, so that the rows stand in the order of the list.
 fn pick_laid(
-    nodes: &[[u32; 16]],
-    wire_facts: &[[u32; 8]],
-    groups: &[[u32; 8]],
-    taps: &[[u32; 8]],
+    nodes: &[Record],
+    wire_facts: &[WorkRow],
+    groups: &[WorkRow],
+    taps: &[WorkRow],
     m: usize,
-    laid: &mut [[u32; 8]],
+    laid: &mut [WorkRow],
 ) -> usize
     requires { ⌜ TapsFit (now nodes) (now «wire_facts») (now groups) (now taps) m ⌝ }
     requires { ⌜ m ≤ length (now laid) ⌝ }
@@ -103,13 +99,13 @@ fn pick_laid(
 
 // The taps of the laid groups in the order of laying, in the first rows of `laid`: how many there are.
 pub fn lay_taps(
-    nodes: &[[u32; 16]],
-    wire_facts: &[[u32; 8]],
-    groups: &[[u32; 8]],
-    taps: &[[u32; 8]],
+    nodes: &[Record],
+    wire_facts: &[WorkRow],
+    groups: &[WorkRow],
+    taps: &[WorkRow],
     m: usize,
-    laid: &mut [[u32; 8]],
-    spare: &mut [[u32; 8]],
+    laid: &mut [WorkRow],
+    spare: &mut [WorkRow],
 ) -> usize
     requires { ⌜ TapsFit (now nodes) (now «wire_facts») (now groups) (now taps) m ⌝ }
     requires { ⌜ (m ≤ length (now laid)) × (m ≤ length (now spare)) ⌝ }

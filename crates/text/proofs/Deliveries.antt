@@ -9,10 +9,10 @@ use lib.Dec.{eqb}
 use lib.ListN.{length, getD}
 use borrow.Author.Tests.{eq-eqb, ne-eqb}
 use Rattle.sheet.specs.Table.{MISSING}
-use Rattle.board.specs.Lists.{keep}
-use Rattle.board.specs.Tables.{view}
-use Rattle.board.proofs.Lists.{keep-yes, keep-no}
-use Rattle.board.proofs.Views.{view-more}
+use Rattle.base.specs.Lists.{keep}
+use Rattle.base.specs.Views.{view}
+use Rattle.base.proofs.Lists.{keep-yes, keep-no}
+use Rattle.base.proofs.Views.{view-more}
 use Rattle.routes.specs.Bus.{BusWire, End, port, rerouter, Carries, onward, delivery}
 use Rattle.routes.specs.Buffers.{endRow, carriesRow, wireRow}
 use Rattle.routes.specs.Tables.{writtenOver}

@@ -11,7 +11,7 @@ use Rattle.sheet.specs.Table.{MISSING, ID_MOST, PORT_MOST, PAGE_MOST}
 use Rattle.board.specs.Accepted.{COORDINATE_HIGH, Y_HIGH, Accepted}
 use Rattle.board.specs.Board.{Board}
 use Rattle.board.specs.Rows.{REROUTER_SIZE}
-use Rattle.board.proofs.Lists.{byTest}
+use Rattle.base.proofs.Lists.{byTest}
 use Rattle.routes.specs.Bus.{Bus, Brick, BusWire, End, port, rerouter, Carries, onward, delivery, Port, Feed, insertPort, portOf, portFeed, placedFeed, place, deliver}
 use Rattle.board.proofs.Reach.{All, all-more, REACH_MOST}
 

@@ -8,12 +8,12 @@ use lib.Dec.{eqb, leb}
 use lib.ListN.{length}
 use Rattle.sheet.specs.Table.{PAGE_MOST}
 use Rattle.board.specs.Accepted.{COORDINATE_HIGH, Y_HIGH, Accepted}
-use Rattle.board.specs.Lists.{Found, none, at, found, fold, upto}
+use Rattle.base.specs.Lists.{Found, none, at, found, fold, upto}
 use Rattle.board.specs.Board.{Board, classInline, kindCoerce, classOf, kindOf, hasRow, sourceNode, targetNode}
 use Rattle.board.specs.Rows.{rowTop}
 use Rattle.board.specs.Groups.{Tap, tapsOf, tapFor, addWire, wireOpen, anchorOf, anchorsOpen, crossesAt, isBusWorthy, targetsExec}
 use Rattle.board.specs.Demands.{PageLanes}
-use Rattle.board.proofs.Lists.{never, and-right, byTest, byFound}
+use Rattle.base.proofs.Lists.{never, and-right, byTest, byFound}
 use Rattle.routes.specs.Stops.{newRow, near, stopX}
 use Rattle.routes.specs.Levels.{Level, dropped, shared, own, Stop, STAGGER_STEP, keptAt, levelsIn, lowest, lighter, lightest, previousStop, levelWithBase, findLevel, freeLevel, loadAt, unclaimed, ownLevel, levelOf, stopFor, stopsOf, laneFor}
 use Rattle.routes.specs.Rerouters.{levelHere}

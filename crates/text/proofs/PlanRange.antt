@@ -7,13 +7,13 @@ use mathlib.Core.List.{List, [], _∷_, List·Memᴰ·head, List·Memᴰ·tail}
 use lib.Dec.{eqb, ltb}
 use lib.ListN.{length}
 use Rattle.board.specs.Accepted.{COORDINATE_HIGH, Y_HIGH, Accepted}
-use Rattle.board.specs.Lists.{Found, none, at, found, any, fold, upto}
+use Rattle.base.specs.Lists.{Found, none, at, found, any, fold, upto}
 use Rattle.board.specs.Board.{Board, placed, hasLine, hasRow, lineOf, xOf, yOf, downOf, pageOf, rotationOf, sourceNode, targetNode}
 use Rattle.board.specs.Refusals.{bodyOf}
 use Rattle.board.specs.Rows.{REROUTER_SIZE, rowOf, brickCell}
 use Rattle.board.specs.Groups.{Tap, tapsOf, tapsIn, wireOpen, sourceAnchor, sourceRow}
 use Rattle.board.specs.Demands.{PageLanes, laneOf, laneY, planned, planLanes}
-use Rattle.board.proofs.Lists.{never, clash, and-left, and-right, byTest, byFound}
+use Rattle.base.proofs.Lists.{never, clash, and-left, and-right, byTest, byFound}
 use Rattle.board.proofs.LanesFit.{planned-fits}
 use Rattle.routes.specs.Stops.{laidTaps, isLaid, newGroup, newRow, newColumn}
 use Rattle.routes.specs.Levels.{Level, dropped, shared, own, Stop, levelsIn, lowest, stopsOf, laneFor}

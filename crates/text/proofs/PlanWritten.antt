@@ -12,7 +12,7 @@ use Rattle.lanes.specs.Lanes.{Packed, full, laned}
 use Rattle.board.specs.Groups.{Tap, tapsOf}
 use Rattle.board.specs.Demands.{PageLanes, Planned, crowded, planned, planLanes, planUpto, packedOn, groupsOn}
 use Rattle.board.specs.Planning.{pageRow}
-use Rattle.board.proofs.Lists.{never, byTest, in-reverse}
+use Rattle.base.proofs.Lists.{never, byTest, in-reverse}
 use Rattle.routes.specs.Bus.{Bus, Brick, BusWire, End, port, rerouter, Carries, onward, delivery}
 use Rattle.routes.specs.Buffers.{brickRow, wireRow, portRow}
 use Rattle.routes.specs.Tables.{writtenOver}

@@ -4,12 +4,12 @@ use mathlib.Core.Path.{_≡_}
 use mathlib.Core.Bool.{Bool}
 use mathlib.Core.List.{List, _++_, map}
 use lib.ListN.{length, getD}
-use Rattle.board.specs.Lists.{keep}
+use Rattle.base.specs.Lists.{keep}
 use Rattle.board.specs.Board.{Board, given}
 use Rattle.board.specs.Accepted.{Accepted}
 use Rattle.board.specs.Demands.{PageLanes, planned, planLanes}
 use Rattle.board.specs.Planning.{pageRow}
-use Rattle.board.specs.Tables.{view}
+use Rattle.base.specs.Views.{view}
 use Rattle.routes.specs.Buffers.{portRow}
 use Rattle.routes.specs.Holding.{BusHeld}
 use Rattle.routes.specs.Plan.{finished, laidGroups}

@@ -1,4 +1,10 @@
 // The finished plan as text: the buffers, counted and written.
+use base::numbers::MISSING;
+use base::rows::BusWireRow;
+use base::rows::PageRow;
+use base::rows::PortRow;
+use base::rows::RerouterRow;
+
 pub mod plan_sheet;
 
 use crate::plan_sheet::Totals;
@@ -15,11 +21,8 @@ ghost use Rattle.routes.specs.Plan.{finished, laidGroups};
 ghost use Rattle.routes.specs.PlanSheet.{planSheet};
 ghost use Rattle.text.specs.Held.{deliveryRows, totalsOf, PlanHeld};
 
-// What a bus wire that is no delivery holds for a wire.
-const MISSING: u32 = 4_294_967_295;
-
 // How many of the first k bus wires are deliveries: those that name a wire.
-fn count_deliveries(bus_wires: &[[u32; 6]], k: usize) -> usize
+fn count_deliveries(bus_wires: &[BusWireRow], k: usize) -> usize
     requires { ⌜ k ≤ length (now «bus_wires») ⌝ }
     ensures { λ r. ⌜ (r ≡ deliveryRows (now («bus_wires» .entry)) k) × (r ≤ k) ⌝ }
 {
@@ -60,13 +63,13 @@ fn totals(n: usize, k: usize, deliveries: usize, wires: usize, groups: usize) ->
 // Writes the plan sheet of the finished plan that the buffers hold: how many bytes it has.
 pub fn write_plan(
     out: &mut [u8],
-    answers: &[[u32; 2]],
+    answers: &[PageRow],
     p: usize,
-    rerouters: &[[u32; 10]],
+    rerouters: &[RerouterRow],
     n: usize,
-    bus_wires: &[[u32; 6]],
+    bus_wires: &[BusWireRow],
     k: usize,
-    ports: &[[u32; 2]],
+    ports: &[PortRow],
     u: usize,
     wires: usize,
     groups: usize,

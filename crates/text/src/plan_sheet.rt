@@ -1,4 +1,12 @@
 // The plan sheet: the buffers as text, line by line.
+use base::numbers::MISSING;
+use base::numbers::NEWLINE;
+use base::numbers::ORIGIN;
+use base::numbers::TAB;
+use base::rows::BusWireRow;
+use base::rows::PageRow;
+use base::rows::PortRow;
+use base::rows::RerouterRow;
 use sheet::write::put_byte;
 use sheet::write::put_coordinate;
 use sheet::write::put_decimal;
@@ -13,10 +21,6 @@ ghost use Rattle.routes.specs.PlanSheet.{line as lineText, refusalSheet};
 ghost use Rattle.routes.specs.Buffers.{inward as held};
 ghost use Rattle.text.specs.Fields.{fieldText, laneLineIn, brickLineIn, portLineIn, letterOf, wireTextIn, LinesFit, WroteLines, totalText, busText, endText, planText, BusFits, EndFits, PlanFits};
 
-const TAB: u8 = 9;
-
-const NEWLINE: u8 = 10;
-
 const DECIMAL: u32 = 0;
 
 const COORDINATE: u32 = 1;
@@ -24,10 +28,6 @@ const COORDINATE: u32 = 1;
 const NUMBER: u32 = 2;
 
 const LETTER: u32 = 3;
-
-const ORIGIN: u32 = 2_000_000;
-
-const MISSING: u32 = 4_294_967_295;
 
 // What a field says, without the tab before it.
 fn put_text(out: &mut [u8], at: usize, how: u32, what: u32) -> usize
@@ -72,7 +72,7 @@ fn put_line(out: &mut [u8], at: usize, letter: u8, fields: &[[u32; 2]]) -> usize
 }
 
 // P2: a page's line.
-fn put_lane_line(out: &mut [u8], at: usize, pages: &[[u32; 2]], p: usize) -> usize
+fn put_lane_line(out: &mut [u8], at: usize, pages: &[PageRow], p: usize) -> usize
     requires { ⌜ at + 128 ≤ length (now out) ⌝ }
     requires { ⌜ (p < length (now pages)) × (p < 4294967295) ⌝ }
     ensures { λ r. ⌜ Wrote (now (out .entry)) at (laneLineIn p (getD (now (pages .entry)) p [])) (now (out .exit)) r ⌝ }
@@ -95,7 +95,7 @@ fn inward(c: u32) -> u32
 }
 
 // P3: a rerouter's line.
-fn put_brick_line(out: &mut [u8], at: usize, rerouters: &[[u32; 10]], n: usize) -> usize
+fn put_brick_line(out: &mut [u8], at: usize, rerouters: &[RerouterRow], n: usize) -> usize
     requires { ⌜ at + 128 ≤ length (now out) ⌝ }
     requires { ⌜ (n < length (now rerouters)) × (n < 4294967295) ⌝ }
     ensures { λ r. ⌜ Wrote (now (out .entry)) at (brickLineIn n (getD (now (rerouters .entry)) n [])) (now (out .exit)) r ⌝ }
@@ -126,7 +126,7 @@ fn end_letter(port: u32) -> u32
 }
 
 // P4: a bus wire's line.
-fn put_wire_line(out: &mut [u8], at: usize, wires: &[[u32; 6]], n: usize) -> usize
+fn put_wire_line(out: &mut [u8], at: usize, wires: &[BusWireRow], n: usize) -> usize
     requires { ⌜ at + 128 ≤ length (now out) ⌝ }
     requires { ⌜ n < length (now wires) ⌝ }
     ensures { λ r. ⌜ Wrote (now (out .entry)) at (wireTextIn n (getD (now (wires .entry)) n [])) (now (out .exit)) r ⌝ }
@@ -147,7 +147,7 @@ fn put_wire_line(out: &mut [u8], at: usize, wires: &[[u32; 6]], n: usize) -> usi
 }
 
 // P5: a suppressed port's line.
-fn put_port_line(out: &mut [u8], at: usize, ports: &[[u32; 2]], n: usize) -> usize
+fn put_port_line(out: &mut [u8], at: usize, ports: &[PortRow], n: usize) -> usize
     requires { ⌜ at + 128 ≤ length (now out) ⌝ }
     requires { ⌜ n < length (now ports) ⌝ }
     ensures { λ r. ⌜ Wrote (now (out .entry)) at (portLineIn n (getD (now (ports .entry)) n [])) (now (out .exit)) r ⌝ }
@@ -158,7 +158,7 @@ fn put_port_line(out: &mut [u8], at: usize, ports: &[[u32; 2]], n: usize) -> usi
 }
 
 // The lines of the first n rows of each table.
-fn put_lane_lines(out: &mut [u8], at: usize, pages: &[[u32; 2]], n: usize) -> usize
+fn put_lane_lines(out: &mut [u8], at: usize, pages: &[PageRow], n: usize) -> usize
     requires { ⌜ LinesFit (now out) at (now pages) n ⌝ }
     ensures { λ r. ⌜ WroteLines laneLineIn (now (out .entry)) at (now (pages .entry)) n (now (out .exit)) r ⌝ }
 {
@@ -171,7 +171,7 @@ fn put_lane_lines(out: &mut [u8], at: usize, pages: &[[u32; 2]], n: usize) -> us
     next
 }
 
-fn put_brick_lines(out: &mut [u8], at: usize, rerouters: &[[u32; 10]], n: usize) -> usize
+fn put_brick_lines(out: &mut [u8], at: usize, rerouters: &[RerouterRow], n: usize) -> usize
     requires { ⌜ LinesFit (now out) at (now rerouters) n ⌝ }
     ensures { λ r. ⌜ WroteLines brickLineIn (now (out .entry)) at (now (rerouters .entry)) n (now (out .exit)) r ⌝ }
 {
@@ -184,7 +184,7 @@ fn put_brick_lines(out: &mut [u8], at: usize, rerouters: &[[u32; 10]], n: usize)
     next
 }
 
-fn put_wire_lines(out: &mut [u8], at: usize, wires: &[[u32; 6]], n: usize) -> usize
+fn put_wire_lines(out: &mut [u8], at: usize, wires: &[BusWireRow], n: usize) -> usize
     requires { ⌜ LinesFit (now out) at (now wires) n ⌝ }
     ensures { λ r. ⌜ WroteLines wireTextIn (now (out .entry)) at (now (wires .entry)) n (now (out .exit)) r ⌝ }
 {
@@ -197,7 +197,7 @@ fn put_wire_lines(out: &mut [u8], at: usize, wires: &[[u32; 6]], n: usize) -> us
     next
 }
 
-fn put_port_lines(out: &mut [u8], at: usize, ports: &[[u32; 2]], n: usize) -> usize
+fn put_port_lines(out: &mut [u8], at: usize, ports: &[PortRow], n: usize) -> usize
     requires { ⌜ LinesFit (now out) at (now ports) n ⌝ }
     ensures { λ r. ⌜ WroteLines portLineIn (now (out .entry)) at (now (ports .entry)) n (now (out .exit)) r ⌝ }
 {
@@ -248,9 +248,9 @@ pub fn put_refusal(out: &mut [u8], at: usize, number: u32, place: u32) -> usize
 fn put_bus(
     out: &mut [u8],
     at: usize,
-    rerouters: &[[u32; 10]],
+    rerouters: &[RerouterRow],
     n: usize,
-    wires: &[[u32; 6]],
+    wires: &[BusWireRow],
     k: usize,
 ) -> usize
     requires { ⌜ BusFits (now out) at (now rerouters) n (now wires) k ⌝ }
@@ -262,7 +262,7 @@ fn put_bus(
 }
 
 // The lines of suppressed ports and the last line.
-fn put_end(out: &mut [u8], at: usize, ports: &[[u32; 2]], u: usize, t: Totals) -> usize
+fn put_end(out: &mut [u8], at: usize, ports: &[PortRow], u: usize, t: Totals) -> usize
     requires { ⌜ EndFits (now out) at (now ports) u ⌝ }
     ensures { λ r. ⌜ Wrote (now (out .entry)) at (endText (now (ports .entry)) u t) (now (out .exit)) r ⌝ }
     ensures { λ r. ⌜ r ≤ at + 128 * u + 128 ⌝ }
@@ -274,13 +274,13 @@ fn put_end(out: &mut [u8], at: usize, ports: &[[u32; 2]], u: usize, t: Totals) -
 // The plan sheet of the plan that the buffers hold.
 pub fn put_plan(
     out: &mut [u8],
-    pages: &[[u32; 2]],
+    pages: &[PageRow],
     p: usize,
-    rerouters: &[[u32; 10]],
+    rerouters: &[RerouterRow],
     n: usize,
-    wires: &[[u32; 6]],
+    wires: &[BusWireRow],
     k: usize,
-    ports: &[[u32; 2]],
+    ports: &[PortRow],
     u: usize,
     t: Totals,
 ) -> usize

@@ -1,13 +1,11 @@
 // The sheet walker: it borrows the text that it walks, and shows each field and each line as a part of it. The searching is done over a plain slice and a place;
 // the functions over the walker only wrap it.
+use base::numbers::NEWLINE;
+use base::numbers::TAB;
 ghost use mathlib.Core.Path.{_≡_};
 ghost use lib.ListN.{length, drop};
 ghost use Rattle.sheet.specs.Text.{fieldOf, lineOf};
 ghost use Rattle.walker.specs.Places.{fieldEnd, lineEnd, behindEnd, behindField, behindLine};
-
-const TAB: u8 = 9;
-
-const NEWLINE: u8 = 10;
 
 // A text and a place in it. A place past the end stands for the end.
 pub struct SheetWalker<'a> {

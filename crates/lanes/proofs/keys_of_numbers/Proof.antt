@@ -10,7 +10,7 @@ use Rattle.lanes.specs.LaneCall.{faulty, demandsOf}
 use Rattle.lanes.specs.Keys.{keyOf, demandIn}
 use Rattle.lanes.proofs.NumberLaws.{length-demands}
 use Rattle.lanes.proofs.RankLaws.{length-keys, key-at}
-use Rattle.lanes.proofs.Filling.{copied-more, copied-all}
+use Rattle.base.proofs.Filling.{copied-more, copied-all}
 use Rattle.lanes.proofs.keys_of_numbers.Statement.{statement}
 use Rattle.lanes.proofs.keys_of_numbers.Tie as tie
 

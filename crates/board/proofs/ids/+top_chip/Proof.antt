@@ -8,7 +8,7 @@ use borrow.Author.Tests.{eq-eqb, ne-eqb}
 use lib.Dec.{eqb}
 use lib.ListN.{length}
 use Rattle.sheet.specs.Table.{MISSING}
-use Rattle.board.specs.Lists.{at}
+use Rattle.base.specs.Lists.{at}
 use Rattle.board.specs.Board.{Board, field, given, parentOf}
 use Rattle.board.specs.Refusals.{chipAt}
 use Rattle.board.specs.Groups.{topChip}

@@ -8,7 +8,7 @@ use borrow.Author.Needs.{needs}
 use borrow.Author.Tests.{eq-eqb, ne-eqb}
 use lib.Dec.{eqb}
 use lib.ListN.{length}
-use Rattle.board.specs.Lists.{newest}
+use Rattle.base.specs.Lists.{newest}
 use Rattle.board.specs.Board.{Board, field}
 use Rattle.board.specs.Refusals.{chipAt}
 use Rattle.board.specs.Index.{foundOf}

@@ -1,6 +1,6 @@
 -- `has_id` meets its contract. Assumes nothing.
 use mathlib.Core.Path.{_≡_, ap, sym, _∙_}
-use Rattle.board.specs.Lists.{found}
+use Rattle.base.specs.Lists.{found}
 use Rattle.board.specs.Index.{entryOf}
 use Rattle.board.proofs.Chips.{found-at, found-none}
 use borrow.Author.Needs.{needs}

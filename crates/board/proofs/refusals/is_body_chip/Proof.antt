@@ -2,7 +2,7 @@
 use Prim.Native.Nat.{_<_}
 use mathlib.Core.Path.{_≡_, ap, sym, _∙_}
 use native.Mathlib.Omega.{arith}
-use Rattle.board.specs.Lists.{at}
+use Rattle.base.specs.Lists.{at}
 use Rattle.board.specs.Index.{entryOf}
 use Rattle.board.specs.Walk.{isChip}
 use Rattle.board.proofs.Chips.{found-at, found-none}

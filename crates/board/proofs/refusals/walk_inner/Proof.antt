@@ -9,7 +9,7 @@ use borrow.Author.Needs.{needs}
 use lib.ListN.{length, getD}
 use Rattle.sheet.specs.declared.RowAt.{RowAt}
 use Rattle.sheet.specs.Reading.{rowsFrom}
-use Rattle.board.specs.Lists.{found}
+use Rattle.base.specs.Lists.{found}
 use Rattle.board.specs.Board.{innerId}
 use Rattle.board.specs.Refusals.{innerTwice, chipMissing}
 use Rattle.board.specs.Index.{entryOf}

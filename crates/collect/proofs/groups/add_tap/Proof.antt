@@ -3,7 +3,8 @@ use Prim.Native.Nat.{ℕ, _+_, _≤_, _<_}
 use mathlib.Core.Path.{_≡_, refl, sym, ap, _∙_, subst}
 use mathlib.Core.List.{List, [], _∷_}
 use Rattle.board.specs.Groups.{Tap}
-use Rattle.board.specs.Tables.{view, tapIn}
+use Rattle.base.specs.Views.{view}
+use Rattle.board.specs.Tables.{tapIn}
 use Rattle.collect.proofs.TapLaws.{target-gone, add-none, taps-with}
 use borrow.Author.Needs.{needs}
 use Rattle.collect.proofs.groups.add_tap.Statement.{statement}

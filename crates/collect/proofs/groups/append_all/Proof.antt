@@ -4,10 +4,11 @@ use Prim.Native.Nat.{ℕ, _+_, _*_, _^_, _-_, _≤_, _<_}
 use mathlib.Core.Path.{_≡_, refl, sym, ap, _∙_, subst}
 use mathlib.Core.List.{List, []}
 use lib.ListN.{length}
-use Rattle.board.specs.Lists.{fold, upto}
+use Rattle.base.specs.Lists.{fold, upto}
 use Rattle.board.specs.Board.{Board}
 use Rattle.board.specs.Groups.{addWire}
-use Rattle.board.specs.Tables.{view, tapIn, NodeFacts, TapTargets}
+use Rattle.base.specs.Views.{view}
+use Rattle.board.specs.Tables.{tapIn, NodeFacts, TapTargets}
 use Rattle.collect.specs.Collecting.{Tapped}
 use Rattle.collect.proofs.TapLaws.{taps-more, taps-all}
 use Rattle.collect.proofs.groups.append_all.Statement.{statement}

@@ -1,7 +1,7 @@
 use native.Mathlib.Omega.{arith}
 use mathlib.Core.Path.{_≡_, sym, ap}
 use Prim.Native.Nat.{ℕ, _<_}
-use Rattle.board.specs.Lists.{at}
+use Rattle.base.specs.Lists.{at}
 use Rattle.board.specs.Index.{entryOf}
 use Rattle.board.specs.Tables.{held}
 use Rattle.collect.proofs.Ends.{found-at, found-nothing, entry-below}

@@ -2,7 +2,7 @@ use Prim.Native.Nat.{ℕ, _-_, _≤_, _<_}
 use mathlib.Core.Path.{_≡_, refl, sym, ap, _∙_}
 use mathlib.Core.Bool.{true, false}
 use lib.ListN.{length, getD}
-use Rattle.board.specs.Lists.{any, upto}
+use Rattle.base.specs.Lists.{any, upto}
 use Rattle.collect.proofs.Ends.{Exec, ExecChain, exec-start, exec-next, exec-falls, exec-found, exec-none}
 use native.Mathlib.Omega.{arith}
 use borrow.Author.Needs.{needs}

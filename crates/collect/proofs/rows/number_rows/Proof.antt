@@ -3,7 +3,7 @@ use mathlib.Core.Path.{_≡_, refl, sym, _∙_}
 use mathlib.Core.List.{List, [], _++_}
 use lib.ListN.{length, getD, take, drop}
 use lib.Seq.{length-take-le}
-use Rattle.lanes.specs.Sort.{sortedRows}
+use Rattle.base.specs.Sort.{sortedRows}
 use Rattle.board.specs.Tables.{nodesAlone}
 use Rattle.board.proofs.Accepting.{nodes-few}
 use Rattle.collect.specs.Collecting.{Ranked}

@@ -3,7 +3,7 @@ use mathlib.Core.Path.{refl, sym, _∙_}
 use borrow.Author.Tests.{not-true, not-false}
 use Rattle.board.proofs.Newest.{pick-true, pick-false}
 use Rattle.cells.specs.Chains.{boardWith}
-use Rattle.board.proofs.Lists.{clash}
+use Rattle.base.proofs.Lists.{clash}
 use Rattle.corners.proofs.CornerLaws.{turns-row}
 use Rattle.corners.proofs.CornerSteps.{source-anchor, target-anchor, turn-closed, turn-muted, turn-sourceless, turn-sinkless, turn-tested}
 use borrow.Author.Needs.{needs}

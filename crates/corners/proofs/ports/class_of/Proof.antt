@@ -3,7 +3,7 @@ use Rattle.corners.proofs.PortLaws.{found-below}
 use Rattle.corners.specs.Ports.{goesTo, classFor}
 use Rattle.corners.specs.CornerTables.{portAt}
 use Rattle.collect.proofs.Ends.{found-at, found-nothing}
-use Rattle.board.specs.Lists.{newest, at, none}
+use Rattle.base.specs.Lists.{newest, at, none}
 use native.Mathlib.Omega.{arith}
 use mathlib.Core.Path.{_≡_, ap, sym}
 use Prim.Native.Nat.{_<_}

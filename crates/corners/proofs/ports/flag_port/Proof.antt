@@ -2,7 +2,7 @@
 use Rattle.corners.proofs.PortLaws.{found-below, flag-none, flag-found}
 use Rattle.corners.specs.Ports.{goesTo, thePort}
 use Rattle.collect.proofs.Ends.{found-at, found-nothing}
-use Rattle.board.specs.Lists.{newest, at, none}
+use Rattle.base.specs.Lists.{newest, at, none}
 use native.Mathlib.Omega.{arith}
 use lib.ListN.{length, getD}
 use mathlib.Core.Path.{_≡_}

@@ -6,8 +6,9 @@ use mathlib.Core.List.{List, [], _∷_, List·Memᴰ}
 use lib.ListN.{length, getD, length-set}
 use Rattle.board.specs.Board.{Board, field}
 use Rattle.board.specs.Groups.{Tap, tapsOf}
-use Rattle.board.specs.Tables.{view, tapIn, WireFacts}
-use Rattle.board.proofs.Views.{view-mem}
+use Rattle.base.specs.Views.{view}
+use Rattle.board.specs.Tables.{tapIn, WireFacts}
+use Rattle.base.proofs.Views.{view-mem}
 use Rattle.collect.specs.Collecting.{headPage, GroupSums}
 use Rattle.collect.proofs.Filling.{filled-more}
 use Rattle.demands.proofs.GroupLaws.{Known, known, source-held, source-below, row-first, row-last, row-crosses}

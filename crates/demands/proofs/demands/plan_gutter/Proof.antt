@@ -4,7 +4,7 @@ use mathlib.Core.Path.{_≡_, refl, sym, ap, _∙_, subst}
 use mathlib.Core.Bool.{not, true, false}
 use borrow.Author.Tests.{eq-eqb, ne-eqb}
 use Rattle.sheet.specs.Table.{MISSING}
-use Rattle.lanes.proofs.SortLaws.{clash}
+use Rattle.base.proofs.SortLaws.{clash}
 use Rattle.board.specs.Board.{given}
 use Rattle.demands.proofs.PageLaws.{page-few}
 use borrow.Author.Needs.{needs}

@@ -8,8 +8,9 @@ use lib.ListN.{length, getD, length-set}
 use Rattle.sheet.specs.Table.{MISSING}
 use Rattle.board.specs.Board.{Board, field}
 use Rattle.board.specs.Groups.{Tap, tapsOf}
-use Rattle.board.specs.Tables.{view, tapIn, groupRow, WireFacts}
-use Rattle.board.proofs.Views.{view-mem}
+use Rattle.base.specs.Views.{view}
+use Rattle.board.specs.Tables.{tapIn, groupRow, WireFacts}
+use Rattle.base.proofs.Views.{view-mem}
 use Rattle.demands.proofs.demands.sum_taps.Statement.{statement}
 use Rattle.demands.proofs.demands.sum_taps.Tie as tie
 

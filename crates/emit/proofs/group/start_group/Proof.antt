@@ -5,7 +5,7 @@ use Rattle.emit.specs.declared.chain.Emission.{Emission}
 use Rattle.routes.specs.Rerouters.{startGroup}
 use Rattle.emit.specs.Emitting.{Ready, Spends, Becomes}
 use Rattle.routes.specs.Tables.{stopIn}
-use Rattle.board.specs.Tables.{view}
+use Rattle.base.specs.Views.{view}
 use borrow.Author.Needs.{needs}
 use Rattle.emit.proofs.group.start_group.Statement.{statement}
 use Rattle.emit.proofs.group.start_group.Tie as tie

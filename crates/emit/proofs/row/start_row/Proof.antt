@@ -6,7 +6,7 @@ use Rattle.emit.specs.Emitting.{LevelRange, Spends, Becomes}
 use Rattle.routes.specs.declared.levels.Level.the-variants.{Own}
 use Rattle.routes.specs.Rerouters.{startRow}
 use Rattle.routes.specs.Tables.{stopIn}
-use Rattle.board.specs.Tables.{view}
+use Rattle.base.specs.Views.{view}
 use mathlib.Core.Path.{ap, sym, subst, _∙_}
 use borrow.Author.Needs.{needs}
 use Rattle.emit.proofs.row.start_row.Statement.{statement}

@@ -2,7 +2,7 @@
 use Rattle.emit.proofs.Steps.{spends-none, becomes-as, becomes-none, one-of-lane, link-stands, link-lost}
 use Rattle.routes.specs.Rerouters.{withLink}
 use Rattle.routes.specs.Tables.{stopIn}
-use Rattle.board.specs.Tables.{view}
+use Rattle.base.specs.Views.{view}
 use borrow.Author.Needs.{needs}
 use Rattle.emit.proofs.row.with_link.Statement.{statement}
 use Rattle.emit.proofs.row.with_link.Tie as tie

@@ -3,7 +3,7 @@ use Rattle.emit.proofs.Steps.{spends-none, spends-then, becomes-as, bec
 use Rattle.routes.specs.Holding.{stopLevelOf}
 use Rattle.emit.specs.Emitting.{beginTap}
 use Rattle.routes.specs.Tables.{stopIn}
-use Rattle.board.specs.Tables.{view}
+use Rattle.base.specs.Views.{view}
 use mathlib.Core.Bool.{true, false}
 use borrow.Author.Needs.{needs}
 use Rattle.emit.proofs.tap.begin.Statement.{statement}

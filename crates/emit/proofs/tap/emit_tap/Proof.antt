@@ -3,7 +3,7 @@ use Rattle.emit.proofs.Steps.{spends-none, spends-then, becomes-as, bec
 use Rattle.routes.specs.Holding.{stopLevelOf}
 use Rattle.emit.specs.Emitting.{tapOf, beginTap, tapEmitted}
 use Rattle.routes.specs.Tables.{stopIn}
-use Rattle.board.specs.Tables.{view}
+use Rattle.base.specs.Views.{view}
 use mathlib.Core.Path.{ap, sym, _∙_}
 use borrow.Author.Needs.{needs}
 use Rattle.emit.proofs.tap.emit_tap.Statement.{statement}

@@ -7,7 +7,8 @@ use Rattle.routes.specs.Holding.{stopLevelOf}
 use Rattle.emit.specs.Emitting.{LaneInRange, LaneRanges, TapRanges}
 use Rattle.routes.specs.Rerouters.{emitTap}
 use Rattle.routes.specs.Tables.{stopIn}
-use Rattle.board.specs.Tables.{view, tapIn}
+use Rattle.base.specs.Views.{view}
+use Rattle.board.specs.Tables.{tapIn}
 use lib.ListN.{getD}
 use native.Mathlib.Omega.{arith}
 use mathlib.Core.List.{[]}

@@ -3,7 +3,8 @@ use Prim.Native.Nat.{_-_, _≤_}
 use mathlib.Core.Path.{_≡_, refl, sym, ap, _∙_}
 use native.Mathlib.Omega.{arith}
 use borrow.Author.Needs.{needs}
-use Rattle.board.specs.Tables.{view, tapIn}
+use Rattle.base.specs.Views.{view}
+use Rattle.board.specs.Tables.{tapIn}
 use Rattle.routes.specs.Plan.{groupCount}
 use Rattle.gutter.proofs.Loops.{count-new, count-same}
 use Rattle.gutter.proofs.lay.count_groups.Statement.{statement}

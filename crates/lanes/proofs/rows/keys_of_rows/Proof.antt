@@ -10,7 +10,7 @@ use Rattle.lanes.specs.Lanes.{entries, noDemand}
 use Rattle.lanes.specs.LaneCall.{faulty}
 use Rattle.lanes.specs.Keys.{keyOf, demandIn, demandOf}
 use Rattle.lanes.proofs.RankLaws.{length-keys, key-at}
-use Rattle.lanes.proofs.Filling.{copied-more, copied-all}
+use Rattle.base.proofs.Filling.{copied-more, copied-all}
 use Rattle.lanes.proofs.rows.keys_of_rows.Statement.{statement}
 use Rattle.lanes.proofs.rows.keys_of_rows.Tie as tie
 

@@ -6,7 +6,8 @@ use native.Mathlib.Omega.{arith}
 use lib.ListN.{length}
 use Rattle.board.specs.Board.{Board}
 use Rattle.board.specs.Demands.{PageLanes}
-use Rattle.board.specs.Tables.{view, tapIn}
+use Rattle.base.specs.Views.{view}
+use Rattle.board.specs.Tables.{tapIn}
 use Rattle.routes.specs.Levels.{stopsOf}
 use Rattle.routes.specs.Tables.{stopIn}
 use Rattle.stops.specs.Laying.{StopIndex, LaidFacts}

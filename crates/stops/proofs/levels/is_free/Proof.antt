@@ -1,6 +1,6 @@
 -- A level is free where no stop is kept at it on the row and its span is unclaimed.
 use mathlib.Core.Path.{sym, _∙_}
-use Rattle.board.specs.Tables.{view}
+use Rattle.base.specs.Views.{view}
 use Rattle.stops.specs.Marks.{markIn}
 use Rattle.stops.proofs.LevelLaws.{free-used, free-unused}
 use borrow.Author.Needs.{needs}

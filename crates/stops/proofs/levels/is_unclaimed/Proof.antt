@@ -1,6 +1,6 @@
 -- The three levels at which a claim would overlap.
 use mathlib.Core.Path.{sym, _∙_}
-use Rattle.board.specs.Tables.{view}
+use Rattle.base.specs.Views.{view}
 use Rattle.stops.specs.Marks.{markIn}
 use Rattle.stops.proofs.LevelLaws.{claimed-here, claimed-above, unclaimed-lowest, unclaimed-under}
 use borrow.Author.Needs.{needs}

@@ -1,7 +1,8 @@
 -- One more stop: its x, its level, its row, its group's ends and its marks.
 use mathlib.Core.Path.{refl, sym, _∙_}
 use native.Mathlib.Omega.{arith}
-use Rattle.board.specs.Tables.{view, tapIn}
+use Rattle.base.specs.Views.{view}
+use Rattle.board.specs.Tables.{tapIn}
 use Rattle.routes.specs.Levels.{previousStop}
 use Rattle.routes.specs.Tables.{stopIn}
 use Rattle.stops.proofs.LayLaws.{indexed, stop-is, end-previous, end-kept}

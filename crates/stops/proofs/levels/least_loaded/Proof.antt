@@ -3,7 +3,7 @@ use Prim.Native.Nat.{_-_, _≤_, _+_, _*_}
 use mathlib.Core.Path.{_≡_, sym, ap, _∙_}
 use mathlib.Core.List.{List}
 use native.Mathlib.Omega.{arith}
-use Rattle.board.specs.Tables.{view}
+use Rattle.base.specs.Views.{view}
 use Rattle.routes.specs.Levels.{Stop, levelsIn, loadAt}
 use Rattle.stops.specs.Marks.{markIn, marksOf, countOf, onRow}
 use Rattle.stops.proofs.LevelLaws.{Best, best-start, best-claimed, best-heavier, best-lighter, best-all, load-counted}

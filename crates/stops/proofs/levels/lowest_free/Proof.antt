@@ -6,7 +6,7 @@ use mathlib.Core.List.{List}
 use native.Mathlib.Omega.{arith}
 use lib.Dec.{leb}
 use borrow.Author.Tests.{leb-true, not-true, not-false}
-use Rattle.board.specs.Tables.{view}
+use Rattle.base.specs.Views.{view}
 use Rattle.routes.specs.Levels.{Stop, STAGGER_STEP, freeLevel, lowest, levelsIn}
 use Rattle.stops.specs.Laying.{levelAnswer}
 use Rattle.stops.specs.Marks.{markIn, marksOf}

@@ -6,8 +6,9 @@ use native.Mathlib.Omega.{arith}
 use lib.ListN.{length, length-set, getD}
 use Rattle.board.specs.Board.{Board}
 use Rattle.board.specs.Demands.{PageLanes}
-use Rattle.board.specs.Tables.{view, tapIn}
-use Rattle.board.proofs.Views.{view-mem}
+use Rattle.base.specs.Views.{view}
+use Rattle.board.specs.Tables.{tapIn}
+use Rattle.base.proofs.Views.{view-mem}
 use Rattle.routes.specs.Stops.{isLaid}
 use Rattle.stops.specs.Laying.{Tabled}
 use Rattle.stops.proofs.PickLaws.{Picked, picked-more, picked-less, picked-all}

@@ -6,8 +6,8 @@ use mathlib.Core.List.{List, [], _∷_, map}
 use Prim.Native.Nat.{ℕ, zero, suc, _<_}
 use native.Mathlib.Omega.{arith}
 use lib.ListN.{length, getD}
-use Rattle.lanes.specs.Sort.{inserted, sorted}
-use Rattle.lanes.proofs.SortLaws.{inserted-past, inserted-here}
+use Rattle.base.specs.Sort.{inserted, sorted}
+use Rattle.base.proofs.SortLaws.{inserted-past, inserted-here}
 
 module _ {A : Type 0} (P : A → Type 0) where
   abbrev pub All : List A → Type 0

@@ -8,9 +8,9 @@ use mathlib.Core.List.{List, [], _∷_, map, reverse, reverseAux, List·Memᴰ, 
 use lib.Dec.{eqb}
 use lib.ListN.{length}
 use borrow.Author.Tests.{eqb-true}
-use Rattle.lanes.specs.Sort.{inserted, sorted}
-use Rattle.lanes.proofs.SortLaws.{Order}
-use Rattle.board.specs.Lists.{Found, none, at, any, keep}
+use Rattle.base.specs.Sort.{inserted, sorted}
+use Rattle.base.proofs.SortLaws.{Order}
+use Rattle.base.specs.Lists.{Found, none, at, any, keep}
 
 -- What `cc` shows of equations that exclude one another.
 pub never : {C : Type 0} → _≡_ {A = ℕ} 0 1 → C

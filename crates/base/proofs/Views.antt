@@ -6,7 +6,7 @@ use native.Mathlib.Omega.{arith}
 use native.Mathlib.Decide.{decLt}
 use lib.ListN.{length, getD, take, set}
 use lib.Seq.{take-suc, getD-set-same, getD-set-other}
-use Rattle.board.specs.Tables.{view}
+use Rattle.base.specs.Views.{view}
 
 pub map-snoc : {A B : Type 0} (f : A → B) (l : List A) (x : A) → map f (l ++ (x ∷ [])) ≡ map f l ++ (f x ∷ [])
 map-snoc f [] x = refl

@@ -6,9 +6,9 @@ use mathlib.Core.Logic.{_⊎_, inl, inr, ⊎-elim}
 use mathlib.Core.Bool.{Bool, true, false}
 use mathlib.Core.List.{List, [], _∷_, map, List·Memᴰ as Mem, List·Memᴰ·head as here, List·Memᴰ·tail as there, List·Memᴰ·cases-cons as cases, List·Memᴰ·not-nil as nowhere}
 use lib.ListN.{length, getD}
-use Rattle.lanes.specs.Sort.{inserted, sorted, lexLess, sortedRows}
-use Rattle.lanes.proofs.SortLaws.{Order, clash, inserted-past, inserted-here, lex-order}
-use Rattle.board.specs.Lists.{keep, upto}
+use Rattle.base.specs.Sort.{inserted, sorted, lexLess, sortedRows}
+use Rattle.base.proofs.SortLaws.{Order, clash, inserted-past, inserted-here, lex-order}
+use Rattle.base.specs.Lists.{keep, upto}
 
 module _ {A : Type 0} where
   pub mem-at : (d : A) (l : List A) {x : A} → Mem x l → (k : ℕ) × (k < length l) × (getD l k d ≡ x)

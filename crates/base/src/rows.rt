@@ -1,0 +1,19 @@
+// The rows of the tables, by what they hold.
+
+// A record of a sheet: its section, then its fields as held.
+pub type Record = [u32; 16];
+
+// A row of work space.
+pub type WorkRow = [u32; 8];
+
+// An output row: a rerouter's x, y, z, rotation, role, part, colour, page, lane, row.
+pub type RerouterRow = [u32; 10];
+
+// A bus wire's from, from port, to, to port, wire, distance.
+pub type BusWireRow = [u32; 6];
+
+// A suppressed port's node and port.
+pub type PortRow = [u32; 2];
+
+// A page's lanes and band.
+pub type PageRow = [u32; 2];
