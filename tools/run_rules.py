@@ -11,7 +11,7 @@ import shutil
 import subprocess
 import sys
 
-CRATES = ["sheet", "lanes", "board", "routes"]
+CRATES = ["base", "sheet", "lanes", "board", "routes"]
 
 
 def definitions():
@@ -41,7 +41,7 @@ def main():
     for crate in CRATES:
         os.symlink(os.path.abspath("crates/" + crate), root + "/crates/" + crate)
     listed = {l.split(":")[0]: l for l in open("crates.txt").read().splitlines() if ":" in l}
-    open(root + "/crates.txt", "w").write("\n".join([listed[c] for c in CRATES] + ["rules: sheet lanes board routes"]) + "\n")
+    open(root + "/crates.txt", "w").write("\n".join([listed[c] for c in CRATES] + ["rules: base sheet lanes board routes"]) + "\n")
     open(root + "/crates/rules/src/lib.rt", "w").write("// only theorems\n")
     per = 8
     files = []

@@ -1,6 +1,6 @@
 //! Buffers that are lent to the calls and used again from board to board.
 
-use crate::calls::{self, BusCounts, Counts, Output, Work};
+use crate::calls::{self, BusCounts, Counts, MARK_ROWS, Output, TABLES, Work};
 use crate::calls::{BusWireRow, PageRow, PortRow, RecordRow, RerouterRow, TableRow};
 use crate::plan::{BusView, PlanView, pages_of};
 use crate::refusal::{Reason, Refusal};
@@ -91,8 +91,8 @@ pub struct Buffers {
     ports: Box<[PortRow]>,
     pages: Box<[PageRow]>,
     records: Box<[RecordRow]>,
-    /// Eight tables, and the marks.
-    tables: [Box<[TableRow]>; 9],
+    /// The tables of work space, the marks last.
+    tables: [Box<[TableRow]>; TABLES],
     held: Held,
 }
 
@@ -109,6 +109,9 @@ struct Held {
 fn rows<const N: usize>(length: usize) -> Box<[[u32; N]]> {
     vec![[0; N]; length].into_boxed_slice()
 }
+
+/// The marks are the last table.
+const MARKS: usize = TABLES - 1;
 
 impl Buffers {
     /// Enough for every board within limits: for the library's 10.4 MiB.
@@ -131,7 +134,10 @@ impl Buffers {
             ports: rows(wires),
             pages: rows(pages),
             records: rows(records),
-            tables: std::array::from_fn(|k| rows(if k < 8 { records } else { 2 * records })),
+            tables: std::array::from_fn(|k| match k {
+                MARKS => rows(MARK_ROWS * records),
+                _ => rows(records),
+            }),
             held: Held::default(),
         }
     }

@@ -105,47 +105,37 @@ pub struct Output<'a> {
     pub ports: &'a mut [PortRow],
 }
 
-/// Work space: a row for each record in every slice, two in `marks`. What
-/// stands in it does not matter.
+/// How many tables of work space there are beside the records.
+pub const TABLES: usize = 6;
+
+/// So many rows of marks are lent for a record.
+pub const MARK_ROWS: usize = 5;
+
+/// Work space, 96 numbers for each record: a row in every slice, in `marks`
+/// five. What stands in it does not matter.
 #[derive(Debug, Default)]
 pub struct Work<'a> {
     pub records: &'a mut [RecordRow],
-    pub node_facts: &'a mut [TableRow],
-    pub wire_facts: &'a mut [TableRow],
+    pub facts: &'a mut [TableRow],
     pub taps: &'a mut [TableRow],
     pub groups: &'a mut [TableRow],
-    pub page_facts: &'a mut [TableRow],
     pub demands: &'a mut [TableRow],
     pub keys: &'a mut [TableRow],
-    pub spare: &'a mut [TableRow],
     pub marks: &'a mut [TableRow],
 }
 
 impl<'a> Work<'a> {
-    /// Work space from its records and its nine tables, in the order of the
-    /// fields: the marks are the last.
-    pub fn new(records: &'a mut [RecordRow], tables: [&'a mut [TableRow]; 9]) -> Self {
-        let [
-            node_facts,
-            wire_facts,
-            taps,
-            groups,
-            page_facts,
-            demands,
-            keys,
-            spare,
-            marks,
-        ] = tables;
+    /// Work space from its records and its tables, in the order of the fields:
+    /// the marks are the last.
+    pub fn new(records: &'a mut [RecordRow], tables: [&'a mut [TableRow]; TABLES]) -> Self {
+        let [facts, taps, groups, demands, keys, marks] = tables;
         Self {
             records,
-            node_facts,
-            wire_facts,
+            facts,
             taps,
             groups,
-            page_facts,
             demands,
             keys,
-            spare,
             marks,
         }
     }
@@ -167,25 +157,23 @@ declare! {
     fn pz_read_sheet(&u8, @Counts, &mut RecordRow) -> SheetNumbers;
     fn pz_plan_bus(
         &u8, &mut PageRow, &mut RecordRow, &mut TableRow, &mut TableRow, &mut TableRow, &mut TableRow, &mut TableRow,
-        &mut TableRow, &mut TableRow, &mut TableRow
+        &mut TableRow
     ) -> PagesNumbers;
     fn pz_lay_bus(
         &u8, &mut RerouterRow, &mut BusWireRow, &mut PortRow, &mut RecordRow, &mut TableRow, &mut TableRow,
-        &mut TableRow, &mut TableRow, &mut TableRow, &mut TableRow, &mut TableRow, &mut TableRow, &mut TableRow
+        &mut TableRow, &mut TableRow, &mut TableRow, &mut TableRow
     ) -> PlanNumbers;
     fn pz_lay_mini_bus(
         &u8, @BusCounts, &mut RerouterRow, &mut BusWireRow, &mut PortRow, &mut RecordRow, &mut TableRow, &mut TableRow,
-        &mut TableRow, &mut TableRow, &mut TableRow, &mut TableRow, &mut TableRow, &mut TableRow, &mut TableRow
+        &mut TableRow, &mut TableRow, &mut TableRow, &mut TableRow
     ) -> MiniNumbers;
     fn pz_route(
         &u8, &mut RerouterRow, &mut BusWireRow, &mut PortRow, &mut PageRow, &mut RecordRow, &mut TableRow,
-        &mut TableRow, &mut TableRow, &mut TableRow, &mut TableRow, &mut TableRow, &mut TableRow, &mut TableRow,
-        &mut TableRow
+        &mut TableRow, &mut TableRow, &mut TableRow, &mut TableRow, &mut TableRow
     ) -> PlanNumbers;
     fn pz_answer(
         &u8, &mut u8, &mut RerouterRow, &mut BusWireRow, &mut PortRow, &mut PageRow, &mut RecordRow, &mut TableRow,
-        &mut TableRow, &mut TableRow, &mut TableRow, &mut TableRow, &mut TableRow, &mut TableRow, &mut TableRow,
-        &mut TableRow
+        &mut TableRow, &mut TableRow, &mut TableRow, &mut TableRow, &mut TableRow
     ) -> usize;
 }
 
@@ -199,14 +187,12 @@ macro_rules! call {
     };
 }
 
-/// One with the slices of work space behind the others; `plan_bus` does without
-/// the marks.
+/// One with the slices of work space behind the others.
 macro_rules! call_with {
-    ($work:ident $(+ $marks:ident)?; $name:ident($read:expr $(, @ $value:expr)? $(, &mut $slice:expr)*)) => {
+    ($work:ident; $name:ident($read:expr $(, @ $value:expr)? $(, &mut $slice:expr)*)) => {
         call!($name(
-            $read $(, @ $value)? $(, &mut $slice)*, &mut $work.records, &mut $work.node_facts, &mut $work.wire_facts,
-            &mut $work.taps, &mut $work.groups, &mut $work.page_facts, &mut $work.demands, &mut $work.keys,
-            &mut $work.spare $(, &mut $work.$marks)?
+            $read $(, @ $value)? $(, &mut $slice)*, &mut $work.records, &mut $work.facts, &mut $work.taps,
+            &mut $work.groups, &mut $work.demands, &mut $work.keys, &mut $work.marks
         ))
     };
 }
@@ -234,7 +220,7 @@ pub fn read_sheet(text: &[u8], most: Counts, rows: &mut [RecordRow]) -> SheetNum
     call!(pz_read_sheet(text, @most, &mut rows))
 }
 
-/// The lanes and the band of every page. It does without `work.marks`.
+/// The lanes and the band of every page.
 pub fn plan_bus(text: &[u8], pages: &mut [PageRow], work: Work) -> PagesNumbers {
     call_with!(work; pz_plan_bus(text, &mut pages))
 }
@@ -242,19 +228,19 @@ pub fn plan_bus(text: &[u8], pages: &mut [PageRow], work: Work) -> PagesNumbers 
 /// The gutter's lanes laid as rerouters and bus wires.
 pub fn lay_bus(text: &[u8], out: Output, work: Work) -> PlanNumbers {
     let o = out;
-    call_with!(work + marks; pz_lay_bus(text, &mut o.rerouters, &mut o.bus_wires, &mut o.ports))
+    call_with!(work; pz_lay_bus(text, &mut o.rerouters, &mut o.bus_wires, &mut o.ports))
 }
 
 /// Corners on top of what the slices hold.
 pub fn lay_mini_bus(text: &[u8], held: BusCounts, out: Output, work: Work) -> MiniNumbers {
     let o = out;
-    call_with!(work + marks; pz_lay_mini_bus(text, @held, &mut o.rerouters, &mut o.bus_wires, &mut o.ports))
+    call_with!(work; pz_lay_mini_bus(text, @held, &mut o.rerouters, &mut o.bus_wires, &mut o.ports))
 }
 
 /// The three calls in order, over one reading of the sheet.
 pub fn route(text: &[u8], out: Output, pages: &mut [PageRow], work: Work) -> PlanNumbers {
     let o = out;
-    call_with!(work + marks; pz_route(text, &mut o.rerouters, &mut o.bus_wires, &mut o.ports, &mut pages))
+    call_with!(work; pz_route(text, &mut o.rerouters, &mut o.bus_wires, &mut o.ports, &mut pages))
 }
 
 /// `route`, and its plan sheet or the E line in front of `said`: how many bytes
@@ -268,5 +254,5 @@ pub fn answer(
     work: Work,
 ) -> usize {
     let o = out;
-    call_with!(work + marks; pz_answer(text, &mut said, &mut o.rerouters, &mut o.bus_wires, &mut o.ports, &mut pages))
+    call_with!(work; pz_answer(text, &mut said, &mut o.rerouters, &mut o.bus_wires, &mut o.ports, &mut pages))
 }

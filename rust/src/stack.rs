@@ -13,8 +13,8 @@ use std::thread;
 /// routes; a thread that Rust starts by default has 2 MiB, which is as much.
 pub const STACK: usize = 2 * NEED;
 
-/// The stack that must be free at a call, in bytes. The deepest chain of frames
-/// has 520 KiB (`lay_within` over `plan_text`).
+/// The stack that must be free at a call, in bytes. What the calls take of it is
+/// in the README.
 pub const NEED: usize = 1024 * 1024;
 
 /// Runs `f` on a thread of its own that has [`STACK`] bytes. It makes a

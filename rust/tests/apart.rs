@@ -45,7 +45,7 @@ struct Out {
 struct Lent {
     out: Out,
     records: Vec<[u32; 16]>,
-    tables: [Vec<[u32; 8]>; 9],
+    tables: [Vec<[u32; 8]>; calls::TABLES],
 }
 
 fn poisoned<const N: usize>(length: usize) -> Vec<[u32; N]> {
@@ -67,7 +67,7 @@ impl Lent {
                 pages: poisoned(pages + 3),
             },
             records: poisoned(records),
-            tables: std::array::from_fn(|_| poisoned(2 * records)),
+            tables: std::array::from_fn(|_| poisoned(calls::MARK_ROWS * records)),
         }
     }
 

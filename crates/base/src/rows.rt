@@ -17,3 +17,6 @@ pub type PortRow = [u32; 2];
 
 // A page's lanes and band.
 pub type PageRow = [u32; 2];
+
+// An index of ids: the id of entry i, the entry before it in its bucket, and the head of bucket i.
+pub type IdRow = [u32; 3];

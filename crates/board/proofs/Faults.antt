@@ -17,7 +17,7 @@ use Rattle.sheet.proofs.Along.{row-at-row, row-at-next}
 use Rattle.base.specs.Lists.{Found, none, at, found, orElse, newest, oldest}
 use Rattle.board.specs.Board.{Board, field, given, kindChip, idOf, kindOf, chipId, parentOf, innerId, innerChip}
 use Rattle.board.specs.Refusals.{firstLine, nodeLine, chipLine, innerLine, bodyOf, chipAt, innerOf, bodyChip, nodeTwice, chipTwice, innerTwice, pageMissing, parentMissing, chipMissing, rowUnplaced, idTwice, notThere, unplaced, Judged, turnedAway, board, judgedBoard}
-use Rattle.board.specs.Index.{Index, BUCKETS, link, entryOf}
+use Rattle.board.specs.Index.{Index, BUCKETS, link, entryOf, column}
 use Rattle.sheet.specs.declared.Counts.{Counts}
 use Rattle.sheet.specs.Answer.{countsOf}
 use Rattle.board.specs.declared.refusals.Fault.{Fault}
@@ -25,7 +25,7 @@ use Rattle.board.specs.declared.refusals.Fault.the-variants.{Refused, Fi
 use Rattle.board.specs.Walk.{verdictOf, faultOf, lineOr, lineIf, earlier, lineFrom, sheetBoard, isChip, Ids, Entered, Fresh, Ready, Walked}
 use Rattle.board.specs.declared.refusals.Walk.{Walk}
 use Rattle.board.proofs.Sections.{Part, part-at, part-below, Sections, sections}
-use Rattle.board.proofs.Newest.{pick-true, pick-false, newest-same, link-below}
+use Rattle.board.proofs.Newest.{pick-true, pick-false, newest-same, link-below, column-at, column-length}
 
 -- A field, and the test whether it is missing.
 pub given-missing : (v : ℕ) → v ≡ MISSING → given v ≡ false
@@ -53,9 +53,9 @@ or-none s t e f = rw e f
 
 -- Entries -----------------------------------------------------------------------------------------------------------------------------------
 
-pub entry-below : (ids : List ℕ) (n id i : ℕ) → entryOf ids n id ≡ at i → i < n
+pub entry-below : (ids : List (List ℕ)) (n id i : ℕ) → entryOf ids n id ≡ at i → i < n
 unfolding entryOf
-entry-below ids n id i e = let h = link-below (λ j. eqb (getD ids j 0) id) n in let l = ap link e in omega arith
+entry-below ids n id i e = let h = link-below (λ j. eqb (field ids j 0) id) n in let l = ap link e in omega arith
 
 -- A column of numbers held, with one more.
 pub set-same : (held : List ℕ) (at-entry : ℕ → ℕ) (i v : ℕ) → ((j : ℕ) → j < i → getD held j 0 ≡ at-entry j) → i < length held → v ≡ at-entry i
@@ -66,30 +66,45 @@ set-same held at-entry i v same room e j h = go (eqb j i) refl
     go true is = let here = eqb-true j i is in rw here (getD-set-same held i v 0 room ∙ e)
     go false is = let other = eqb-false j i is in getD-set-other held i j v 0 other ∙ same j (omega (arith, other))
 
-module _ {ids nexts heads : List ℕ} {n : ℕ} {idAt : ℕ → ℕ} where
+module _ {ids : List (List ℕ)} {n : ℕ} {idAt : ℕ → ℕ} where
   -- An index of a section's ids finds what the rules find.
-  pub ids-entry : Ids ids nexts heads n idAt → (id : ℕ) → entryOf ids n id ≡ newest (λ j. eqb (idAt j) id) n
+  pub ids-entry : Ids ids n idAt → (id : ℕ) → entryOf ids n id ≡ newest (λ j. eqb (idAt j) id) n
   unfolding entryOf
   ids-entry x id = newest-same _ _ n (λ j h. ap (λ (v : ℕ). eqb v id) (x .same j h))
 
-  pub ids-more : {ids′ nexts′ heads′ : List ℕ} {was : Bool} (id : ℕ) → Ids ids nexts heads n idAt → n < length ids → Entered ids nexts heads n id was ids′ nexts′ heads′
-      → was ≡ false → id ≡ idAt n → Ids ids′ nexts′ heads′ (suc n) idAt
-  ids-more id x room e fresh same =
-      record { index = e .index fresh; same = λ j h. ap (λ (l : List ℕ). getD l j 0) (e .added fresh) ∙ set-same ids idAt n id (x .same) room same j h }
+  pub ids-added : {ids′ : List (List ℕ)} (id : ℕ) → Ids ids n idAt → n < length ids → column 0 ids′ ≡ set (column 0 ids) n id → Index ids′ (suc n) → id ≡ idAt n
+      → Ids ids′ (suc n) idAt
+  ids-added {ids′ = ids′} id x room added index same =
+      record {
+        index = index;
+        same = λ j h.
+            sym (column-at 0 ids′ j) ∙ ap (λ (l : List ℕ). getD l j 0) added
+            ∙ set-same (column 0 ids) idAt n id (λ i l. column-at 0 ids i ∙ x .same i l) (let w = column-length 0 ids in omega arith) same j h;
+      }
 
-pub ids-none : {ids nexts heads : List ℕ} {most : ℕ} (idAt : ℕ → ℕ) → Fresh ids nexts heads most → Ids ids nexts heads 0 idAt
+  pub ids-more : {ids′ : List (List ℕ)} {was : Bool} (id : ℕ) → Ids ids n idAt → n < length ids → Entered ids n id was ids′ → was ≡ false → id ≡ idAt n
+      → Ids ids′ (suc n) idAt
+  ids-more id x room e fresh same = ids-added id x room (e .added fresh) (e .index fresh) same
+
+pub ids-none : {ids : List (List ℕ)} {most : ℕ} (idAt : ℕ → ℕ) → Fresh ids most → Ids ids 0 idAt
 ids-none idAt f = record { index = f .index; same = λ j h. absurd (omega arith) }
 
-module _ (ids nexts heads : List ℕ) (n id : ℕ) (ids′ nexts′ heads′ : List ℕ) where
-  pub entered-there : true ≡ found (entryOf ids n id) → Entered ids nexts heads n id true ids′ nexts′ heads′
+module _ (ids : List (List ℕ)) (n id : ℕ) (ids′ : List (List ℕ)) where
+  pub entered-there : true ≡ found (entryOf ids n id) → Entered ids n id true ids′
   entered-there e = record { answer = e; added = λ z. absurd (apart z); index = λ z. absurd (apart z) }
     where
       apart : true ≡ false → ⊥
       apart z = let o : _≡_ {A = ℕ} 0 1 = cc in omega arith
 
--- Arrays of zeros are an index without entries.
-pub fresh-zeros : (m n k most : ℕ) → most ≤ m → most ≤ n → BUCKETS ≤ k → Fresh (replicate m 0) (replicate n 0) (replicate k 0) most
-fresh-zeros m n k most hm hn hk =
+-- An array of zeros is an index without entries.
+zero-rows : (m k c : ℕ) → field (replicate m (replicate {A = ℕ} k 0)) c 2 ≡ 0
+zero-rows zero k c = refl
+zero-rows (suc m) k zero = zeros-at k 2
+zero-rows (suc m) k (suc c) = zero-rows m k c
+
+pub fresh-zeros : (m k most : ℕ) → most ≤ m → BUCKETS ≤ m → Fresh (replicate m (replicate {A = ℕ} k 0)) most
+fresh-zeros m k most hm hk =
+    let size : length (replicate m (replicate {A = ℕ} k 0)) ≡ m = length-replicate m (replicate {A = ℕ} k 0) in
     record {
       index =
           record {
@@ -97,17 +112,16 @@ fresh-zeros m n k most hm hn hk =
             chained =
                 record {
                   entries = omega arith;
-                  width = rw (length-replicate {A = ℕ} k 0) hk;
-                  head = λ j h. zeros-at k j;
+                  width = let w = column-length 2 (replicate m (replicate {A = ℕ} k 0)) in omega arith;
+                  head = λ j h. column-at 2 (replicate m (replicate {A = ℕ} k 0)) j ∙ zero-rows m k j;
                   next = λ i h. absurd (omega arith);
                 };
           };
-      room = rw (length-replicate {A = ℕ} m 0) hm;
-      links = rw (length-replicate {A = ℕ} n 0) hn;
+      room = omega arith;
     }
 
-pub fresh-fewer : {ids nexts heads : List ℕ} {most : ℕ} (n : ℕ) → Fresh ids nexts heads most → n ≤ most → Fresh ids nexts heads n
-fresh-fewer n f h = let r = f .room in let l = f .links in record { index = f .index; room = omega arith; links = omega arith }
+pub fresh-fewer : {ids : List (List ℕ)} {most : ℕ} (n : ℕ) → Fresh ids most → n ≤ most → Fresh ids n
+fresh-fewer n f h = let r = f .room in record { index = f .index; room = omega arith }
 
 -- First lines -------------------------------------------------------------------------------------------------------------------------------
 
@@ -179,33 +193,27 @@ module _ (b : Board) (first : ℕ) (p : ℕ → Bool) where
       go none = refl
       go (at k) = earlier-there (first + k) _
 
--- The lengths of an index that is written stay.
-pub record Kept (ids₀ nexts₀ heads₀ ids nexts heads : List ℕ) : Type 0 where
-  pub ids-kept : length ids ≡ length ids₀
-  pub nexts-kept : length nexts ≡ length nexts₀
-  pub heads-kept : length heads ≡ length heads₀
-
 -- The walk along one section ------------------------------------------------------------------------------------------------------------------
 
 -- i of the n records are behind, and no id stood there before.
-pub record Walking (text : List ℕ) (first n i : ℕ) (idAt : ℕ → ℕ) (repeats gone : ℕ → Bool) (missing₀ missing place : ℕ) (ids nexts heads : List ℕ) : Type 0 where
+pub record Walking (text : List ℕ) (first n i : ℕ) (idAt : ℕ → ℕ) (repeats gone : ℕ → Bool) (missing₀ missing place : ℕ) (ids : List (List ℕ)) : Type 0 where
   pub within : i ≤ n
   pub ready : Ready text (first + i) place
-  pub entered : Ids ids nexts heads i idAt
+  pub entered : Ids ids i idAt
   pub once : oldest repeats i ≡ none
   pub so-far : missing ≡ earlier missing₀ (lineOr (firstLine (sheetBoard text) (lineFrom first) gone i))
 
 module _ (text : List ℕ) (first n : ℕ) (idAt : ℕ → ℕ) (repeats gone : ℕ → Bool) (missing₀ : ℕ) where
-  pub walking-start : (place : ℕ) {ids nexts heads : List ℕ} → Ready text first place → Fresh ids nexts heads n
-      → Walking text first n 0 idAt repeats gone missing₀ missing₀ place ids nexts heads
+  pub walking-start : (place : ℕ) {ids : List (List ℕ)} → Ready text first place → Fresh ids n
+      → Walking text first n 0 idAt repeats gone missing₀ missing₀ place ids
   walking-start place r f =
       let here : first ≡ first + 0 = omega arith in
       record { within = omega arith; ready = rw (← here) r; entered = ids-none idAt f; once = refl; so-far = sym (earlier-zero missing₀) }
 
-  module _ (i missing place : ℕ) {ids nexts heads : List ℕ} (w : Walking text first n i idAt repeats gone missing₀ missing place ids nexts heads) (h : i < n) where
-    pub walking-more : (place′ missing′ : ℕ) {ids′ nexts′ heads′ : List ℕ} → repeats i ≡ false → Ready text (suc (first + i)) place′ → Ids ids′ nexts′ heads′ (suc i) idAt
+  module _ (i missing place : ℕ) {ids : List (List ℕ)} (w : Walking text first n i idAt repeats gone missing₀ missing place ids) (h : i < n) where
+    pub walking-more : (place′ missing′ : ℕ) {ids′ : List (List ℕ)} → repeats i ≡ false → Ready text (suc (first + i)) place′ → Ids ids′ (suc i) idAt
         → missing′ ≡ earlier missing (lineIf (gone i) (lineFrom first i))
-        → Walking text first n (suc i) idAt repeats gone missing₀ missing′ place′ ids′ nexts′ heads′
+        → Walking text first n (suc i) idAt repeats gone missing₀ missing′ place′ ids′
     walking-more place′ missing′ once′ r x e =
         record {
           within = omega arith;
@@ -215,9 +223,9 @@ module _ (text : List ℕ) (first n : ℕ) (idAt : ℕ → ℕ) (repeats gone : 
           so-far = first-step (sheetBoard text) first gone i missing₀ missing missing′ e (w .so-far);
         }
 
-    pub walking-twice : (w₀ w′ : Walk) (ids′ nexts′ heads′ : List ℕ) → repeats i ≡ true → w′ .twice ≡ lineFrom first i
-        → Walked text first n idAt repeats gone w₀ w′ ids′ nexts′ heads′
-    walking-twice w₀ w′ ids′ nexts′ heads′ again e =
+    pub walking-twice : (w₀ w′ : Walk) (ids′ : List (List ℕ)) → repeats i ≡ true → w′ .twice ≡ lineFrom first i
+        → Walked text first n idAt repeats gone w₀ w′ ids′
+    walking-twice w₀ w′ ids′ again e =
         let found-here : oldest repeats n ≡ at i = oldest-stays repeats (suc i) n i (oldest-here repeats i (w .once) again) (omega arith) in
         record {
           twice = e ∙ ap lineOr (sym (on-line (sheetBoard text) first repeats n ∙ ap (onLine first) found-here));
@@ -226,9 +234,9 @@ module _ (text : List ℕ) (first n : ℕ) (idAt : ℕ → ℕ) (repeats gone : 
           entered = λ z. absurd (omega arith);
         }
 
-  pub walking-end : (i missing place : ℕ) {ids nexts heads : List ℕ} (w₀ w′ : Walk) → Walking text first n i idAt repeats gone missing₀ missing place ids nexts heads → i ≡ n
-      → w₀ .missing ≡ missing₀ → w′ .place ≡ place → w′ .twice ≡ 0 → w′ .missing ≡ missing → Walked text first n idAt repeats gone w₀ w′ ids nexts heads
-  walking-end i missing place {ids} {nexts} {heads} w₀ w′ w end m₀ p t m =
+  pub walking-end : (i missing place : ℕ) {ids : List (List ℕ)} (w₀ w′ : Walk) → Walking text first n i idAt repeats gone missing₀ missing place ids → i ≡ n
+      → w₀ .missing ≡ missing₀ → w′ .place ≡ place → w′ .twice ≡ 0 → w′ .missing ≡ missing → Walked text first n idAt repeats gone w₀ w′ ids
+  walking-end i missing place {ids} w₀ w′ w end m₀ p t m =
       record {
         twice = t ∙ ap lineOr (sym (on-line (sheetBoard text) first repeats n ∙ ap (onLine first) (rw end at (w .once))));
         place = λ z. rw p (rw end at (w .ready));
@@ -258,16 +266,16 @@ chips-same b kinds n same none h = refl
 chips-same b kinds n same (at i) h = ap (λ (v : ℕ). eqb v kindChip) (same i (h i refl))
 
 -- What an index of a board's ids finds is what the rules find.
-module _ (b : Board) {ids nexts heads : List ℕ} (n : ℕ) where
-  pub body-entry : n ≡ length (b .nodes) → Ids ids nexts heads n (idOf b) → (id : ℕ) → entryOf ids n id ≡ bodyOf b id
+module _ (b : Board) {ids : List (List ℕ)} (n : ℕ) where
+  pub body-entry : n ≡ length (b .nodes) → Ids ids n (idOf b) → (id : ℕ) → entryOf ids n id ≡ bodyOf b id
   unfolding bodyOf
   body-entry e x id = ids-entry x id ∙ ap (newest (λ j. eqb (idOf b j) id)) e
 
-  pub chip-entry : n ≡ length (b .chips) → Ids ids nexts heads n (chipId b) → (id : ℕ) → entryOf ids n id ≡ chipAt b id (length (b .chips))
+  pub chip-entry : n ≡ length (b .chips) → Ids ids n (chipId b) → (id : ℕ) → entryOf ids n id ≡ chipAt b id (length (b .chips))
   unfolding chipAt
   chip-entry e x id = ids-entry x id ∙ ap (newest (λ j. eqb (chipId b j) id)) e
 
-  pub inner-entry : n ≡ length (b .inner) → Ids ids nexts heads n (innerId b) → (id : ℕ) → entryOf ids n id ≡ innerOf b id
+  pub inner-entry : n ≡ length (b .inner) → Ids ids n (innerId b) → (id : ℕ) → entryOf ids n id ≡ innerOf b id
   unfolding innerOf
   inner-entry e x id = ids-entry x id ∙ ap (newest (λ j. eqb (innerId b j) id)) e
 
@@ -278,7 +286,7 @@ module _ (b : Board) (i : ℕ) (row : List ℕ) where
     pub node-field : (k : ℕ) → getD row k 0 ≡ field (b .nodes) i k
     node-field k = ap (λ (r : List ℕ). getD r k 0) at-node
 
-    pub node-repeats : {ids nexts heads : List ℕ} → Ids ids nexts heads i (idOf b) → found (entryOf ids i (getD row 1 0)) ≡ nodeTwice b i
+    pub node-repeats : {ids : List (List ℕ)} → Ids ids i (idOf b) → found (entryOf ids i (getD row 1 0)) ≡ nodeTwice b i
     unfolding nodeTwice
     node-repeats x = ap found (ids-entry x (getD row 1 0) ∙ ap (λ (v : ℕ). newest (λ j. eqb (idOf b j) v) i) (node-field 1))
 
@@ -294,12 +302,12 @@ module _ (b : Board) (i : ℕ) (row : List ℕ) where
     pub chip-field : (k : ℕ) → getD row k 0 ≡ field (b .chips) i k
     chip-field k = ap (λ (r : List ℕ). getD r k 0) at-chip
 
-    pub chip-repeats : {ids nexts heads : List ℕ} → Ids ids nexts heads i (chipId b) → found (entryOf ids i (getD row 1 0)) ≡ chipTwice b i
+    pub chip-repeats : {ids : List (List ℕ)} → Ids ids i (chipId b) → found (entryOf ids i (getD row 1 0)) ≡ chipTwice b i
     unfolding chipTwice chipAt
     chip-repeats x = ap found (ids-entry x (getD row 1 0) ∙ ap (λ (v : ℕ). newest (λ j. eqb (chipId b j) v) i) (chip-field 1))
 
-    pub chip-gone : {ids nexts heads bodyIds bodyNexts bodyHeads : List ℕ} (kinds : List ℕ) (nodes : ℕ) → nodes ≡ length (b .nodes) → Ids ids nexts heads i (chipId b)
-        → Ids bodyIds bodyNexts bodyHeads nodes (idOf b) → ((j : ℕ) → j < nodes → getD kinds j 0 ≡ kindOf b j)
+    pub chip-gone : {ids bodyIds : List (List ℕ)} (kinds : List ℕ) (nodes : ℕ) → nodes ≡ length (b .nodes) → Ids ids i (chipId b)
+        → Ids bodyIds nodes (idOf b) → ((j : ℕ) → j < nodes → getD kinds j 0 ≡ kindOf b j)
         → elim (given (getD row 2 0)) as (λ t. Bool)
         [ true ↦ not (found (entryOf ids i (getD row 2 0))) | false ↦ not (isChip kinds (entryOf bodyIds nodes (getD row 1 0))) ]
         ≡ parentMissing b i
@@ -317,15 +325,15 @@ module _ (b : Board) (i : ℕ) (row : List ℕ) where
     pub inner-field : (k : ℕ) → getD row k 0 ≡ field (b .inner) i k
     inner-field k = ap (λ (r : List ℕ). getD r k 0) at-inner
 
-    pub inner-repeats : {ids nexts heads bodyIds bodyNexts bodyHeads : List ℕ} (nodes : ℕ) → nodes ≡ length (b .nodes) → Ids ids nexts heads i (innerId b)
-        → Ids bodyIds bodyNexts bodyHeads nodes (idOf b)
+    pub inner-repeats : {ids bodyIds : List (List ℕ)} (nodes : ℕ) → nodes ≡ length (b .nodes) → Ids ids i (innerId b)
+        → Ids bodyIds nodes (idOf b)
         → (found (entryOf bodyIds nodes (getD row 1 0)) || found (entryOf ids i (getD row 1 0))) ≡ innerTwice b i
     unfolding innerTwice
     inner-repeats nodes e x body =
         ap₂ _||_ (ap found (body-entry b nodes e body (getD row 1 0) ∙ ap (bodyOf b) (inner-field 1)))
         (ap found (ids-entry x (getD row 1 0) ∙ ap (λ (v : ℕ). newest (λ j. eqb (innerId b j) v) i) (inner-field 1)))
 
-    pub inner-gone : {chipIds chipNexts chipHeads : List ℕ} (chips : ℕ) → chips ≡ length (b .chips) → Ids chipIds chipNexts chipHeads chips (chipId b)
+    pub inner-gone : {chipIds : List (List ℕ)} (chips : ℕ) → chips ≡ length (b .chips) → Ids chipIds chips (chipId b)
         → not (found (entryOf chipIds chips (getD row 2 0))) ≡ chipMissing b i
     unfolding chipMissing
     inner-gone chips e x = ap (λ (f : Found). not (found f)) (chip-entry b chips e x (getD row 2 0) ∙ ap (λ (v : ℕ). chipAt b v (length (b .chips))) (inner-field 2))
@@ -473,5 +481,5 @@ module _ (b : Board) (c : Counts) (e : Counted b c) where
           ∙ earlier-assoc (nodesFirst (pageMissing b)) (chipsFirst (parentMissing b)) (innerFirst (chipMissing b)) in
           (λ w. faultBy (sym (rest-twice t same ∙ none₃) w) (missing w) (eu w)) ∙ sym fault-by
 
-pub ids-at : {ids nexts heads : List ℕ} {n m : ℕ} {idAt : ℕ → ℕ} → n ≡ m → Ids ids nexts heads n idAt → Ids ids nexts heads m idAt
-ids-at {ids} {nexts} {heads} {idAt = idAt} e x = subst (λ (k : ℕ). Ids ids nexts heads k idAt) e x
+pub ids-at : {ids : List (List ℕ)} {n m : ℕ} {idAt : ℕ → ℕ} → n ≡ m → Ids ids n idAt → Ids ids m idAt
+ids-at {ids} {idAt = idAt} e x = subst (λ (k : ℕ). Ids ids k idAt) e x

@@ -2,14 +2,15 @@
 use Prim.Native.Nat.{ℕ, zero, suc, _≤_, _<_}
 use mathlib.Core.Path.{_≡_, refl, ap, sym, subst, _∙_}
 use mathlib.Core.Bool.{Bool, true, false}
-use mathlib.Core.List.{List}
+use mathlib.Core.List.{List, [], _∷_}
 use native.Mathlib.Omega.{arith}
 use lib.Dec.{eqb}
-use lib.ListN.{length, getD, set, length-set}
+use lib.ListN.{length, getD, set, length-set, length-map}
 use lib.Seq.{getD-set-same, getD-set-other}
 use borrow.Author.Tests.{eq-eqb, ne-eqb, eqb-true, eqb-false}
 use Rattle.base.specs.Lists.{Found, none, at, newest}
-use Rattle.board.specs.Index.{Chained, link, Index, BUCKETS, bucketOf}
+use Rattle.board.specs.Index.{Chained, link, Index, BUCKETS, bucketOf, column}
+use Rattle.board.specs.Board.{field}
 
 pub pick-true {ℓ} : {A : Type ℓ} (t : Bool) (x y : A) → t ≡ true → elim t [ true ↦ x | false ↦ y ] ≡ x
 pick-true true x y e = refl
@@ -152,31 +153,85 @@ module _ (buckets : ℕ) (bucket : ℕ → ℕ) (nexts heads : List ℕ) (n : �
         next = λ i h. c .next i h ∙ ap link (newest-same _ _ i (λ j l w. eqb (e j (omega arith) w) (e i h w)));
       }
 
--- An index of ids.
-abbrev pub IdChain : List ℕ → ℕ → ℕ → ℕ → Type 0
-IdChain ids id n l = Following (λ i. eqb (getD ids i 0) id) (λ i. eqb (bucketOf (getD ids i 0)) (bucketOf id)) n l
+-- A column of a table, and a store to a row.
+pub column-at : (c : ℕ) (rows : List (List ℕ)) (i : ℕ) → getD (column c rows) i 0 ≡ field rows i c
+column-at c [] i = refl
+column-at c (r ∷ rows) zero = refl
+column-at c (r ∷ rows) (suc i) = column-at c rows i
 
-module _ (ids nexts heads : List ℕ) (n : ℕ) (x : Index ids nexts heads n) (id : ℕ) where
-  id-implies : Implies (λ i. eqb (getD ids i 0) id) (λ i. eqb (bucketOf (getD ids i 0)) (bucketOf id))
-  id-implies i e = eq-eqb _ _ (ap bucketOf (eqb-true (getD ids i 0) id e))
+pub column-set : (c : ℕ) (rows : List (List ℕ)) (i : ℕ) (row : List ℕ) → column c (set rows i row) ≡ set (column c rows) i (getD row c 0)
+column-set c [] i row = refl
+column-set c (r ∷ rows) zero row = refl
+column-set c (r ∷ rows) (suc i) row = ap (λ (l : List ℕ). getD r c 0 ∷ l) (column-set c rows i row)
+
+pub column-length : (c : ℕ) (rows : List (List ℕ)) → length (column c rows) ≡ length rows
+column-length c rows = length-map rows (λ r. getD r c 0)
+
+set-own : (l : List ℕ) (i : ℕ) → set l i (getD l i 0) ≡ l
+set-own [] i = refl
+set-own (x ∷ l) zero = refl
+set-own (x ∷ l) (suc i) = ap (λ (m : List ℕ). x ∷ m) (set-own l i)
+
+column-stays : (c : ℕ) (rows : List (List ℕ)) (i : ℕ) (row : List ℕ) → getD row c 0 ≡ field rows i c → column c (set rows i row) ≡ column c rows
+column-stays c rows i row e = column-set c rows i row ∙ ap (set (column c rows) i) (e ∙ sym (column-at c rows i)) ∙ set-own (column c rows) i
+
+-- An index of ids.
+abbrev pub IdChain : List (List ℕ) → ℕ → ℕ → ℕ → Type 0
+IdChain ids id n l = Following (λ i. eqb (field ids i 0) id) (λ i. eqb (bucketOf (field ids i 0)) (bucketOf id)) n l
+
+-- One more entry, as `add_id` writes it: its id and its next, and then its bucket's head.
+abbrev pub entryRows : List (List ℕ) → ℕ → ℕ → ℕ → List (List ℕ)
+entryRows ids n id k = set ids n (id ∷ field ids k 2 ∷ field ids n 2 ∷ [])
+
+abbrev pub addedRows : List (List ℕ) → ℕ → ℕ → ℕ → List (List ℕ)
+addedRows ids n id k = let e = entryRows ids n id k in set e k (field e k 0 ∷ field e k 1 ∷ suc n ∷ [])
+
+module _ (ids : List (List ℕ)) (n : ℕ) (x : Index ids n) (id : ℕ) where
+  id-implies : Implies (λ i. eqb (field ids i 0) id) (λ i. eqb (bucketOf (field ids i 0)) (bucketOf id))
+  id-implies i e = eq-eqb _ _ (ap bucketOf (eqb-true (field ids i 0) id e))
 
   bucket-small : bucketOf id < BUCKETS
   bucket-small = omega arith
 
-  pub index-start : IdChain ids id n (getD heads (bucketOf id) 0)
-  index-start = chain-start BUCKETS _ nexts heads n (x .chained) _ (bucketOf id) id-implies bucket-small
+  pub index-width : BUCKETS ≤ length ids
+  index-width = let w = x .chained .width in let e = column-length 2 ids in omega arith
 
-  pub index-next : (l j : ℕ) → l ≡ suc j → IdChain ids id n l → (getD ids j 0 ≡ id → ⊥) → IdChain ids id n (getD nexts j 0)
-  index-next l j e f other = chain-next BUCKETS _ nexts heads n (x .chained) _ (bucketOf id) id-implies l j e f (ne-eqb _ _ other)
+  pub index-falls : (j : ℕ) → j < n → field ids j 1 ≤ j
+  index-falls j h = let f = chain-falls BUCKETS _ (column 1 ids) (column 2 ids) n (x .chained) j h in let e = column-at 1 ids j in omega arith
 
-  pub index-more : n < length ids → n < length nexts
-      → Index (set ids n id) (set nexts n (getD heads (bucketOf id) 0)) (set heads (bucketOf id) (suc n)) (suc n)
-  index-more room room′ =
+  pub index-start : IdChain ids id n (field ids (bucketOf id) 2)
+  index-start = subst (IdChain ids id n) (column-at 2 ids (bucketOf id)) (chain-start BUCKETS _ (column 1 ids) (column 2 ids) n (x .chained) _ (bucketOf id) id-implies bucket-small)
+
+  pub index-next : (l j : ℕ) → l ≡ suc j → IdChain ids id n l → (field ids j 0 ≡ id → ⊥) → IdChain ids id n (field ids j 1)
+  index-next l j e f other =
+      subst (IdChain ids id n) (column-at 1 ids j) (chain-next BUCKETS _ (column 1 ids) (column 2 ids) n (x .chained) _ (bucketOf id) id-implies l j e f (ne-eqb _ _ other))
+
+  module _ (k : ℕ) where
+    pub added-ids : column 0 (addedRows ids n id k) ≡ set (column 0 ids) n id
+    added-ids = column-stays 0 (entryRows ids n id k) k _ refl ∙ column-set 0 ids n _
+
+    added-nexts : column 1 (addedRows ids n id k) ≡ set (column 1 ids) n (getD (column 2 ids) k 0)
+    added-nexts = column-stays 1 (entryRows ids n id k) k _ refl ∙ column-set 1 ids n _ ∙ ap (set (column 1 ids) n) (sym (column-at 2 ids k))
+
+    added-heads : column 2 (addedRows ids n id k) ≡ set (column 2 ids) k (suc n)
+    added-heads = column-set 2 (entryRows ids n id k) k _ ∙ ap (λ (l : List ℕ). set l k (suc n)) (column-stays 2 ids n _ refl)
+
+    added-at : (j : ℕ) → field (addedRows ids n id k) j 0 ≡ getD (set (column 0 ids) n id) j 0
+    added-at j = sym (column-at 0 (addedRows ids n id k) j) ∙ ap (λ (l : List ℕ). getD l j 0) added-ids
+
+  pub index-more : n < length ids → Index (addedRows ids n id (bucketOf id)) (suc n)
+  index-more room =
+      let k : ℕ = bucketOf id in
+      let new : List (List ℕ) = addedRows ids n id k in
+      let wide = column-length 1 ids in
+      let same : (j : ℕ) → j < n → bucketOf (field ids j 0) ≡ bucketOf (field new j 0) =
+      λ j h. ap bucketOf (sym (added-at k j ∙ getD-set-other (column 0 ids) n j id 0 (λ z. omega arith) ∙ column-at 0 ids j)) in
       record {
         room = simp length-set (omega arith);
         chained =
-            chained-more BUCKETS (λ i. bucketOf (getD (set ids n id) i 0)) nexts heads n
-            (chained-same BUCKETS _ nexts heads n (x .chained) (λ i. bucketOf (getD (set ids n id) i 0))
-            (λ j l. ap bucketOf (sym (getD-set-other ids n j id 0 (λ z. omega arith)))))
-            (bucketOf id) room′ (ap bucketOf (getD-set-same ids n id 0 room)) bucket-small;
+            subst (λ (l : List ℕ). Chained BUCKETS (λ i. bucketOf (field new i 0)) l (column 2 new) (suc n)) (sym (added-nexts k))
+            (subst (λ (l : List ℕ). Chained BUCKETS (λ i. bucketOf (field new i 0)) (set (column 1 ids) n (getD (column 2 ids) k 0)) l (suc n)) (sym (added-heads k))
+            (chained-more BUCKETS (λ i. bucketOf (field new i 0)) (column 1 ids) (column 2 ids) n
+            (chained-same BUCKETS _ (column 1 ids) (column 2 ids) n (x .chained) (λ i. bucketOf (field new i 0)) same)
+            k (omega arith) (ap bucketOf (added-at k n ∙ getD-set-same (column 0 ids) n id 0 (let z = column-length 0 ids in omega arith))) bucket-small));
       }

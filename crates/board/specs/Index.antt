@@ -2,10 +2,11 @@
 use Prim.Native.Nat.{ℕ, zero, suc, _%_, _≤_, _<_}
 use mathlib.Core.Path.{_≡_}
 use mathlib.Core.Bool.{Bool}
-use mathlib.Core.List.{List}
+use mathlib.Core.List.{List, map}
 use lib.Dec.{eqb}
 use lib.ListN.{length, getD}
 use Rattle.base.specs.Lists.{Found, none, at, newest}
+use Rattle.board.specs.Board.{field}
 use Rattle.board.specs.declared.ids.Found.{Found as FoundId}
 use Rattle.board.specs.declared.ids.Found.the-variants.{At, Nothing}
 
@@ -32,16 +33,20 @@ BUCKETS = 4096
 abbrev pub bucketOf : ℕ → ℕ
 bucketOf id = id % BUCKETS
 
--- The first n ids, chained.
-pub record Index (ids nexts heads : List ℕ) (n : ℕ) : Type 0 where
+-- A column of a table.
+abbrev pub column : ℕ → List (List ℕ) → List ℕ
+column c rows = map (λ r. getD r c 0) rows
+
+-- The first n ids, chained: column 0 has the id of each entry, column 1 its next, column 2 the head of each bucket.
+pub record Index (ids : List (List ℕ)) (n : ℕ) : Type 0 where
   pub room : n ≤ length ids
-  pub chained : Chained BUCKETS (λ i. bucketOf (getD ids i 0)) nexts heads n
+  pub chained : Chained BUCKETS (λ i. bucketOf (field ids i 0)) (column 1 ids) (column 2 ids) n
 
 -- The newest of the first n entries that has the id.
-unfoldable pub entryOf : List ℕ → ℕ → ℕ → Found
-entryOf ids n id = newest (λ i. eqb (getD ids i 0) id) n
+unfoldable pub entryOf : List (List ℕ) → ℕ → ℕ → Found
+entryOf ids n id = newest (λ i. eqb (field ids i 0) id) n
 
 -- An index whose first n entries are the ids of a section's records.
-pub record Ids (ids nexts heads : List ℕ) (n : ℕ) (idAt : ℕ → ℕ) : Type 0 where
-  pub index : Index ids nexts heads n
-  pub same : (j : ℕ) → j < n → getD ids j 0 ≡ idAt j
+pub record Ids (ids : List (List ℕ)) (n : ℕ) (idAt : ℕ → ℕ) : Type 0 where
+  pub index : Index ids n
+  pub same : (j : ℕ) → j < n → field ids j 0 ≡ idAt j

@@ -37,6 +37,8 @@ tapRow t = t .page ∷ t .group ∷ t .row ∷ t .y ∷ t .x ∷ t .node ∷ t .
 abbrev pub nodesAlone : List (List ℕ) → Board
 nodesAlone nodes = record { pages = []; nodes = nodes; chips = []; inner = []; execs = []; wires = [] }
 
+-- One table holds the facts of nodes, wires and pages: row i has those of node i, of wire i and of page i side by side.
+
 -- Facts of the nodes: column 0 is the row's number, column 1 its top.
 pub record NodeFacts (b : Board) (facts : List (List ℕ)) : Type 0 where
   pub rows : (i : ℕ) → i < length (b .nodes) → hasRow b i ≡ true → field facts i 0 ≡ rowOf b i
@@ -59,15 +61,15 @@ tapTarget b w =
           ]
     ]
 
--- Facts of the wires: columns 0 and 1 are the anchors of the two ends, column 2 says whether the wire passes the tests before any on its anchors.
+-- Facts of the wires: columns 2 and 3 are the anchors of the two ends, column 4 says whether the wire passes the tests before any on its anchors.
 pub record WireFacts (b : Board) (facts : List (List ℕ)) : Type 0 where
-  pub sources : (w : ℕ) → w < length (b .wires) → field facts w 0 ≡ held (anchorOf b (sourceNode b w))
-  pub targets : (w : ℕ) → w < length (b .wires) → field facts w 1 ≡ held (anchorOf b (targetNode b w))
-  pub opens : (w : ℕ) → w < length (b .wires) → field facts w 2 ≡ flag (wireOpen b w)
+  pub sources : (w : ℕ) → w < length (b .wires) → field facts w 2 ≡ held (anchorOf b (sourceNode b w))
+  pub targets : (w : ℕ) → w < length (b .wires) → field facts w 3 ≡ held (anchorOf b (targetNode b w))
+  pub opens : (w : ℕ) → w < length (b .wires) → field facts w 4 ≡ flag (wireOpen b w)
 
--- Column 3 is the target anchor of a wire that is not passed over.
+-- Column 5 is the target anchor of a wire that is not passed over.
 abbrev pub TapTargets : Board → List (List ℕ) → Type 0
-TapTargets b facts = (w : ℕ) → w < length (b .wires) → field facts w 3 ≡ held (tapTarget b w)
+TapTargets b facts = (w : ℕ) → w < length (b .wires) → field facts w 5 ≡ held (tapTarget b w)
 
 -- What the taps of a group add up to, in the row of its first wire: its first and last row, its consumers, whether it crosses, its lane, the least and the
 -- greatest x. A wire that names no group has no taps.
@@ -87,6 +89,6 @@ abbrev pub GroupFacts : Board → List PageLanes → List (List ℕ) → Type 0
 GroupFacts b ps table =
     (t : Tap) → List·Memᴰ t (tapsOf b) → getD table (t .group) [] ≡ groupRow b (tapsOf b) (t .group) (held (laneOf ps (t .page) (t .group)))
 
--- Facts of the pages: column 0 is the count of lanes.
+-- Facts of the pages: column 6 is the count of lanes.
 abbrev pub PageFacts : List PageLanes → List (List ℕ) → Type 0
-PageFacts ps table = (p : ℕ) → p < length ps → field table p 0 ≡ getD ps p noLanes .count
+PageFacts ps table = (p : ℕ) → p < length ps → field table p 6 ≡ getD ps p noLanes .count

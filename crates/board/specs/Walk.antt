@@ -18,7 +18,7 @@ use Rattle.board.specs.declared.refusals.Fault.the-variants.{Refused, Fi
 use Rattle.base.specs.Lists.{Found, none, at, found}
 use Rattle.board.specs.Board.{Board, boardOf, kindChip, idOf, kindOf, chipId, innerId}
 use Rattle.board.specs.Refusals.{firstLine, nodeTwice, chipTwice, innerTwice, pageMissing, parentMissing, chipMissing, rowUnplaced, Judged, turnedAway, board, judgedBoard, judged}
-use Rattle.board.specs.Index.{Index, entryOf}
+use Rattle.board.specs.Index.{Index, column, entryOf}
 pub use Rattle.board.specs.Index.{Ids}
 
 -- The board of a sheet that reading accepts.
@@ -57,16 +57,15 @@ abbrev pub INNER_MOST : ℕ
 INNER_MOST = libraryMost .inner
 
 -- An index without entries and with room for so many.
-pub record Fresh (ids nexts heads : List ℕ) (most : ℕ) : Type 0 where
-  pub index : Index ids nexts heads 0
+pub record Fresh (ids : List (List ℕ)) (most : ℕ) : Type 0 where
+  pub index : Index ids 0
   pub room : most ≤ length ids
-  pub links : most ≤ length nexts
 
 -- An id entered as the n-th entry, unless it was there.
-pub record Entered (ids nexts heads : List ℕ) (n id : ℕ) (was : Bool) (ids′ nexts′ heads′ : List ℕ) : Type 0 where
+pub record Entered (ids : List (List ℕ)) (n id : ℕ) (was : Bool) (ids′ : List (List ℕ)) : Type 0 where
   pub answer : was ≡ found (entryOf ids n id)
-  pub added : was ≡ false → ids′ ≡ set ids n id
-  pub index : was ≡ false → Index ids′ nexts′ heads′ (suc n)
+  pub added : was ≡ false → column 0 ids′ ≡ set (column 0 ids) n id
+  pub index : was ≡ false → Index ids′ (suc n)
 
 -- Where a walk along an accepted sheet stands: so many lines are behind.
 pub record Ready (text : List ℕ) (first place : ℕ) : Type 0 where
@@ -74,42 +73,42 @@ pub record Ready (text : List ℕ) (first place : ℕ) : Type 0 where
   pub line : AtLine text first place
 
 -- What the walk along the chips starts from: the counts, and the body nodes' ids and kinds.
-pub record ChipsReady (b : Board) (first n nodes : ℕ) (bodyIds bodyNexts bodyHeads kinds : List ℕ) : Type 0 where
+pub record ChipsReady (b : Board) (first n nodes : ℕ) (bodyIds : List (List ℕ)) (kinds : List ℕ) : Type 0 where
   pub behind : first ≡ length (b .pages) + length (b .nodes)
   pub count : n ≡ length (b .chips)
   pub bodies : nodes ≡ length (b .nodes)
-  pub body : Ids bodyIds bodyNexts bodyHeads nodes (idOf b)
+  pub body : Ids bodyIds nodes (idOf b)
   pub room : nodes ≤ length kinds
   pub kindsAre : (j : ℕ) → j < nodes → getD kinds j 0 ≡ kindOf b j
 
 -- What the walk along the nodes inside chips starts from: the counts, and the ids of the body nodes and of the chips.
-pub record InnerReady (b : Board) (first n nodes chips : ℕ) (bodyIds bodyNexts bodyHeads chipIds chipNexts chipHeads : List ℕ) : Type 0 where
+pub record InnerReady (b : Board) (first n nodes chips : ℕ) (bodyIds chipIds : List (List ℕ)) : Type 0 where
   pub behind : first ≡ length (b .pages) + length (b .nodes) + length (b .chips)
   pub count : n ≡ length (b .inner)
   pub bodies : nodes ≡ length (b .nodes)
   pub chipsAre : chips ≡ length (b .chips)
-  pub body : Ids bodyIds bodyNexts bodyHeads nodes (idOf b)
-  pub chip : Ids chipIds chipNexts chipHeads chips (chipId b)
+  pub body : Ids bodyIds nodes (idOf b)
+  pub chip : Ids chipIds chips (chipId b)
 
 -- A walk along the n records of a section from w₀ to w: the first line whose id was there before, and, without one, the first line at which something
 -- is not there.
-pub record Walked (text : List ℕ) (first n : ℕ) (idAt : ℕ → ℕ) (repeats gone : ℕ → Bool) (w₀ w : Walk) (ids nexts heads : List ℕ) : Type 0 where
+pub record Walked (text : List ℕ) (first n : ℕ) (idAt : ℕ → ℕ) (repeats gone : ℕ → Bool) (w₀ w : Walk) (ids : List (List ℕ)) : Type 0 where
   pub twice : w .twice ≡ lineOr (firstLine (sheetBoard text) (lineFrom first) repeats n)
   pub place : w .twice ≡ 0 → Ready text (first + n) (w .place)
   pub missing : w .twice ≡ 0 → w .missing ≡ earlier (w₀ .missing) (lineOr (firstLine (sheetBoard text) (lineFrom first) gone n))
-  pub entered : w .twice ≡ 0 → Ids ids nexts heads n idAt
+  pub entered : w .twice ≡ 0 → Ids ids n idAt
 
-abbrev pub WalkedNodes : List ℕ → ℕ → ℕ → Walk → Walk → List ℕ → List ℕ → List ℕ → Type 0
-WalkedNodes text first n w₀ w ids nexts heads =
-    let b = sheetBoard text in Walked text first n (idOf b) (nodeTwice b) (pageMissing b) w₀ w ids nexts heads
+abbrev pub WalkedNodes : List ℕ → ℕ → ℕ → Walk → Walk → List (List ℕ) → Type 0
+WalkedNodes text first n w₀ w ids =
+    let b = sheetBoard text in Walked text first n (idOf b) (nodeTwice b) (pageMissing b) w₀ w ids
 
-abbrev pub WalkedChips : List ℕ → ℕ → ℕ → Walk → Walk → List ℕ → List ℕ → List ℕ → Type 0
-WalkedChips text first n w₀ w ids nexts heads =
-    let b = sheetBoard text in Walked text first n (chipId b) (chipTwice b) (parentMissing b) w₀ w ids nexts heads
+abbrev pub WalkedChips : List ℕ → ℕ → ℕ → Walk → Walk → List (List ℕ) → Type 0
+WalkedChips text first n w₀ w ids =
+    let b = sheetBoard text in Walked text first n (chipId b) (chipTwice b) (parentMissing b) w₀ w ids
 
-abbrev pub WalkedInner : List ℕ → ℕ → ℕ → Walk → Walk → List ℕ → List ℕ → List ℕ → Type 0
-WalkedInner text first n w₀ w ids nexts heads =
-    let b = sheetBoard text in Walked text first n (innerId b) (innerTwice b) (chipMissing b) w₀ w ids nexts heads
+abbrev pub WalkedInner : List ℕ → ℕ → ℕ → Walk → Walk → List (List ℕ) → Type 0
+WalkedInner text first n w₀ w ids =
+    let b = sheetBoard text in Walked text first n (innerId b) (innerTwice b) (chipMissing b) w₀ w ids
 
 -- The kinds of the body nodes, and the first line of a 6.
 pub record NodesSeen (text : List ℕ) (first n : ℕ) (w₀ w : Walk) (held : List ℕ) : Type 0 where
@@ -147,13 +146,12 @@ abbrev pub WithinLibrary : Counts → Type 0
 WithinLibrary most = (s : ℕ) → getD (listed most) s 0 ≤ getD (listed libraryMost) s 0
 
 -- The three indexes of a board's ids.
-pub record Indexed (b : Board) (bodyIds bodyNexts bodyHeads chipIds chipNexts chipHeads innerIds innerNexts innerHeads : List ℕ) : Type 0 where
-  pub body : Ids bodyIds bodyNexts bodyHeads (length (b .nodes)) (idOf b)
-  pub chips : Ids chipIds chipNexts chipHeads (length (b .chips)) (chipId b)
-  pub inner : Ids innerIds innerNexts innerHeads (length (b .inner)) (innerId b)
+pub record Indexed (b : Board) (bodyIds chipIds innerIds : List (List ℕ)) : Type 0 where
+  pub body : Ids bodyIds (length (b .nodes)) (idOf b)
+  pub chips : Ids chipIds (length (b .chips)) (chipId b)
+  pub inner : Ids innerIds (length (b .inner)) (innerId b)
 
 -- .. of the board that a sheet is judged to be, if it is one.
-abbrev pub IndexedIf : Judged → List ℕ → List ℕ → List ℕ → List ℕ → List ℕ → List ℕ → List ℕ → List ℕ → List ℕ → Type 0
-IndexedIf (turnedAway number line) bodyIds bodyNexts bodyHeads chipIds chipNexts chipHeads innerIds innerNexts innerHeads = Unit {0}
-IndexedIf (board b) bodyIds bodyNexts bodyHeads chipIds chipNexts chipHeads innerIds innerNexts innerHeads =
-    Indexed b bodyIds bodyNexts bodyHeads chipIds chipNexts chipHeads innerIds innerNexts innerHeads
+abbrev pub IndexedIf : Judged → (bodyIds chipIds innerIds : List (List ℕ)) → Type 0
+IndexedIf (turnedAway number line) bodyIds chipIds innerIds = Unit {0}
+IndexedIf (board b) bodyIds chipIds innerIds = Indexed b bodyIds chipIds innerIds

@@ -2,6 +2,7 @@
 // 244, further ids share a bucket.
 use base::ids::NodeId;
 use base::numbers::MISSING;
+use base::rows::IdRow;
 use base::rows::Record;
 ghost use mathlib.Core.Path.{_≡_};
 ghost use mathlib.Core.List.{List};
@@ -10,7 +11,7 @@ ghost use lib.ListN.{length, getD, set};
 ghost use Rattle.board.specs.Board.{Board};
 ghost use Rattle.board.specs.Refusals.{chipAt};
 ghost use Rattle.board.specs.Groups.{topChip};
-ghost use Rattle.board.specs.Index.{Index, foundOf, entryOf};
+ghost use Rattle.board.specs.Index.{Index, column, foundOf, entryOf};
 
 // An index that may not be there.
 pub enum Found {
@@ -27,34 +28,38 @@ fn bucket_of(id: u32) -> usize
 }
 
 // The newest of the first `n` entries that has the id.
-pub fn find_id(ids: &[u32], nexts: &[u32], heads: &[u32], n: usize, id: NodeId) -> Found
-    requires { ⌜ Index (now ids) (now nexts) (now heads) n ⌝ }
-    ensures { λ r. ⌜ r ≡ foundOf (entryOf (now (ids .entry)) n (id .0)) ⌝ }
+pub fn find_id(index: &[IdRow], n: usize, id: NodeId) -> Found
+    requires { ⌜ Index (now index) n ⌝ }
+    ensures { λ r. ⌜ r ≡ foundOf (entryOf (now (index .entry)) n (id .0)) ⌝ }
 {
     let wanted = id.0;
-    let mut link = heads[bucket_of(wanted)];
+    let k = bucket_of(wanted);
+    let mut link = index[k][2];
     while link != 0 {
         let i = (link - 1) as usize;
-        if ids[i] == wanted {
+        if index[i][0] == wanted {
             return Found::At(i);
         }
-        link = nexts[i];
+        link = index[i][1];
     }
     Found::Nothing
 }
 
 // One more entry.
-pub fn add_id(ids: &mut [u32], nexts: &mut [u32], heads: &mut [u32], n: usize, id: NodeId)
-    requires { ⌜ Index (now ids) (now nexts) (now heads) n ⌝ }
-    requires { ⌜ (n < length (now ids)) × (n < length (now nexts)) × (n < 4294967295) ⌝ }
-    ensures { λ _. ⌜ now (ids .exit) ≡ set (now (ids .entry)) n (id .0) ⌝ }
-    ensures { λ _. ⌜ Index (now (ids .exit)) (now (nexts .exit)) (now (heads .exit)) (Prim.Native.Nat.suc n) ⌝ }
+pub fn add_id(index: &mut [IdRow], n: usize, id: NodeId)
+    requires { ⌜ Index (now index) n ⌝ }
+    requires { ⌜ (n < length (now index)) × (n < 4294967295) ⌝ }
+    ensures { λ _. ⌜ column 0 (now (index .exit)) ≡ set (column 0 (now (index .entry))) n (id .0) ⌝ }
+    ensures { λ _. ⌜ Index (now (index .exit)) (Prim.Native.Nat.suc n) ⌝ }
 {
     let new = id.0;
     let k = bucket_of(new);
-    ids[n] = new;
-    nexts[n] = heads[k];
-    heads[k] = (n + 1) as u32;
+    let next = index[k][2];
+    let entry = index[n];
+    index[n] = [new, next, entry[2]];
+    // n and k may be one row, so it is read again.
+    let bucket = index[k];
+    index[k] = [bucket[0], bucket[1], (n + 1) as u32];
 }
 
 // The newest of the first `n` chip records that has the id.

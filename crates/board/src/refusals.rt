@@ -5,6 +5,7 @@ use crate::ids::find_id;
 use base::ids::NodeId;
 use base::numbers::KIND_CHIP;
 use base::numbers::MISSING;
+use base::rows::IdRow;
 use sheet::Checked;
 use sheet::Counts;
 use sheet::check_sheet;
@@ -37,26 +38,26 @@ pub enum Fault {
     Fine,
 }
 
-fn has_id(ids: &[u32], nexts: &[u32], heads: &[u32], n: usize, id: NodeId) -> bool
-    requires { ⌜ Index (now ids) (now nexts) (now heads) n ⌝ }
-    ensures { λ r. ⌜ r ≡ found (entryOf (now (ids .entry)) n (id .0)) ⌝ }
+fn has_id(index: &[IdRow], n: usize, id: NodeId) -> bool
+    requires { ⌜ Index (now index) n ⌝ }
+    ensures { λ r. ⌜ r ≡ found (entryOf (now (index .entry)) n (id .0)) ⌝ }
 {
-    match find_id(ids, nexts, heads, n, id) {
+    match find_id(index, n, id) {
         Found::At(_) => true,
         Found::Nothing => false,
     }
 }
 
 // Enters an id, unless it is there already.
-fn enter_id(ids: &mut [u32], nexts: &mut [u32], heads: &mut [u32], n: usize, id: NodeId) -> bool
-    requires { ⌜ Index (now ids) (now nexts) (now heads) n ⌝ }
-    requires { ⌜ (n < length (now ids)) × (n < length (now nexts)) × (n < 4096) ⌝ }
-    ensures { λ r. ⌜ Entered (now (ids .entry)) (now (nexts .entry)) (now (heads .entry)) n (id .0) r (now (ids .exit)) (now (nexts .exit)) (now (heads .exit)) ⌝ }
+fn enter_id(index: &mut [IdRow], n: usize, id: NodeId) -> bool
+    requires { ⌜ Index (now index) n ⌝ }
+    requires { ⌜ (n < length (now index)) × (n < 4096) ⌝ }
+    ensures { λ r. ⌜ Entered (now (index .entry)) n (id .0) r (now (index .exit)) ⌝ }
 {
-    if has_id(ids, nexts, heads, n, id) {
+    if has_id(index, n, id) {
         return true;
     }
-    add_id(ids, nexts, heads, n, id);
+    add_id(index, n, id);
     false
 }
 
@@ -92,19 +93,12 @@ fn row_unplaced(row: [u32; 16]) -> bool
 }
 
 // Whether the id names a body node that is a Chip.
-fn is_body_chip(
-    ids: &[u32],
-    nexts: &[u32],
-    heads: &[u32],
-    kinds: &[u32],
-    n: usize,
-    id: NodeId,
-) -> bool
-    requires { ⌜ Index (now ids) (now nexts) (now heads) n ⌝ }
+fn is_body_chip(body: &[IdRow], kinds: &[u32], n: usize, id: NodeId) -> bool
+    requires { ⌜ Index (now body) n ⌝ }
     requires { ⌜ n ≤ length (now kinds) ⌝ }
-    ensures { λ r. ⌜ r ≡ isChip (now (kinds .entry)) (entryOf (now (ids .entry)) n (id .0)) ⌝ }
+    ensures { λ r. ⌜ r ≡ isChip (now (kinds .entry)) (entryOf (now (body .entry)) n (id .0)) ⌝ }
 {
-    match find_id(ids, nexts, heads, n, id) {
+    match find_id(body, n, id) {
         Found::At(i) => kinds[i] == KIND_CHIP,
         Found::Nothing => false,
     }
@@ -112,37 +106,26 @@ fn is_body_chip(
 
 // E5: the parent of a C, among the `c` chips before it, or the brick of a top chip.
 fn parent_missing(
-    body_ids: &[u32],
-    body_nexts: &[u32],
-    body_heads: &[u32],
+    body: &[IdRow],
     kinds: &[u32],
     nodes: usize,
-    ids: &[u32],
-    nexts: &[u32],
-    heads: &[u32],
+    index: &[IdRow],
     c: usize,
     row: [u32; 16],
 ) -> bool
-    requires { ⌜ Index (now «body_ids») (now «body_nexts») (now «body_heads») nodes ⌝ }
+    requires { ⌜ Index (now body) nodes ⌝ }
     requires { ⌜ nodes ≤ length (now kinds) ⌝ }
-    requires { ⌜ Index (now ids) (now nexts) (now heads) c ⌝ }
+    requires { ⌜ Index (now index) c ⌝ }
     ensures { λ r. ⌜ r ≡ elim (given (getD row 2 0)) [
-      | true ↦ not (found (entryOf (now (ids .entry)) c (getD row 2 0)))
-      | false ↦ not (isChip (now (kinds .entry)) (entryOf (now («body_ids» .entry)) nodes (getD row 1 0)))
+      | true ↦ not (found (entryOf (now (index .entry)) c (getD row 2 0)))
+      | false ↦ not (isChip (now (kinds .entry)) (entryOf (now (body .entry)) nodes (getD row 1 0)))
     ] ⌝ }
 {
     let parent = row[2];
     if parent == MISSING {
-        return !is_body_chip(
-            body_ids,
-            body_nexts,
-            body_heads,
-            kinds,
-            nodes,
-            NodeId(row[1]),
-        );
+        return !is_body_chip(body, kinds, nodes, NodeId(row[1]));
     }
-    !has_id(ids, nexts, heads, c, NodeId(parent))
+    !has_id(index, c, NodeId(parent))
 }
 
 // Where the lines after the first `n` start.
@@ -167,16 +150,14 @@ fn walk_nodes(
     first: usize,
     n: usize,
     w: Walk,
-    ids: &mut [u32],
-    nexts: &mut [u32],
-    heads: &mut [u32],
+    index: &mut [IdRow],
     kinds: &mut [u32],
 ) -> Walk
     requires { ⌜ Ready (now text) first (w .place) ⌝ }
     requires { ⌜ (first ≡ length (sheetBoard (now text) .pages)) × (n ≡ length (sheetBoard (now text) .nodes)) ⌝ }
     requires { ⌜ n ≤ length (now kinds) ⌝ }
-    requires { ⌜ Fresh (now ids) (now nexts) (now heads) n ⌝ }
-    ensures { λ r. ⌜ WalkedNodes (now (text .entry)) first n w r (now (ids .exit)) (now (nexts .exit)) (now (heads .exit)) ⌝ }
+    requires { ⌜ Fresh (now index) n ⌝ }
+    ensures { λ r. ⌜ WalkedNodes (now (text .entry)) first n w r (now (index .exit)) ⌝ }
     ensures { λ r. ⌜ NodesSeen (now (text .entry)) first n w r (now (kinds .exit)) ⌝ }
 {
     let mut place = w.place;
@@ -187,7 +168,7 @@ fn walk_nodes(
         let r = row_at(text, place);
         let row = r.row;
         let line = first + i + 1;
-        if enter_id(ids, nexts, heads, i, NodeId(row[1])) {
+        if enter_id(index, i, NodeId(row[1])) {
             return Walk {
                 place,
                 twice: line,
@@ -215,19 +196,15 @@ fn walk_chips(
     first: usize,
     n: usize,
     w: Walk,
-    body_ids: &[u32],
-    body_nexts: &[u32],
-    body_heads: &[u32],
+    body: &[IdRow],
     kinds: &[u32],
     nodes: usize,
-    ids: &mut [u32],
-    nexts: &mut [u32],
-    heads: &mut [u32],
+    index: &mut [IdRow],
 ) -> Walk
     requires { ⌜ Ready (now text) first (w .place) ⌝ }
-    requires { ⌜ ChipsReady (sheetBoard (now text)) first n nodes (now «body_ids») (now «body_nexts») (now «body_heads») (now kinds) ⌝ }
-    requires { ⌜ Fresh (now ids) (now nexts) (now heads) n ⌝ }
-    ensures { λ r. ⌜ WalkedChips (now (text .entry)) first n w r (now (ids .exit)) (now (nexts .exit)) (now (heads .exit)) ⌝ }
+    requires { ⌜ ChipsReady (sheetBoard (now text)) first n nodes (now body) (now kinds) ⌝ }
+    requires { ⌜ Fresh (now index) n ⌝ }
+    ensures { λ r. ⌜ WalkedChips (now (text .entry)) first n w r (now (index .exit)) ⌝ }
     ensures { λ r. ⌜ r .unplaced ≡ w .unplaced ⌝ }
 {
     let mut place = w.place;
@@ -237,19 +214,8 @@ fn walk_chips(
         let r = row_at(text, place);
         let row = r.row;
         let line = first + c + 1;
-        let gone = parent_missing(
-            body_ids,
-            body_nexts,
-            body_heads,
-            kinds,
-            nodes,
-            ids,
-            nexts,
-            heads,
-            c,
-            row,
-        );
-        if enter_id(ids, nexts, heads, c, NodeId(row[1])) {
+        let gone = parent_missing(body, kinds, nodes, index, c, row);
+        if enter_id(index, c, NodeId(row[1])) {
             return Walk {
                 place,
                 twice: line,
@@ -275,22 +241,16 @@ fn walk_inner(
     first: usize,
     n: usize,
     w: Walk,
-    body_ids: &[u32],
-    body_nexts: &[u32],
-    body_heads: &[u32],
+    body: &[IdRow],
     nodes: usize,
-    chip_ids: &[u32],
-    chip_nexts: &[u32],
-    chip_heads: &[u32],
-    chips: usize,
-    ids: &mut [u32],
-    nexts: &mut [u32],
-    heads: &mut [u32],
+    chips: &[IdRow],
+    chip_count: usize,
+    index: &mut [IdRow],
 ) -> Walk
     requires { ⌜ Ready (now text) first (w .place) ⌝ }
-    requires { ⌜ InnerReady (sheetBoard (now text)) first n nodes chips (now «body_ids») (now «body_nexts») (now «body_heads») (now «chip_ids») (now «chip_nexts») (now «chip_heads») ⌝ }
-    requires { ⌜ Fresh (now ids) (now nexts) (now heads) n ⌝ }
-    ensures { λ r. ⌜ WalkedInner (now (text .entry)) first n w r (now (ids .exit)) (now (nexts .exit)) (now (heads .exit)) ⌝ }
+    requires { ⌜ InnerReady (sheetBoard (now text)) first n nodes «chip_count» (now body) (now chips) ⌝ }
+    requires { ⌜ Fresh (now index) n ⌝ }
+    ensures { λ r. ⌜ WalkedInner (now (text .entry)) first n w r (now (index .exit)) ⌝ }
     ensures { λ r. ⌜ r .unplaced ≡ w .unplaced ⌝ }
 {
     let mut place = w.place;
@@ -300,7 +260,7 @@ fn walk_inner(
         let r = row_at(text, place);
         let row = r.row;
         let line = first + f + 1;
-        if has_id(body_ids, body_nexts, body_heads, nodes, NodeId(row[1])) {
+        if has_id(body, nodes, NodeId(row[1])) {
             return Walk {
                 place,
                 twice: line,
@@ -308,7 +268,7 @@ fn walk_inner(
                 unplaced: w.unplaced,
             };
         }
-        if enter_id(ids, nexts, heads, f, NodeId(row[1])) {
+        if enter_id(index, f, NodeId(row[1])) {
             return Walk {
                 place,
                 twice: line,
@@ -316,11 +276,7 @@ fn walk_inner(
                 unplaced: w.unplaced,
             };
         }
-        missing = first_line(
-            missing,
-            !has_id(chip_ids, chip_nexts, chip_heads, chips, NodeId(row[2])),
-            line,
-        );
+        missing = first_line(missing, !has_id(chips, chip_count, NodeId(row[2])), line);
         place = r.next;
         f += 1;
     }
@@ -355,28 +311,21 @@ fn verdict(missing: usize, unplaced: usize) -> Fault
 pub fn find_fault(
     text: &[u8],
     counts: Counts,
-    body_ids: &mut [u32],
-    body_nexts: &mut [u32],
-    body_heads: &mut [u32],
-    chip_ids: &mut [u32],
-    chip_nexts: &mut [u32],
-    chip_heads: &mut [u32],
-    inner_ids: &mut [u32],
-    inner_nexts: &mut [u32],
-    inner_heads: &mut [u32],
+    body: &mut [IdRow],
+    chips: &mut [IdRow],
+    inner: &mut [IdRow],
 ) -> Fault
     requires { ⌜ Ready (now text) 0 0 ⌝ }
     requires { ⌜ counts ≡ countsOf (rowsFrom (now text)) ⌝ }
-    requires { ⌜ Fresh (now «body_ids») (now «body_nexts») (now «body_heads») NODES_MOST ⌝ }
-    requires { ⌜ Fresh (now «chip_ids») (now «chip_nexts») (now «chip_heads») CHIPS_MOST ⌝ }
-    requires { ⌜ Fresh (now «inner_ids») (now «inner_nexts») (now «inner_heads») INNER_MOST ⌝ }
+    requires { ⌜ Fresh (now body) NODES_MOST ⌝ }
+    requires { ⌜ Fresh (now chips) CHIPS_MOST ⌝ }
+    requires { ⌜ Fresh (now inner) INNER_MOST ⌝ }
     ensures { λ r. ⌜ r ≡ faultOf (judgedBoard (sheetBoard (now (text .entry)))) ⌝ }
-    ensures { λ r. ⌜ (r ≡ Fault.Fine → Indexed (sheetBoard (now (text .entry))) (now («body_ids» .exit)) (now («body_nexts» .exit)) (now («body_heads» .exit))
-        (now («chip_ids» .exit)) (now («chip_nexts» .exit)) (now («chip_heads» .exit)) (now («inner_ids» .exit)) (now («inner_nexts» .exit)) (now («inner_heads» .exit))) ⌝ }
+    ensures { λ r. ⌜ (r ≡ Fault.Fine → Indexed (sheetBoard (now (text .entry))) (now (body .exit)) (now (chips .exit)) (now (inner .exit))) ⌝ }
 {
     let pages = counts.pages;
     let nodes = counts.nodes;
-    let chips = counts.chips;
+    let chip_count = counts.chips;
     let mut kinds = [0u32; 4096];
     let start = Walk {
         place: skip_lines(text, pages),
@@ -384,16 +333,7 @@ pub fn find_fault(
         missing: 0,
         unplaced: 0,
     };
-    let after_nodes = walk_nodes(
-        text,
-        pages,
-        nodes,
-        start,
-        body_ids,
-        body_nexts,
-        body_heads,
-        &mut kinds,
-    );
+    let after_nodes = walk_nodes(text, pages, nodes, start, body, &mut kinds);
     if after_nodes.twice != 0 {
         return Fault::Refused {
             number: 4,
@@ -403,16 +343,12 @@ pub fn find_fault(
     let after_chips = walk_chips(
         text,
         pages + nodes,
-        chips,
+        chip_count,
         after_nodes,
-        body_ids,
-        body_nexts,
-        body_heads,
+        body,
         &kinds,
         nodes,
-        chip_ids,
-        chip_nexts,
-        chip_heads,
+        chips,
     );
     if after_chips.twice != 0 {
         return Fault::Refused {
@@ -422,20 +358,14 @@ pub fn find_fault(
     }
     let after_inner = walk_inner(
         text,
-        pages + nodes + chips,
+        pages + nodes + chip_count,
         counts.inner,
         after_chips,
-        body_ids,
-        body_nexts,
-        body_heads,
+        body,
         nodes,
-        chip_ids,
-        chip_nexts,
-        chip_heads,
         chips,
-        inner_ids,
-        inner_nexts,
-        inner_heads,
+        chip_count,
+        inner,
     );
     if after_inner.twice != 0 {
         return Fault::Refused {
@@ -450,40 +380,21 @@ pub fn find_fault(
 pub fn check_board(
     text: &[u8],
     most: Counts,
-    body_ids: &mut [u32],
-    body_nexts: &mut [u32],
-    body_heads: &mut [u32],
-    chip_ids: &mut [u32],
-    chip_nexts: &mut [u32],
-    chip_heads: &mut [u32],
-    inner_ids: &mut [u32],
-    inner_nexts: &mut [u32],
-    inner_heads: &mut [u32],
+    body: &mut [IdRow],
+    chips: &mut [IdRow],
+    inner: &mut [IdRow],
 ) -> Checked
     requires { ⌜ WithinLibrary most ⌝ }
-    requires { ⌜ Fresh (now «body_ids») (now «body_nexts») (now «body_heads») NODES_MOST ⌝ }
-    requires { ⌜ Fresh (now «chip_ids») (now «chip_nexts») (now «chip_heads») CHIPS_MOST ⌝ }
-    requires { ⌜ Fresh (now «inner_ids») (now «inner_nexts») (now «inner_heads») INNER_MOST ⌝ }
+    requires { ⌜ Fresh (now body) NODES_MOST ⌝ }
+    requires { ⌜ Fresh (now chips) CHIPS_MOST ⌝ }
+    requires { ⌜ Fresh (now inner) INNER_MOST ⌝ }
     ensures { λ r. ⌜ r ≡ boardChecked (judged most (now (text .entry))) ⌝ }
-    ensures { λ r. ⌜ IndexedIf (judged most (now (text .entry))) (now («body_ids» .exit)) (now («body_nexts» .exit)) (now («body_heads» .exit))
-        (now («chip_ids» .exit)) (now («chip_nexts» .exit)) (now («chip_heads» .exit)) (now («inner_ids» .exit)) (now («inner_nexts» .exit)) (now («inner_heads» .exit)) ⌝ }
+    ensures { λ r. ⌜ IndexedIf (judged most (now (text .entry))) (now (body .exit)) (now (chips .exit)) (now (inner .exit)) ⌝ }
 {
     match check_sheet(text, most) {
         Checked::Refused { number, line } => Checked::Refused { number, line },
         Checked::Fine(counts) => {
-            match find_fault(
-                text,
-                counts,
-                body_ids,
-                body_nexts,
-                body_heads,
-                chip_ids,
-                chip_nexts,
-                chip_heads,
-                inner_ids,
-                inner_nexts,
-                inner_heads,
-            ) {
+            match find_fault(text, counts, body, chips, inner) {
                 Fault::Refused { number, line } => Checked::Refused { number, line },
                 Fault::Fine => Checked::Fine(counts),
             }

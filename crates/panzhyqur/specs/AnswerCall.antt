@@ -1,7 +1,7 @@
 -- The exported answer of `answer`: how many bytes were written, 0 for none.
 use Prim.Native.Nat.{ℕ}
-use Rattle.answer.specs.declared.Answer.{Answer}
-use Rattle.answer.specs.declared.Answer.the-variants.{Short, Written}
+use Rattle.program_answer.specs.declared.Answer.{Answer}
+use Rattle.program_answer.specs.declared.Answer.the-variants.{Short, Written}
 
 abbrev pub answerNumber : Answer → ℕ
 answerNumber Short = 0

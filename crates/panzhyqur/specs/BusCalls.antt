@@ -1,6 +1,6 @@
 -- The exported answer of a call that leaves a bus in the buffers, as numbers.
-use Rattle.gutter.specs.declared.bus.BusPlan.{BusPlan}
-use Rattle.gutter.specs.declared.bus.BusPlan.the-variants.{Refused, Laid}
+use Rattle.routes_gutter.specs.declared.bus.BusPlan.{BusPlan}
+use Rattle.routes_gutter.specs.declared.bus.BusPlan.the-variants.{Refused, Laid}
 use Rattle.panzhyqur.specs.declared.bus_calls.PlanNumbers.{PlanNumbers}
 
 -- Refusal, place, rerouters, bus wires, suppressed ports, groups.

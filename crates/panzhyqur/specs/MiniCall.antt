@@ -1,6 +1,6 @@
 -- The exported answer of `lay_mini_bus`: refusal, place, and the counts.
-use Rattle.gutter.specs.declared.bus.BusPlan.{BusPlan}
-use Rattle.gutter.specs.declared.bus.BusPlan.the-variants.{Refused, Laid}
+use Rattle.routes_gutter.specs.declared.bus.BusPlan.{BusPlan}
+use Rattle.routes_gutter.specs.declared.bus.BusPlan.the-variants.{Refused, Laid}
 use Rattle.panzhyqur.specs.declared.mini_call.MiniNumbers.{MiniNumbers}
 
 abbrev pub miniNumbers : BusPlan → MiniNumbers

@@ -1,6 +1,6 @@
 -- The exported answer of `plan_bus`: refusal, place, pages.
-use Rattle.plan.specs.declared.PagesPlan.{PagesPlan}
-use Rattle.plan.specs.declared.PagesPlan.the-variants.{Refused, Planned}
+use Rattle.board_plan.specs.declared.PagesPlan.{PagesPlan}
+use Rattle.board_plan.specs.declared.PagesPlan.the-variants.{Refused, Planned}
 use Rattle.panzhyqur.specs.declared.plan_call.PagesNumbers.{PagesNumbers}
 
 abbrev pub pagesNumbers : PagesPlan → PagesNumbers

@@ -1,21 +1,30 @@
 // The call for C and Rust: the answer as a number.
-use answer::Answer;
-use answer::calls::answer;
 use base::rows::BusWireRow;
 use base::rows::PageRow;
 use base::rows::PortRow;
 use base::rows::Record;
 use base::rows::RerouterRow;
 use base::rows::WorkRow;
-ghost use mathlib.Core.List.{[], _∷_};
-ghost use Prim.Native.Nat.{_/_};
+use program_answer::Answer;
+use program_answer::calls::answer;
+ghost use mathlib.Core.Path.{_≡_};
 ghost use lib.ListN.{length};
+ghost use Rattle.board_plan.specs.TextPlan.{workRows};
 ghost use Rattle.sheet.specs.Table.{libraryMost};
-ghost use Rattle.answer.specs.Answering.{Answered, answerLent, answerCall};
+ghost use Rattle.program_answer.specs.Answering.{Answered, answerLent, answerCall};
 ghost use Rattle.panzhyqur.specs.AnswerCall.{answerNumber};
 ghost use Rattle.panzhyqur.specs.InNumbers.{InNumbers};
 
 // How many bytes were written, 0 for none: every plan sheet and every E line has some.
+fn bytes_written(answer: Answer) -> usize
+    ensures { λ r. ⌜ r ≡ answerNumber answer ⌝ }
+{
+    match answer {
+        Answer::Short => 0,
+        Answer::Written(n) => n,
+    }
+}
+
 #[no_mangle]
 pub extern "C" fn pz_answer(
     text: &[u8],
@@ -25,20 +34,17 @@ pub extern "C" fn pz_answer(
     ports: &mut [PortRow],
     answers: &mut [PageRow],
     records: &mut [Record],
-    node_facts: &mut [WorkRow],
-    wire_facts: &mut [WorkRow],
+    facts: &mut [WorkRow],
     taps: &mut [WorkRow],
     groups: &mut [WorkRow],
-    page_facts: &mut [WorkRow],
     demands: &mut [WorkRow],
     keys: &mut [WorkRow],
-    spare: &mut [WorkRow],
     marks: &mut [WorkRow],
 ) -> usize
-    ensures { λ r. ⌜ InNumbers answerNumber (Answered (answerCall libraryMost (now (text .entry)) (answerLent (length (now (rerouters .entry))) (length (now («bus_wires» .entry))) (length (now (ports .entry))) (length (now (answers .entry))) (length (now (out .entry))) (length (now (marks .entry)) / 2 ∷ length (now (records .entry)) ∷ length (now («node_facts» .entry)) ∷ length (now («wire_facts» .entry)) ∷ length (now (taps .entry)) ∷ length (now (groups .entry)) ∷ length (now («page_facts» .entry)) ∷ length (now (demands .entry)) ∷ length (now (keys .entry)) ∷ length (now (spare .entry)) ∷ [])))
+    ensures { λ r. ⌜ InNumbers answerNumber (Answered (answerCall libraryMost (now (text .entry)) (answerLent (length (now (rerouters .entry))) (length (now («bus_wires» .entry))) (length (now (ports .entry))) (length (now (answers .entry))) (length (now (out .entry))) (workRows (now (records .entry)) (now (facts .entry)) (now (taps .entry)) (now (groups .entry)) (now (demands .entry)) (now (keys .entry)) (now (marks .entry)))))
         (now (out .entry)) (now (rerouters .entry)) (now («bus_wires» .entry)) (now (ports .entry)) (now (answers .entry)) (now (out .exit)) (now (rerouters .exit)) (now («bus_wires» .exit)) (now (ports .exit)) (now (answers .exit))) r ⌝ }
 {
-    match answer(
+    bytes_written(answer(
         text,
         out,
         rerouters,
@@ -46,17 +52,11 @@ pub extern "C" fn pz_answer(
         ports,
         answers,
         records,
-        node_facts,
-        wire_facts,
+        facts,
         taps,
         groups,
-        page_facts,
         demands,
         keys,
-        spare,
         marks,
-    ) {
-        Answer::Short => 0,
-        Answer::Written(n) => n,
-    }
+    ))
 }

@@ -5,16 +5,16 @@ use base::rows::PortRow;
 use base::rows::Record;
 use base::rows::RerouterRow;
 use base::rows::WorkRow;
-use gutter::bus::BusPlan;
-use gutter::bus::lay_bus;
-use router::route::route;
-ghost use mathlib.Core.List.{[], _∷_};
-ghost use Prim.Native.Nat.{_/_};
+use routes_calls::route::route;
+use routes_gutter::bus::BusPlan;
+use routes_gutter::bus::lay_bus;
+ghost use mathlib.Core.Path.{_≡_};
 ghost use lib.ListN.{length};
-ghost use Rattle.gutter.specs.Calls.{busFits, layCall, BusCalled};
+ghost use Rattle.board_plan.specs.TextPlan.{workRows};
+ghost use Rattle.routes_gutter.specs.Calls.{busFits, layCall, BusCalled};
 ghost use Rattle.panzhyqur.specs.BusCalls.{planNumbers};
 ghost use Rattle.panzhyqur.specs.InNumbers.{InNumbers};
-ghost use Rattle.router.specs.Route.{planFits, routeCall, PlanCalled};
+ghost use Rattle.routes_calls.specs.Route.{planFits, routeCall, PlanCalled};
 
 // A refusal and its place, 0 for none; and how many rerouters, bus wires and suppressed ports stand in the buffers, and how many groups were laid.
 #[repr(C)]
@@ -27,42 +27,10 @@ pub struct PlanNumbers {
     pub groups: usize,
 }
 
-#[no_mangle]
-pub extern "C" fn pz_lay_bus(
-    text: &[u8],
-    rerouters: &mut [RerouterRow],
-    bus_wires: &mut [BusWireRow],
-    ports: &mut [PortRow],
-    records: &mut [Record],
-    node_facts: &mut [WorkRow],
-    wire_facts: &mut [WorkRow],
-    taps: &mut [WorkRow],
-    groups: &mut [WorkRow],
-    page_facts: &mut [WorkRow],
-    demands: &mut [WorkRow],
-    keys: &mut [WorkRow],
-    spare: &mut [WorkRow],
-    marks: &mut [WorkRow],
-) -> PlanNumbers
-    ensures { λ r. ⌜ InNumbers planNumbers (BusCalled (layCall (now (text .entry)) (busFits (length (now (rerouters .entry))) (length (now («bus_wires» .entry))) (length (now (ports .entry))) (length (now (marks .entry)) / 2 ∷ length (now (records .entry)) ∷ length (now («node_facts» .entry)) ∷ length (now («wire_facts» .entry)) ∷ length (now (taps .entry)) ∷ length (now (groups .entry)) ∷ length (now («page_facts» .entry)) ∷ length (now (demands .entry)) ∷ length (now (keys .entry)) ∷ length (now (spare .entry)) ∷ [])))
-        (now (rerouters .entry)) (now («bus_wires» .entry)) (now (ports .entry)) (now (rerouters .exit)) (now («bus_wires» .exit)) (now (ports .exit))) r ⌝ }
+fn in_numbers(plan: BusPlan) -> PlanNumbers
+    ensures { λ r. ⌜ r ≡ planNumbers plan ⌝ }
 {
-    match lay_bus(
-        text,
-        rerouters,
-        bus_wires,
-        ports,
-        records,
-        node_facts,
-        wire_facts,
-        taps,
-        groups,
-        page_facts,
-        demands,
-        keys,
-        spare,
-        marks,
-    ) {
+    match plan {
         BusPlan::Refused { number, place } => PlanNumbers {
             refusal: number,
             place,
@@ -72,19 +40,51 @@ pub extern "C" fn pz_lay_bus(
             groups: 0,
         },
         BusPlan::Laid {
-            rerouters: n,
-            bus_wires: k,
-            ports: u,
-            groups: laid,
+            rerouters,
+            bus_wires,
+            ports,
+            groups,
         } => PlanNumbers {
             refusal: 0,
             place: 0,
-            rerouters: n,
-            bus_wires: k,
-            ports: u,
-            groups: laid,
+            rerouters,
+            bus_wires,
+            ports,
+            groups,
         },
     }
+}
+
+#[no_mangle]
+pub extern "C" fn pz_lay_bus(
+    text: &[u8],
+    rerouters: &mut [RerouterRow],
+    bus_wires: &mut [BusWireRow],
+    ports: &mut [PortRow],
+    records: &mut [Record],
+    facts: &mut [WorkRow],
+    taps: &mut [WorkRow],
+    groups: &mut [WorkRow],
+    demands: &mut [WorkRow],
+    keys: &mut [WorkRow],
+    marks: &mut [WorkRow],
+) -> PlanNumbers
+    ensures { λ r. ⌜ InNumbers planNumbers (BusCalled (layCall (now (text .entry)) (busFits (length (now (rerouters .entry))) (length (now («bus_wires» .entry))) (length (now (ports .entry))) (workRows (now (records .entry)) (now (facts .entry)) (now (taps .entry)) (now (groups .entry)) (now (demands .entry)) (now (keys .entry)) (now (marks .entry)))))
+        (now (rerouters .entry)) (now («bus_wires» .entry)) (now (ports .entry)) (now (rerouters .exit)) (now («bus_wires» .exit)) (now (ports .exit))) r ⌝ }
+{
+    in_numbers(lay_bus(
+        text,
+        rerouters,
+        bus_wires,
+        ports,
+        records,
+        facts,
+        taps,
+        groups,
+        demands,
+        keys,
+        marks,
+    ))
 }
 
 #[no_mangle]
@@ -95,56 +95,28 @@ pub extern "C" fn pz_route(
     ports: &mut [PortRow],
     answers: &mut [PageRow],
     records: &mut [Record],
-    node_facts: &mut [WorkRow],
-    wire_facts: &mut [WorkRow],
+    facts: &mut [WorkRow],
     taps: &mut [WorkRow],
     groups: &mut [WorkRow],
-    page_facts: &mut [WorkRow],
     demands: &mut [WorkRow],
     keys: &mut [WorkRow],
-    spare: &mut [WorkRow],
     marks: &mut [WorkRow],
 ) -> PlanNumbers
-    ensures { λ r. ⌜ InNumbers planNumbers (PlanCalled (routeCall (now (text .entry)) (planFits (length (now (rerouters .entry))) (length (now («bus_wires» .entry))) (length (now (ports .entry))) (length (now (answers .entry))) (length (now (marks .entry)) / 2 ∷ length (now (records .entry)) ∷ length (now («node_facts» .entry)) ∷ length (now («wire_facts» .entry)) ∷ length (now (taps .entry)) ∷ length (now (groups .entry)) ∷ length (now («page_facts» .entry)) ∷ length (now (demands .entry)) ∷ length (now (keys .entry)) ∷ length (now (spare .entry)) ∷ [])))
+    ensures { λ r. ⌜ InNumbers planNumbers (PlanCalled (routeCall (now (text .entry)) (planFits (length (now (rerouters .entry))) (length (now («bus_wires» .entry))) (length (now (ports .entry))) (length (now (answers .entry))) (workRows (now (records .entry)) (now (facts .entry)) (now (taps .entry)) (now (groups .entry)) (now (demands .entry)) (now (keys .entry)) (now (marks .entry)))))
         (now (rerouters .entry)) (now («bus_wires» .entry)) (now (ports .entry)) (now (answers .entry)) (now (rerouters .exit)) (now («bus_wires» .exit)) (now (ports .exit)) (now (answers .exit))) r ⌝ }
 {
-    match route(
+    in_numbers(route(
         text,
         rerouters,
         bus_wires,
         ports,
         answers,
         records,
-        node_facts,
-        wire_facts,
+        facts,
         taps,
         groups,
-        page_facts,
         demands,
         keys,
-        spare,
         marks,
-    ) {
-        BusPlan::Refused { number, place } => PlanNumbers {
-            refusal: number,
-            place,
-            rerouters: 0,
-            bus_wires: 0,
-            ports: 0,
-            groups: 0,
-        },
-        BusPlan::Laid {
-            rerouters: n,
-            bus_wires: k,
-            ports: u,
-            groups: laid,
-        } => PlanNumbers {
-            refusal: 0,
-            place: 0,
-            rerouters: n,
-            bus_wires: k,
-            ports: u,
-            groups: laid,
-        },
-    }
+    ))
 }

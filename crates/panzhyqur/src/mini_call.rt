@@ -4,14 +4,14 @@ use base::rows::PortRow;
 use base::rows::Record;
 use base::rows::RerouterRow;
 use base::rows::WorkRow;
-use gutter::bus::BusPlan;
-use router::mini::BusCounts;
-use router::mini::lay_mini_bus;
-ghost use mathlib.Core.List.{[], _∷_};
-ghost use Prim.Native.Nat.{_/_};
+use routes::bus::BusCounts;
+use routes_calls::mini::lay_mini_bus;
+use routes_gutter::bus::BusPlan;
+ghost use mathlib.Core.Path.{_≡_};
 ghost use lib.ListN.{length};
-ghost use Rattle.gutter.specs.Calls.{busFits, BusCalled};
-ghost use Rattle.router.specs.Mini.{miniCall};
+ghost use Rattle.board_plan.specs.TextPlan.{workRows};
+ghost use Rattle.routes_gutter.specs.Calls.{busFits, BusCalled};
+ghost use Rattle.routes_calls.specs.Mini.{miniCall};
 ghost use Rattle.panzhyqur.specs.MiniCall.{miniNumbers};
 ghost use Rattle.panzhyqur.specs.InNumbers.{InNumbers};
 
@@ -25,45 +25,10 @@ pub struct MiniNumbers {
     pub ports: usize,
 }
 
-#[no_mangle]
-pub extern "C" fn pz_lay_mini_bus(
-    text: &[u8],
-    held: BusCounts,
-    rerouters: &mut [RerouterRow],
-    bus_wires: &mut [BusWireRow],
-    ports: &mut [PortRow],
-    records: &mut [Record],
-    node_facts: &mut [WorkRow],
-    wire_facts: &mut [WorkRow],
-    taps: &mut [WorkRow],
-    groups: &mut [WorkRow],
-    page_facts: &mut [WorkRow],
-    demands: &mut [WorkRow],
-    keys: &mut [WorkRow],
-    spare: &mut [WorkRow],
-    marks: &mut [WorkRow],
-) -> MiniNumbers
-    ensures { λ r. ⌜ InNumbers miniNumbers (BusCalled (miniCall (now (text .entry)) (busFits (length (now (rerouters .entry))) (length (now («bus_wires» .entry))) (length (now (ports .entry))) (length (now (marks .entry)) / 2 ∷ length (now (records .entry)) ∷ length (now («node_facts» .entry)) ∷ length (now («wire_facts» .entry)) ∷ length (now (taps .entry)) ∷ length (now (groups .entry)) ∷ length (now («page_facts» .entry)) ∷ length (now (demands .entry)) ∷ length (now (keys .entry)) ∷ length (now (spare .entry)) ∷ []))
-        (now (rerouters .entry)) (now («bus_wires» .entry)) (now (ports .entry)) held)
-        (now (rerouters .entry)) (now («bus_wires» .entry)) (now (ports .entry)) (now (rerouters .exit)) (now («bus_wires» .exit)) (now (ports .exit))) r ⌝ }
+fn counts_in_numbers(plan: BusPlan) -> MiniNumbers
+    ensures { λ r. ⌜ r ≡ miniNumbers plan ⌝ }
 {
-    match lay_mini_bus(
-        text,
-        held,
-        rerouters,
-        bus_wires,
-        ports,
-        records,
-        node_facts,
-        wire_facts,
-        taps,
-        groups,
-        page_facts,
-        demands,
-        keys,
-        spare,
-        marks,
-    ) {
+    match plan {
         BusPlan::Refused { number, place } => MiniNumbers {
             refusal: number,
             place,
@@ -72,16 +37,51 @@ pub extern "C" fn pz_lay_mini_bus(
             ports: 0,
         },
         BusPlan::Laid {
-            rerouters: n,
-            bus_wires: k,
-            ports: u,
+            rerouters,
+            bus_wires,
+            ports,
             groups: _,
         } => MiniNumbers {
             refusal: 0,
             place: 0,
-            rerouters: n,
-            bus_wires: k,
-            ports: u,
+            rerouters,
+            bus_wires,
+            ports,
         },
     }
+}
+
+#[no_mangle]
+pub extern "C" fn pz_lay_mini_bus(
+    text: &[u8],
+    held: BusCounts,
+    rerouters: &mut [RerouterRow],
+    bus_wires: &mut [BusWireRow],
+    ports: &mut [PortRow],
+    records: &mut [Record],
+    facts: &mut [WorkRow],
+    taps: &mut [WorkRow],
+    groups: &mut [WorkRow],
+    demands: &mut [WorkRow],
+    keys: &mut [WorkRow],
+    marks: &mut [WorkRow],
+) -> MiniNumbers
+    ensures { λ r. ⌜ InNumbers miniNumbers (BusCalled (miniCall (now (text .entry)) (busFits (length (now (rerouters .entry))) (length (now («bus_wires» .entry))) (length (now (ports .entry))) (workRows (now (records .entry)) (now (facts .entry)) (now (taps .entry)) (now (groups .entry)) (now (demands .entry)) (now (keys .entry)) (now (marks .entry))))
+        (now (rerouters .entry)) (now («bus_wires» .entry)) (now (ports .entry)) held)
+        (now (rerouters .entry)) (now («bus_wires» .entry)) (now (ports .entry)) (now (rerouters .exit)) (now («bus_wires» .exit)) (now (ports .exit))) r ⌝ }
+{
+    counts_in_numbers(lay_mini_bus(
+        text,
+        held,
+        rerouters,
+        bus_wires,
+        ports,
+        records,
+        facts,
+        taps,
+        groups,
+        demands,
+        keys,
+        marks,
+    ))
 }

@@ -2,14 +2,14 @@
 use base::rows::PageRow;
 use base::rows::Record;
 use base::rows::WorkRow;
-use plan::PagesPlan;
-use plan::plan_bus;
+use board_plan::PagesPlan;
+use board_plan::plan_bus;
 ghost use mathlib.Core.Path.{_≡_};
-ghost use mathlib.Core.List.{[], _∷_};
 ghost use lib.ListN.{length};
 ghost use Rattle.sheet.specs.Table.{libraryMost};
 ghost use Rattle.board.specs.Planning.{planning, fitsPages, pagesAfter};
-ghost use Rattle.plan.specs.PagesPlan.{planCall, PagesPlanned};
+ghost use Rattle.board_plan.specs.TextPlan.{workRows};
+ghost use Rattle.board_plan.specs.PagesPlan.{planCall, PagesPlanned};
 ghost use Rattle.panzhyqur.specs.PlanCall.{pagesNumbers};
 ghost use Rattle.panzhyqur.specs.InNumbers.{InNumbers};
 
@@ -21,36 +21,10 @@ pub struct PagesNumbers {
     pub pages: usize,
 }
 
-#[no_mangle]
-pub extern "C" fn pz_plan_bus(
-    text: &[u8],
-    answers: &mut [PageRow],
-    records: &mut [Record],
-    node_facts: &mut [WorkRow],
-    wire_facts: &mut [WorkRow],
-    taps: &mut [WorkRow],
-    groups: &mut [WorkRow],
-    page_facts: &mut [WorkRow],
-    demands: &mut [WorkRow],
-    keys: &mut [WorkRow],
-    spare: &mut [WorkRow],
-) -> PagesNumbers
-    ensures { λ r. ⌜ InNumbers pagesNumbers (PagesPlanned (planCall (now (text .entry)) (length (now (answers .entry))) (length (now (records .entry)) ∷ length (now («node_facts» .entry)) ∷ length (now («wire_facts» .entry)) ∷ length (now (taps .entry)) ∷ length (now (groups .entry)) ∷ length (now («page_facts» .entry)) ∷ length (now (demands .entry)) ∷ length (now (keys .entry)) ∷ length (now (spare .entry)) ∷ []))
-        (now (answers .entry)) (now (answers .exit))) r ⌝ }
+fn pages_in_numbers(plan: PagesPlan) -> PagesNumbers
+    ensures { λ r. ⌜ r ≡ pagesNumbers plan ⌝ }
 {
-    match plan_bus(
-        text,
-        answers,
-        records,
-        node_facts,
-        wire_facts,
-        taps,
-        groups,
-        page_facts,
-        demands,
-        keys,
-        spare,
-    ) {
+    match plan {
         PagesPlan::Refused { number, place } => PagesNumbers {
             refusal: number,
             place,
@@ -62,4 +36,32 @@ pub extern "C" fn pz_plan_bus(
             pages,
         },
     }
+}
+
+#[no_mangle]
+pub extern "C" fn pz_plan_bus(
+    text: &[u8],
+    answers: &mut [PageRow],
+    records: &mut [Record],
+    facts: &mut [WorkRow],
+    taps: &mut [WorkRow],
+    groups: &mut [WorkRow],
+    demands: &mut [WorkRow],
+    keys: &mut [WorkRow],
+    marks: &mut [WorkRow],
+) -> PagesNumbers
+    ensures { λ r. ⌜ InNumbers pagesNumbers (PagesPlanned (planCall (now (text .entry)) (length (now (answers .entry))) (workRows (now (records .entry)) (now (facts .entry)) (now (taps .entry)) (now (groups .entry)) (now (demands .entry)) (now (keys .entry)) (now (marks .entry))))
+        (now (answers .entry)) (now (answers .exit))) r ⌝ }
+{
+    pages_in_numbers(plan_bus(
+        text,
+        answers,
+        records,
+        facts,
+        taps,
+        groups,
+        demands,
+        keys,
+        marks,
+    ))
 }

@@ -12,7 +12,7 @@ use Rattle.board.specs.Board.{Board, hasGutter, minYOf}
 use Rattle.board.specs.Accepted.{Accepted}
 use Rattle.board.specs.Demands.{PageLanes, planned, planLanes}
 use Rattle.base.proofs.Lists.{never, clash, to-keep}
-use Rattle.routes.specs.Bus.{Bus, Brick, BusWire, End, port, rerouter, Carries, onward, delivery, partCorner}
+use Rattle.routes.specs.Bus.{Bus, Rerouter, BusWire, End, port, rerouter, Carries, onward, delivery, partCorner}
 use Rattle.routes.specs.Plan.{isDelivery, busOf, finished}
 use Rattle.routes.specs.Corners.{corners}
 use Rattle.routes.specs.Demand3.{Demand3, Numbered, PortOrLower, Bounded, WayBack, atPort, through, arriving, arrivesAt}
@@ -28,7 +28,7 @@ other-load : {k d : ℕ} {c : Carries} → c ≡ delivery k d → c ≡ onward �
 other-load h k = never cc
 
 module _ (b : Board) (ps : List PageLanes) (bus : Bus) (made : Made b ps bus) where
-  fed : (w : BusWire) (n : ℕ) → w .target ≡ rerouter n → WireOf b ps bus w → PortOrLower (w .source) n × (n < length (bus .bricks))
+  fed : (w : BusWire) (n : ℕ) → w .target ≡ rerouter n → WireOf b ps bus w → PortOrLower (w .source) n × (n < length (bus .rerouters))
   fed w n e (feeds m t c l h) = let q : m ≡ n = cc in rw (← q) (l, h)
   fed w n e (sends k d c s) = absurd (other-end (s .delivered .toTarget) e)
 
@@ -36,7 +36,7 @@ module _ (b : Board) (ps : List PageLanes) (bus : Bus) (made : Made b ps bus) wh
   named w n p e (feeds m t c l h) = absurd (other-end e t)
   named w n p e (sends k d c s) = rw c
 
-  left : (w : BusWire) → isDelivery w ≡ true → WireOf b ps bus w → (m : ℕ) × (m < length (bus .bricks)) × (w .source ≡ rerouter m)
+  left : (w : BusWire) → isDelivery w ≡ true → WireOf b ps bus w → (m : ℕ) × (m < length (bus .rerouters)) × (w .source ≡ rerouter m)
   left w e (feeds m t c l h) = clash e (rw c)
   left w e (sends k d c s) = (s .number, numbered-below (s .numbered), s .ends)
 
@@ -45,18 +45,18 @@ module _ (b : Board) (ps : List PageLanes) (bus : Bus) (made : Made b ps bus) wh
   sent w k d e (sends j f c s) = let p : j ≡ k = cc in let q : f ≡ d = cc in rw (← p, ← q) s
 
   -- What is said of the rerouter that a delivery leaves.
-  far : (w : BusWire) (k d m : ℕ) (j : Brick) → w .source ≡ rerouter m → Numbered m j (bus .bricks) → Sent b ps bus w k d → Far b ps j k d
+  far : (w : BusWire) (k d m : ℕ) (j : Rerouter) → w .source ≡ rerouter m → Numbered m j (bus .rerouters) → Sent b ps bus w k d → Far b ps j k d
   far w k d m j e n s =
       let p : rerouter (s .number) ≡ rerouter m = sym (s .ends) ∙ e in
       let q : s .number ≡ m = cc in
-      let r : Numbered m (s .brick) (bus .bricks) = rw (← q) (s .numbered) in
-      rw (← (numbered-one (bus .bricks) r n)) (s .far)
+      let r : Numbered m (s .standing) (bus .rerouters) = rw (← q) (s .numbered) in
+      rw (← (numbered-one (bus .rerouters) r n)) (s .far)
 
-  one : (k d : ℕ) (j : Brick) → j .part ≡ partCorner → Far b ps j k d → d ≡ 1
+  one : (k d : ℕ) (j : Rerouter) → j .part ≡ partCorner → Far b ps j k d → d ≡ 1
   one k d j e (cornered p q) = q
   one k d j e (within p q) = absurd (p e)
 
-  bounded : (k d : ℕ) (j : Brick) → (j .part ≡ partCorner → ⊥) → Far b ps j k d → Bounded b k d
+  bounded : (k d : ℕ) (j : Rerouter) → (j .part ≡ partCorner → ⊥) → Far b ps j k d → Bounded b k d
   bounded k d j e (cornered p q) = absurd (e p)
   bounded k d j e (within p q) = q
 

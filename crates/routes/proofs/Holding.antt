@@ -1,4 +1,4 @@
--- The buffers hold a bus: one brick and one bus wire more.
+-- The buffers hold a bus: one rerouter and one bus wire more.
 use Prim.Native.Nat.{ℕ, zero, suc, _+_, _<_, _≤_}
 use mathlib.Core.Path.{_≡_, refl, ap, sym, subst, _∙_}
 use mathlib.Core.List.{List, [], _∷_}
@@ -8,49 +8,49 @@ use Rattle.sheet.specs.Table.{MISSING}
 use Rattle.board.specs.Board.{Board, targetNode, targetPort}
 use Rattle.routes.specs.Bus
 use Rattle.routes.specs.Bus.{Bus, BusWire, port, rerouter, onward, delivery, place, deliver}
-use Rattle.routes.specs.Buffers.{outward, brickRow, wireRow}
+use Rattle.routes.specs.Buffers.{outward, rerouterRow, wireRow}
 use Rattle.routes.specs.Tables.{writtenOver}
 use Rattle.routes.specs.declared.bus.End.{End}
-use Rattle.routes.specs.declared.bus.End.the-variants.{Port, Rerouter}
+use Rattle.routes.specs.declared.bus.End.the-variants.{Port, Rerouter as AtRerouter}
 use Rattle.routes.specs.declared.bus.Feed.{Feed}
-use Rattle.routes.specs.declared.bus.Brick.{Brick}
+use Rattle.routes.specs.declared.bus.Rerouter.{Rerouter}
 use Rattle.routes.specs.declared.bus.BusCount.{BusCount}
 use Rattle.routes.specs.declared.bus.Placed.{Placed}
-use Rattle.routes.specs.Holding.{endNode, endPort, endOf, feedOf, brickOf, BusHeld, Placing, Delivering}
+use Rattle.routes.specs.Holding.{endNode, endPort, endOf, feedOf, rerouterOf, BusHeld, Placing, Delivering}
 
 onward-row : (e : End) (n : ℕ) → wireRow (record { source = endOf e; target = rerouter n; carries = onward }) ≡ endNode e ∷ endPort e ∷ n ∷ MISSING ∷ MISSING ∷ MISSING ∷ []
 onward-row (Port m p) n = refl
-onward-row (Rerouter k) n = refl
+onward-row (AtRerouter k) n = refl
 
 delivery-row : (e : End) (n p w d : ℕ) → wireRow (record { source = endOf e; target = port n p; carries = delivery w d }) ≡ endNode e ∷ endPort e ∷ n ∷ p ∷ w ∷ d ∷ []
 delivery-row (Port m q) n p w d = refl
-delivery-row (Rerouter k) n p w d = refl
+delivery-row (AtRerouter k) n p w d = refl
 
--- `push_bus_node` wrote the brick's row and the bus wire's, whose numbers its calls gave.
-module _ (rerouters wires : List (List ℕ)) (count : BusCount) (feed : Feed) (k : Brick) (x y z en ep : ℕ)
+-- `push_bus_node` wrote the rerouter's row and the bus wire's, whose numbers its calls gave.
+module _ (rerouters wires : List (List ℕ)) (count : BusCount) (feed : Feed) (k : Rerouter) (x y z en ep : ℕ)
     (ex : x ≡ outward (k .x)) (ey : y ≡ outward (k .y)) (ez : z ≡ outward (k .z)) (een : en ≡ endNode (feed .end)) (eep : ep ≡ endPort (feed .end)) where
   pub placing : Placing rerouters wires count feed k
-      (record { count = record { rerouters = count .rerouters + 1; wires = count .wires + 1 }; feed = record { end = Rerouter (record { 0 = count .rerouters }); depth = feed .depth + 1 } })
+      (record { count = record { rerouters = count .rerouters + 1; wires = count .wires + 1 }; feed = record { end = AtRerouter (record { 0 = count .rerouters }); depth = feed .depth + 1 } })
       (set rerouters (count .rerouters) (x ∷ y ∷ z ∷ k .rotation ∷ k .role ∷ k .part ∷ k .colour .0 ∷ k .page ∷ k .lane ∷ k .row ∷ []))
       (set wires (count .wires) (en ∷ ep ∷ count .rerouters ∷ MISSING ∷ MISSING ∷ MISSING ∷ []))
   placing =
       record {
         row = row;
         wireCount = add-one (count .wires);
-        brickCount = add-one (count .rerouters);
+        rerouterCount = add-one (count .rerouters);
         gives = λ i. record { end = rerouter (count .rerouters); depth = add-one (feed .depth) i };
         held = λ bus old oldWires h.
             record {
-              brickRows = row ∙ (λ i. set (h .brickRows i) (h .brickCount i) (brickRow (brickOf k)));
-              wireRows = (λ i. set (h .wireRows i) (h .wireCount i) (een i ∷ eep i ∷ h .brickCount i ∷ MISSING ∷ MISSING ∷ MISSING ∷ []))
-                  ∙ ap (set (writtenOver wireRow (bus .wires) oldWires) (length (bus .wires))) (sym (onward-row (feed .end) (length (bus .bricks))));
-              brickCount = add-one (count .rerouters) ∙ ap suc (h .brickCount);
+              rerouterRows = row ∙ (λ i. set (h .rerouterRows i) (h .rerouterCount i) (rerouterRow (rerouterOf k)));
+              wireRows = (λ i. set (h .wireRows i) (h .wireCount i) (een i ∷ eep i ∷ h .rerouterCount i ∷ MISSING ∷ MISSING ∷ MISSING ∷ []))
+                  ∙ ap (set (writtenOver wireRow (bus .wires) oldWires) (length (bus .wires))) (sym (onward-row (feed .end) (length (bus .rerouters))));
+              rerouterCount = add-one (count .rerouters) ∙ ap suc (h .rerouterCount);
               wireCount = add-one (count .wires) ∙ ap suc (h .wireCount);
             };
       }
     where
       row : set rerouters (count .rerouters) (x ∷ y ∷ z ∷ k .rotation ∷ k .role ∷ k .part ∷ k .colour .0 ∷ k .page ∷ k .lane ∷ k .row ∷ [])
-          ≡ set rerouters (count .rerouters) (brickRow (brickOf k))
+          ≡ set rerouters (count .rerouters) (rerouterRow (rerouterOf k))
       row = λ i. set rerouters (count .rerouters) (ex i ∷ ey i ∷ ez i ∷ k .rotation ∷ k .role ∷ k .part ∷ k .colour .0 ∷ k .page ∷ k .lane ∷ k .row ∷ [])
 
 -- `push_delivery` wrote the bus wire's row.
@@ -59,14 +59,14 @@ pub delivering : (wires : List (List ℕ)) (count : BusCount) (feed : Feed) (n p
     (set wires (count .wires) (en ∷ ep ∷ n ∷ p ∷ w ∷ feed .depth ∷ []))
 delivering wires count feed n p w en ep een eep =
     record {
-      brickCount = refl;
+      rerouterCount = refl;
       wireCount = add-one (count .wires);
       held = λ b bus old oldWires rerouters en′ ep′ h.
           record {
-            brickRows = h .brickRows;
+            rerouterRows = h .rerouterRows;
             wireRows = (λ i. set (h .wireRows i) (h .wireCount i) (een i ∷ eep i ∷ en′ i ∷ ep′ i ∷ w ∷ feed .depth ∷ []))
                 ∙ ap (set (writtenOver wireRow (bus .wires) oldWires) (length (bus .wires))) (sym (delivery-row (feed .end) (targetNode b w) (targetPort b w) w (feed .depth)));
-            brickCount = h .brickCount;
+            rerouterCount = h .rerouterCount;
             wireCount = add-one (count .wires) ∙ ap suc (h .wireCount);
           };
     }

@@ -16,8 +16,8 @@ use Rattle.base.proofs.Lists.{clash, and-left, and-right, or-left, or-right, no
 use Rattle.board.proofs.Taps.{wireIs}
 use Rattle.routes.specs.Stops.{near}
 use Rattle.routes.specs.Levels.{Stop, own, unclaimed, claimNear}
-use Rattle.routes.specs.Bus.{Bus, Brick, Feed, rerouter, place, placedFeed, deliver, partHead, partLink, partTap, partCorner, emptyBus}
-use Rattle.routes.specs.Rerouters.{columnFree, brickNear}
+use Rattle.routes.specs.Bus.{Bus, Rerouter, Feed, rerouter, place, placedFeed, deliver, partHead, partLink, partTap, partCorner, emptyBus}
+use Rattle.routes.specs.Rerouters.{columnFree, rerouterNear}
 use Rattle.routes.specs.Plan.{deliveries}
 use Rattle.routes.specs.Demand3.{Numbered, here, PortOrLower, WayBack, through, timesDelivered, names, inGutter}
 use Rattle.routes.proofs.Made.{Made, nothing, placing, serving, Stood, aside, inColumn, Touches, InLane, Served, Grown, place-grows, back-grows, lower-grows, onwardWire, deliveryWire}
@@ -26,17 +26,17 @@ use Rattle.routes.proofs.Claims.{still-claimed, claimed-more, near-turn
 -- A feed of a group's port, within so many rerouters of it.
 pub record Live (b : Board) (bus : Bus) (f : Feed) (g bound : ℕ) : Type 0 where
   pub back : WayBack (bus .wires) (f .end) (f .depth) (sourceNode b g) (sourcePort b g)
-  pub low : PortOrLower (f .end) (length (bus .bricks))
+  pub low : PortOrLower (f .end) (length (bus .rerouters))
   pub short : f .depth ≤ bound
 
 -- One that ends in a rerouter, as a delivery's has to.
 pub record Stands (b : Board) (bus : Bus) (f : Feed) (g bound : ℕ) : Type 0 where
   pub live : Live b bus f g bound
   pub number : ℕ
-  pub brick : Brick
+  pub standing : Rerouter
   pub ends : f .end ≡ rerouter number
-  pub numbered : Numbered number brick (bus .bricks)
-  pub noCorner : brick .part ≡ partCorner → ⊥
+  pub numbered : Numbered number standing (bus .rerouters)
+  pub noCorner : standing .part ≡ partCorner → ⊥
 
 module _ (b : Board) where
   pub live-grows : {bus more : Bus} {f : Feed} {g m n : ℕ} → Grown bus more → m ≤ n → Live b bus f g m → Live b more f g n
@@ -52,13 +52,13 @@ module _ (b : Board) where
       record {
         live = live-grows g h (r .live);
         number = r .number;
-        brick = r .brick;
+        standing = r .standing;
         ends = r .ends;
-        numbered = g .bricksIn (r .number) (r .brick) (r .numbered);
+        numbered = g .reroutersIn (r .number) (r .standing) (r .numbered);
         noCorner = r .noCorner;
       }
 
-  pub live-placed : {bus : Bus} {f : Feed} {g m n : ℕ} (k : Brick) → m < n → Live b bus f g m → Live b (place bus f k) (placedFeed bus f) g n
+  pub live-placed : {bus : Bus} {f : Feed} {g m n : ℕ} (k : Rerouter) → m < n → Live b bus f g m → Live b (place bus f k) (placedFeed bus f) g n
   live-placed {bus} {f} k h r =
       record {
         back = through (onwardWire bus f) (List·Memᴰ·head refl) refl (back-grows (place-grows bus f k .wiresIn) (r .back));
@@ -66,14 +66,14 @@ module _ (b : Board) where
         short = omega (arith, r .short);
       }
 
-  pub stands-placed : {bus : Bus} {f : Feed} {g m n : ℕ} (k : Brick) → (k .part ≡ partCorner → ⊥) → m < n → Live b bus f g m
+  pub stands-placed : {bus : Bus} {f : Feed} {g m n : ℕ} (k : Rerouter) → (k .part ≡ partCorner → ⊥) → m < n → Live b bus f g m
       → Stands b (place bus f k) (placedFeed bus f) g n
-  stands-placed {bus} k c h r = record { live = live-placed k h r; number = length (bus .bricks); brick = k; ends = refl; numbered = here refl; noCorner = c }
+  stands-placed {bus} k c h r = record { live = live-placed k h r; number = length (bus .rerouters); standing = k; ends = refl; numbered = here refl; noCorner = c }
 
-abbrev pub isChain : Brick → Bool
+abbrev pub isChain : Rerouter → Bool
 isChain k = eqb (k .part) partHead || eqb (k .part) partLink
 
-abbrev pub isTap : Brick → Bool
+abbrev pub isTap : Rerouter → Bool
 isTap k = eqb (k .part) partTap
 
 module _ (b : Board) (ps : List PageLanes) (stops : List Stop) where
@@ -82,10 +82,10 @@ module _ (b : Board) (ps : List PageLanes) (stops : List Stop) where
     pub made : Made b ps bus
     pub named : (k : ℕ) → any (wireIs k) l ≡ false → timesDelivered (bus .wires) k ≡ 0
     -- Every tap stands on the claim of a stop, heads and links on none.
-    pub tapsOn : (j : Brick) → List·Memᴰ j (bus .bricks) → isTap j ≡ true → (x : ℕ) → near x (j .x) ≡ true → unclaimed old (j .page) (j .lane) x ≡ false
-    pub chainsOff : (j : Brick) → List·Memᴰ j (bus .bricks) → isChain j ≡ true → unclaimed stops (j .page) (j .lane) (j .x) ≡ true
+    pub tapsOn : (j : Rerouter) → List·Memᴰ j (bus .rerouters) → isTap j ≡ true → (x : ℕ) → near x (j .x) ≡ true → unclaimed old (j .page) (j .lane) x ≡ false
+    pub chainsOff : (j : Rerouter) → List·Memᴰ j (bus .rerouters) → isChain j ≡ true → unclaimed stops (j .page) (j .lane) (j .x) ≡ true
     -- A tap pays for five rerouters if it is delivered, and else for two.
-    pub paid : length (bus .bricks) ≤ 3 * deliveries bus + 2 * length l + c
+    pub paid : length (bus .rerouters) ≤ 3 * deliveries bus + 2 * length l + c
 
   pub kept-empty : Kept [] [] 0 emptyBus
   unfolding timesDelivered
@@ -139,7 +139,7 @@ module _ (b : Board) (ps : List PageLanes) (stops : List Stop) where
           ∙ r .named k (or-right (wireIs k t) (any (wireIs k) l) h)
 
   -- A rerouter placed, in general.
-  kept-place : {old : List Stop} {l : List Tap} {c : ℕ} {bus : Bus} (new : List Stop) (f : Feed) (k : Brick) → PortOrLower (f .end) (length (bus .bricks))
+  kept-place : {old : List Stop} {l : List Tap} {c : ℕ} {bus : Bus} (new : List Stop) (f : Feed) (k : Rerouter) → PortOrLower (f .end) (length (bus .rerouters))
       → Stood b ps bus k
       → (isTap k ≡ true → (x : ℕ) → near x (k .x) ≡ true → unclaimed new (k .page) (k .lane) x ≡ false)
       → (isChain k ≡ true → unclaimed stops (k .page) (k .lane) (k .x) ≡ true)
@@ -155,24 +155,24 @@ module _ (b : Board) (ps : List PageLanes) (stops : List Stop) where
         paid = omega (arith, r .paid);
       }
     where
-      onTap : (j : Brick) → (j ≡ k) ⊎ List·Memᴰ j (bus .bricks) → isTap j ≡ true → (x : ℕ) → near x (j .x) ≡ true → unclaimed new (j .page) (j .lane) x ≡ false
+      onTap : (j : Rerouter) → (j ≡ k) ⊎ List·Memᴰ j (bus .rerouters) → isTap j ≡ true → (x : ℕ) → near x (j .x) ≡ true → unclaimed new (j .page) (j .lane) x ≡ false
       onTap j (inl e) = rw e taps
       onTap j (inr m) = λ t x n. stays (j .page) (j .lane) x (r .tapsOn j m t x n)
 
-      onChain : (j : Brick) → (j ≡ k) ⊎ List·Memᴰ j (bus .bricks) → isChain j ≡ true → unclaimed stops (j .page) (j .lane) (j .x) ≡ true
+      onChain : (j : Rerouter) → (j ≡ k) ⊎ List·Memᴰ j (bus .rerouters) → isChain j ≡ true → unclaimed stops (j .page) (j .lane) (j .x) ≡ true
       onChain j (inl e) = rw e chains
       onChain j (inr m) = r .chainsOff j m
 
   -- Beside a row.
-  pub kept-beside : {old : List Stop} {l : List Tap} {c : ℕ} {bus : Bus} (f : Feed) (k : Brick) → PortOrLower (f .end) (length (bus .bricks))
+  pub kept-beside : {old : List Stop} {l : List Tap} {c : ℕ} {bus : Bus} (f : Feed) (k : Rerouter) → PortOrLower (f .end) (length (bus .rerouters))
       → inGutter k ≡ false → Kept old l c bus → Kept old l (suc c) (place bus f k)
   kept-beside {old} f k low g r =
       kept-place old f k low (aside g) (λ t. clash t (or-right (isChain k) (isTap k) g)) (λ t. clash t (or-left (isChain k) (isTap k) g)) (λ p lane x h. h) r
 
   -- What of a lane is near: heads and links, or taps on their claims.
   touching : {old : List Stop} {l : List Tap} {c : ℕ} {bus : Bus} (p lane x : ℕ) → Kept old l c bus → unclaimed old p lane x ≡ true
-      → ((j : Brick) → List·Memᴰ j (bus .bricks) → isChain j ≡ true → Touches p lane x j → ⊥)
-      → (j : Brick) → List·Memᴰ j (bus .bricks) → inGutter j ≡ true → Touches p lane x j → ⊥
+      → ((j : Rerouter) → List·Memᴰ j (bus .rerouters) → isChain j ≡ true → Touches p lane x j → ⊥)
+      → (j : Rerouter) → List·Memᴰ j (bus .rerouters) → inGutter j ≡ true → Touches p lane x j → ⊥
   touching {old} p lane x r h chains j m g t = go (isChain j) refl
     where
       go : (s : Bool) → isChain j ≡ s → ⊥
@@ -180,7 +180,7 @@ module _ (b : Board) (ps : List PageLanes) (stops : List Stop) where
       go false e = clash h (let u = r .tapsOn j m (rw e at g) x (t .close) in rw (t .page, t .column) at u)
 
   -- A head or link, where the column is free.
-  pub kept-chain : {old : List Stop} {l : List Tap} {c : ℕ} {bus : Bus} (f : Feed) (k : Brick) → PortOrLower (f .end) (length (bus .bricks)) → InLane b ps k
+  pub kept-chain : {old : List Stop} {l : List Tap} {c : ℕ} {bus : Bus} (f : Feed) (k : Rerouter) → PortOrLower (f .end) (length (bus .rerouters)) → InLane b ps k
       → isTap k ≡ false
       → columnFree stops bus (k .page) (k .lane) (k .x) ≡ true
       → ((p lane x : ℕ) → unclaimed stops p lane x ≡ true → unclaimed old p lane x ≡ true)
@@ -192,21 +192,21 @@ module _ (b : Board) (ps : List PageLanes) (stops : List Stop) where
       (λ e. unclaimed-all) (λ p lane x h. h) r
     where
       others : Bool
-      others = any (brickNear (k .page) (k .lane) (k .x)) (bus .bricks)
+      others = any (rerouterNear (k .page) (k .lane) (k .x)) (bus .rerouters)
 
       unclaimed-all : unclaimed stops (k .page) (k .lane) (k .x) ≡ true
       unclaimed-all = and-left (unclaimed stops (k .page) (k .lane) (k .x)) (not others) free
 
-      none-near : (j : Brick) → List·Memᴰ j (bus .bricks) → isChain j ≡ true → Touches (k .page) (k .lane) (k .x) j → ⊥
+      none-near : (j : Rerouter) → List·Memᴰ j (bus .rerouters) → isChain j ≡ true → Touches (k .page) (k .lane) (k .x) j → ⊥
       none-near j m c u =
-          let off = none-of (brickNear (k .page) (k .lane) (k .x)) (not-true others (and-right (unclaimed stops (k .page) (k .lane) (k .x)) (not others) free)) m in
+          let off = none-of (rerouterNear (k .page) (k .lane) (k .x)) (not-true others (and-right (unclaimed stops (k .page) (k .lane) (k .x)) (not others) free)) m in
           clash (rw (eq-eqb (j .page) (k .page) (u .page), eq-eqb (j .lane) (k .lane) (u .column), c) (u .close)) off
 
   claim-near : (p lane x y : ℕ) (s : Stop) → s .page ≡ p → s .lane ≡ lane → s .level ≡ own y → near x y ≡ true → claimNear p lane x s ≡ true
   claim-near p lane x y s e f g h = rw (eq-eqb (s .page) p e, eq-eqb (s .lane) lane f, g) h
 
   -- The tap of a stop with a level of its own.
-  pub kept-tap : {old : List Stop} {l : List Tap} {c : ℕ} {bus : Bus} (s : Stop) (f : Feed) (k : Brick) → PortOrLower (f .end) (length (bus .bricks))
+  pub kept-tap : {old : List Stop} {l : List Tap} {c : ℕ} {bus : Bus} (s : Stop) (f : Feed) (k : Rerouter) → PortOrLower (f .end) (length (bus .rerouters))
       → InLane b ps k → isChain k ≡ false
       → s .page ≡ k .page → s .lane ≡ k .lane → s .level ≡ own (k .x)
       → unclaimed old (k .page) (k .lane) (k .x) ≡ true
@@ -220,7 +220,7 @@ module _ (b : Board) (ps : List PageLanes) (stops : List Stop) where
       on x n true e = clash (claim-near (k .page) (k .lane) x (k .x) s page column level n) (claimed-more s old (k .page) (k .lane) x e .0)
       on x n false e = e
 
-      chains : (j : Brick) → List·Memᴰ j (bus .bricks) → isChain j ≡ true → Touches (k .page) (k .lane) (k .x) j → ⊥
+      chains : (j : Rerouter) → List·Memᴰ j (bus .rerouters) → isChain j ≡ true → Touches (k .page) (k .lane) (k .x) j → ⊥
       chains j m h u =
           clash (claim-near (j .page) (j .lane) (j .x) (k .x) s (page ∙ sym (u .page)) (column ∙ sym (u .column)) level (near-turned (k .x) (j .x) (u .close)))
           (claimed-more s old (j .page) (j .lane) (j .x) (before (j .page) (j .lane) (j .x) (r .chainsOff j m h)) .0)

@@ -15,7 +15,7 @@ use Rattle.board.specs.Demands.{PageLanes, noLanes, laneY, BUS_BAND_GUTTER, LAN
 use Rattle.board.proofs.LanesFit.{heights-apart}
 use Rattle.base.proofs.Lists.{clash, both, keep-yes, keep-no}
 use Rattle.routes.specs.Stops.{near}
-use Rattle.routes.specs.Bus.{Bus, Brick, BusWire, Feed, End, port, rerouter, onward, delivery, emptyBus, place, deliver, partCorner}
+use Rattle.routes.specs.Bus.{Bus, Rerouter, BusWire, Feed, End, port, rerouter, onward, delivery, emptyBus, place, deliver, partCorner}
 use Rattle.routes.specs.Plan.{deliveries}
 use Rattle.routes.specs.Demand3.{Numbered, here, there, arrivesAt, arriving, PortOrLower, WayBack, atPort, through, names, timesDelivered, inGutter, Overlap, Delivered, Bounded}
 
@@ -28,19 +28,19 @@ pub lower-grows : (e : End) (m n : ℕ) → m ≤ n → PortOrLower e m → Port
 lower-grows (port a p) m n h k = tt
 lower-grows (rerouter a) m n h k = omega arith
 
-pub numbered-cases : {n : ℕ} {k j : Brick} {l : List Brick} → Numbered n k (j ∷ l) → ((n ≡ length l) × (k ≡ j)) ⊎ Numbered n k l
+pub numbered-cases : {n : ℕ} {k j : Rerouter} {l : List Rerouter} → Numbered n k (j ∷ l) → ((n ≡ length l) × (k ≡ j)) ⊎ Numbered n k l
 numbered-cases (here e) = inl (e, refl)
 numbered-cases (there m) = inr m
 
-pub numbered-below : {n : ℕ} {k : Brick} {l : List Brick} → Numbered n k l → n < length l
+pub numbered-below : {n : ℕ} {k : Rerouter} {l : List Rerouter} → Numbered n k l → n < length l
 numbered-below (here e) = omega arith
 numbered-below (there m) = let h = numbered-below m in omega arith
 
-numbered-in : {n : ℕ} {k : Brick} {l : List Brick} → Numbered n k l → List·Memᴰ k l
+numbered-in : {n : ℕ} {k : Rerouter} {l : List Rerouter} → Numbered n k l → List·Memᴰ k l
 numbered-in (here e) = List·Memᴰ·head refl
 numbered-in (there m) = List·Memᴰ·tail (numbered-in m)
 
-pub numbered-one : {n : ℕ} {j k : Brick} (l : List Brick) → Numbered n j l → Numbered n k l → j ≡ k
+pub numbered-one : {n : ℕ} {j k : Rerouter} (l : List Rerouter) → Numbered n j l → Numbered n k l → j ≡ k
 numbered-one [] q r = absurd (let h = numbered-below q in omega arith)
 numbered-one {n} {j} {k} (x ∷ l) q r = go (numbered-cases q) (numbered-cases r) (numbered-one l)
   where
@@ -52,42 +52,42 @@ numbered-one {n} {j} {k} (x ∷ l) q r = go (numbered-cases q) (numbered-cases r
 
 -- The wires that the two operations write.
 abbrev pub onwardWire : Bus → Feed → BusWire
-onwardWire bus f = record { source = f .end; target = rerouter (length (bus .bricks)); carries = onward }
+onwardWire bus f = record { source = f .end; target = rerouter (length (bus .rerouters)); carries = onward }
 
 abbrev pub deliveryWire : Board → Feed → ℕ → BusWire
 deliveryWire b f w = record { source = f .end; target = port (targetNode b w) (targetPort b w); carries = delivery w (f .depth) }
 
 pub record Grown (bus more : Bus) : Type 0 where
   pub wiresIn : (w : BusWire) → List·Memᴰ w (bus .wires) → List·Memᴰ w (more .wires)
-  pub bricksIn : (n : ℕ) (k : Brick) → Numbered n k (bus .bricks) → Numbered n k (more .bricks)
-  pub longer : length (bus .bricks) ≤ length (more .bricks)
+  pub reroutersIn : (n : ℕ) (k : Rerouter) → Numbered n k (bus .rerouters) → Numbered n k (more .rerouters)
+  pub longer : length (bus .rerouters) ≤ length (more .rerouters)
 
-pub place-grows : (bus : Bus) (f : Feed) (k : Brick) → Grown bus (place bus f k)
-place-grows bus f k = record { wiresIn = λ w m. List·Memᴰ·tail m; bricksIn = λ n j m. there m; longer = omega arith }
+pub place-grows : (bus : Bus) (f : Feed) (k : Rerouter) → Grown bus (place bus f k)
+place-grows bus f k = record { wiresIn = λ w m. List·Memᴰ·tail m; reroutersIn = λ n j m. there m; longer = omega arith }
 
 pub deliver-grows : (b : Board) (bus : Bus) (f : Feed) (w : ℕ) → Grown bus (deliver b bus f w)
-deliver-grows b bus f w = record { wiresIn = λ w m. List·Memᴰ·tail m; bricksIn = λ n j m. m; longer = omega arith }
+deliver-grows b bus f w = record { wiresIn = λ w m. List·Memᴰ·tail m; reroutersIn = λ n j m. m; longer = omega arith }
 
 -- A rerouter in a lane's column near x.
-pub record Touches (p lane x : ℕ) (j : Brick) : Type 0 where
+pub record Touches (p lane x : ℕ) (j : Rerouter) : Type 0 where
   pub page : j .page ≡ p
   pub column : j .lane ≡ lane
   pub close : near x (j .x) ≡ true
 
 module _ (b : Board) (ps : List PageLanes) where
   -- A head, link or tap stands in an open lane of a gutter that is high enough.
-  pub record InLane (k : Brick) : Type 0 where
+  pub record InLane (k : Rerouter) : Type 0 where
     pub high : BUS_BAND_GUTTER + LANE_PITCH * laneMost ≤ minYOf b (k .page)
     pub most : getD ps (k .page) noLanes .count ≤ laneMost
     pub opened : k .lane < getD ps (k .page) noLanes .count
     pub height : k .y ≡ laneY (minYOf b (k .page)) (getD ps (k .page) noLanes .count) (k .lane)
 
-  pub data Stood (bus : Bus) (k : Brick) : Type 0 where
+  pub data Stood (bus : Bus) (k : Rerouter) : Type 0 where
     aside : inGutter k ≡ false → Stood bus k
-    inColumn : InLane k → ((j : Brick) → List·Memᴰ j (bus .bricks) → inGutter j ≡ true → Touches (k .page) (k .lane) (k .x) j → ⊥) → Stood bus k
+    inColumn : InLane k → ((j : Rerouter) → List·Memᴰ j (bus .rerouters) → inGutter j ≡ true → Touches (k .page) (k .lane) (k .x) j → ⊥) → Stood bus k
 
   -- What a delivery leaves: a corner at distance 1, or another rerouter within the bound.
-  pub data Far (j : Brick) (w d : ℕ) : Type 0 where
+  pub data Far (j : Rerouter) (w d : ℕ) : Type 0 where
     cornered : j .part ≡ partCorner → d ≡ 1 → Far j w d
     within : (j .part ≡ partCorner → ⊥) → Bounded b w d → Far j w d
 
@@ -96,28 +96,28 @@ module _ (b : Board) (ps : List PageLanes) where
     pub fresh : timesDelivered (bus .wires) w ≡ 0
     pub back : WayBack (bus .wires) (f .end) (f .depth) (sourceNode b w) (sourcePort b w)
     pub number : ℕ
-    pub brick : Brick
+    pub standing : Rerouter
     pub ends : f .end ≡ rerouter number
-    pub numbered : Numbered number brick (bus .bricks)
-    pub far : Far brick w (f .depth)
+    pub numbered : Numbered number standing (bus .rerouters)
+    pub far : Far standing w (f .depth)
 
   pub data Made : Bus → Type 0 where
     nothing : Made emptyBus
-    placing : {bus : Bus} → Made bus → (f : Feed) (k : Brick) → PortOrLower (f .end) (length (bus .bricks)) → Stood bus k → Made (place bus f k)
+    placing : {bus : Bus} → Made bus → (f : Feed) (k : Rerouter) → PortOrLower (f .end) (length (bus .rerouters)) → Stood bus k → Made (place bus f k)
     serving : {bus : Bus} → Made bus → (f : Feed) (w : ℕ) → Served bus f w → Made (deliver b bus f w)
 
   -- W7: one bus wire and no more arrives at each rerouter.
   pub arrives : {bus : Bus} → Made bus → (n : ℕ)
-      → (n < length (bus .bricks) → arriving (bus .wires) n ≡ 1) × (length (bus .bricks) ≤ n → arriving (bus .wires) n ≡ 0)
+      → (n < length (bus .rerouters) → arriving (bus .wires) n ≡ 1) × (length (bus .rerouters) ≤ n → arriving (bus .wires) n ≡ 0)
   unfolding arriving
   arrives nothing n = (λ h. absurd (omega arith), λ h. refl)
-  arrives (placing {bus} m f k l s) n = go (ℕ-discrete (length (bus .bricks)) n) (arrives m n)
+  arrives (placing {bus} m f k l s) n = go (ℕ-discrete (length (bus .rerouters)) n) (arrives m n)
     where
       new : BusWire
       new = onwardWire bus f
 
-      go : Dec (length (bus .bricks) ≡ n) → (n < length (bus .bricks) → arriving (bus .wires) n ≡ 1) × (length (bus .bricks) ≤ n → arriving (bus .wires) n ≡ 0)
-          → (n < suc (length (bus .bricks)) → arriving (new ∷ bus .wires) n ≡ 1) × (suc (length (bus .bricks)) ≤ n → arriving (new ∷ bus .wires) n ≡ 0)
+      go : Dec (length (bus .rerouters) ≡ n) → (n < length (bus .rerouters) → arriving (bus .wires) n ≡ 1) × (length (bus .rerouters) ≤ n → arriving (bus .wires) n ≡ 0)
+          → (n < suc (length (bus .rerouters)) → arriving (new ∷ bus .wires) n ≡ 1) × (suc (length (bus .rerouters)) ≤ n → arriving (new ∷ bus .wires) n ≡ 0)
       go (yes e) ih = (λ h. ap length (keep-yes (arrivesAt n) new (bus .wires) (eq-eqb _ _ e)) ∙ ap suc (ih .1 (omega arith)), λ h. absurd (omega arith))
       go (no e) ih =
           let same = ap length (keep-no (arrivesAt n) new (bus .wires) (ne-eqb _ _ e)) in
@@ -128,13 +128,13 @@ module _ (b : Board) (ps : List PageLanes) where
   pub record Sent (bus : Bus) (w : BusWire) (k d : ℕ) : Type 0 where
     pub delivered : Delivered b (bus .wires) w k d
     pub number : ℕ
-    pub brick : Brick
+    pub standing : Rerouter
     pub ends : w .source ≡ rerouter number
-    pub numbered : Numbered number brick (bus .bricks)
-    pub far : Far brick k d
+    pub numbered : Numbered number standing (bus .rerouters)
+    pub far : Far standing k d
 
   pub data WireOf (bus : Bus) (w : BusWire) : Type 0 where
-    feeds : (n : ℕ) → w .target ≡ rerouter n → w .carries ≡ onward → PortOrLower (w .source) n → n < length (bus .bricks) → WireOf bus w
+    feeds : (n : ℕ) → w .target ≡ rerouter n → w .carries ≡ onward → PortOrLower (w .source) n → n < length (bus .rerouters) → WireOf bus w
     sends : (k d : ℕ) → w .carries ≡ delivery k d → Sent bus w k d → WireOf bus w
 
   wire-grows : {bus more : Bus} → Grown bus more → (w : BusWire) → WireOf bus w → WireOf more w
@@ -145,9 +145,9 @@ module _ (b : Board) (ps : List PageLanes) where
       (record {
         delivered = record { onBoard = old .onBoard; toTarget = old .toTarget; back = back-grows (g .wiresIn) (old .back) };
         number = s .number;
-        brick = s .brick;
+        standing = s .standing;
         ends = s .ends;
-        numbered = g .bricksIn (s .number) (s .brick) (s .numbered);
+        numbered = g .reroutersIn (s .number) (s .standing) (s .numbered);
         far = s .far;
       })
 
@@ -156,7 +156,7 @@ module _ (b : Board) (ps : List PageLanes) where
   wire-of (placing {bus} m f k l s) w h = go (List·Memᴰ·cases-cons h) (λ i. wire-of m w i)
     where
       go : (w ≡ onwardWire bus f) ⊎ List·Memᴰ w (bus .wires) → (List·Memᴰ w (bus .wires) → WireOf bus w) → WireOf (place bus f k) w
-      go (inl d) ih = feeds (length (bus .bricks)) (ap (λ v. v .target) d) (ap (λ v. v .carries) d) (rw d l) (omega arith)
+      go (inl d) ih = feeds (length (bus .rerouters)) (ap (λ v. v .target) d) (ap (λ v. v .carries) d) (rw d l) (omega arith)
       go (inr i) ih = wire-grows (place-grows bus f k) w (ih i)
   wire-of (serving {bus} m f v s) w h = go (List·Memᴰ·cases-cons h) (λ i. wire-of m w i)
     where
@@ -169,7 +169,7 @@ module _ (b : Board) (ps : List PageLanes) where
           (record {
             delivered = record { onBoard = s .onBoard; toTarget = ap (λ u. u .target) d; back = rw d (back-grows (grown .wiresIn) (s .back)) };
             number = s .number;
-            brick = s .brick;
+            standing = s .standing;
             ends = rw d (s .ends);
             numbered = s .numbered;
             far = s .far;
@@ -177,7 +177,7 @@ module _ (b : Board) (ps : List PageLanes) where
       go (inr i) ih = wire-grows grown w (ih i)
 
   -- W11: the counts add up.
-  pub totals : {bus : Bus} → Made bus → length (bus .wires) ≡ length (bus .bricks) + deliveries bus
+  pub totals : {bus : Bus} → Made bus → length (bus .wires) ≡ length (bus .rerouters) + deliveries bus
   unfolding deliveries
   totals nothing = refl
   totals (placing m f k l s) = let h = totals m in omega arith
@@ -197,8 +197,8 @@ module _ (b : Board) (ps : List PageLanes) where
       go (yes e) ih = rw (keep-yes (names k) new (bus .wires) (eq-eqb w k e)) (let z : timesDelivered (bus .wires) k ≡ 0 = rw e at (s .fresh) in omega arith)
       go (no e) ih = rw (keep-no (names k) new (bus .wires) (ne-eqb w k e)) ih
 
-  -- W14: in one lane no lane brick is placed near another, and lanes lie 2 apart.
-  clear-apart : (j k : Brick) → InLane j → InLane k → (Touches (j .page) (j .lane) (j .x) k → ⊥) → Overlap j k → ⊥
+  -- W14: in one lane no lane rerouter is placed near another, and lanes lie 2 apart.
+  clear-apart : (j k : Rerouter) → InLane j → InLane k → (Touches (j .page) (j .lane) (j .x) k → ⊥) → Overlap j k → ⊥
   clear-apart j k p q h o =
       h (record {
         page = sym (o .page);
@@ -217,31 +217,31 @@ module _ (b : Board) (ps : List PageLanes) where
           let above = rw (p .height, t .1) at (o .above) in
           heights-apart (minYOf b (j .page)) (getD ps (j .page) noLanes .count) (j .lane) (k .lane) (p .high) (p .most) (p .opened) (t .0) below above
 
-  lane-of : {bus : Bus} → Made bus → (k : Brick) → List·Memᴰ k (bus .bricks) → inGutter k ≡ true → InLane k
+  lane-of : {bus : Bus} → Made bus → (k : Rerouter) → List·Memᴰ k (bus .rerouters) → inGutter k ≡ true → InLane k
   lane-of nothing k h g = absurd (List·Memᴰ·not-nil h)
   lane-of (placing {bus} m f j l s) k h g = go s (List·Memᴰ·cases-cons h) (λ i. lane-of m k i g)
     where
-      go : Stood bus j → (k ≡ j) ⊎ List·Memᴰ k (bus .bricks) → (List·Memᴰ k (bus .bricks) → InLane k) → InLane k
+      go : Stood bus j → (k ≡ j) ⊎ List·Memᴰ k (bus .rerouters) → (List·Memᴰ k (bus .rerouters) → InLane k) → InLane k
       go (aside a) (inl e) ih = clash g (rw e a)
       go (inColumn a c) (inl e) ih = rw e a
       go (aside a) (inr i) ih = ih i
       go (inColumn a c) (inr i) ih = ih i
   lane-of (serving m f w s) k h g = lane-of m k h g
 
-  turned : (j k : Brick) → Overlap j k → Overlap k j
+  turned : (j k : Rerouter) → Overlap j k → Overlap k j
   turned j k o = record { page = sym (o .page); left = o .right; right = o .left; below = o .above; above = o .below }
 
-  pub apart : {bus : Bus} → Made bus → (m n : ℕ) (j k : Brick) → Numbered m j (bus .bricks) → Numbered n k (bus .bricks) → (m ≡ n → ⊥) → inGutter j ≡ true
+  pub apart : {bus : Bus} → Made bus → (m n : ℕ) (j k : Rerouter) → Numbered m j (bus .rerouters) → Numbered n k (bus .rerouters) → (m ≡ n → ⊥) → inGutter j ≡ true
       → inGutter k ≡ true → Overlap j k → ⊥
   apart nothing m n j k p q d g h o = let z = numbered-below p in omega arith
   apart (placing {bus} made f i l s) m n j k p q d g h o = go (numbered-cases p) (numbered-cases q) (λ u v. apart made m n j k u v d g h o)
     where
-      first : (u v : Brick) → u ≡ i → List·Memᴰ v (bus .bricks) → inGutter u ≡ true → inGutter v ≡ true → Stood bus i → Overlap u v → ⊥
+      first : (u v : Rerouter) → u ≡ i → List·Memᴰ v (bus .rerouters) → inGutter u ≡ true → inGutter v ≡ true → Stood bus i → Overlap u v → ⊥
       first u v e r a c (aside x) w = clash a (rw e x)
       first u v e r a c (inColumn x y) w = clear-apart i v x (lane-of made v r c) (y v r c) (rw e at w)
 
-      go : ((m ≡ length (bus .bricks)) × (j ≡ i)) ⊎ Numbered m j (bus .bricks) → ((n ≡ length (bus .bricks)) × (k ≡ i)) ⊎ Numbered n k (bus .bricks)
-          → (Numbered m j (bus .bricks) → Numbered n k (bus .bricks) → ⊥) → ⊥
+      go : ((m ≡ length (bus .rerouters)) × (j ≡ i)) ⊎ Numbered m j (bus .rerouters) → ((n ≡ length (bus .rerouters)) × (k ≡ i)) ⊎ Numbered n k (bus .rerouters)
+          → (Numbered m j (bus .rerouters) → Numbered n k (bus .rerouters) → ⊥) → ⊥
       go (inl u) (inl v) ih = d (u .0 ∙ sym (v .0))
       go (inl u) (inr v) ih = first j k (u .1) (numbered-in v) g h s o
       go (inr u) (inl v) ih = first k j (v .1) (numbered-in u) h g s (turned j k o)

@@ -94,11 +94,11 @@ module _ (b : Board) (ps : List PageLanes) where
     room-to-turn =
         let paid = bus-kept b ps plan accepted .paid in
         let one = sent-or-turns made in
-        record { bricks = omega (arith, laid-short b ps); wires = omega (arith, laid-short b ps, totals b ps made); ports = omega (arith, ports-count made) }
+        record { rerouters = omega (arith, laid-short b ps); wires = omega (arith, laid-short b ps, totals b ps made); ports = omega (arith, ports-count made) }
 
     -- A corner is a rerouter and a delivery.
     abbrev Even : ℕ → Bus → Type 0
-    Even n r = length (r .bricks) + deliveries (busOf b ps) ≡ length (busOf b ps .bricks) + deliveries r
+    Even n r = length (r .rerouters) + deliveries (busOf b ps) ≡ length (busOf b ps .rerouters) + deliveries r
 
     -- S15: what is lent holds the finished plan.
     pub room-finished : Room b (finished b ps) 0
@@ -109,12 +109,12 @@ module _ (b : Board) (ps : List PageLanes) where
         let one = sent-or-turns made in
         let two = sent-or-turns last in
         let even = turned b Even (λ n r q. q) (λ n s t level r h e q. omega arith) (busOf b ps) refl in
-        record { bricks = omega (arith, laid-short b ps); wires = omega (arith, laid-short b ps, totals b ps last); ports = omega (arith, ports-count last) }
+        record { rerouters = omega (arith, laid-short b ps); wires = omega (arith, laid-short b ps, totals b ps last); ports = omega (arith, ports-count last) }
 
 module _ (b : Board) where
   -- What the corner pass has added after n wires: at most a rerouter, two bus wires and a port for each of them that passed its tests at the start.
   pub record Added (bus : Bus) (n : ℕ) (r : Bus) : Type 0 where
-    pub bricks : length (r .bricks) ≤ length (bus .bricks) + length (keep (turns b bus) (upto n))
+    pub rerouters : length (r .rerouters) ≤ length (bus .rerouters) + length (keep (turns b bus) (upto n))
     pub wires : length (r .wires) ≤ length (bus .wires) + 2 * length (keep (turns b bus) (upto n))
     pub ports : length (r .ports) ≤ length (bus .ports) + length (keep (turns b bus) (upto n))
     pub muting : (w : ℕ) → muted b bus w ≡ true → muted b r w ≡ true
@@ -138,18 +138,18 @@ module _ (b : Board) where
   pub corner-room : (bus : Bus) (n : ℕ) → n ≤ length (b .wires) → Added bus n (fold (turnWire b) (record { bus = bus; taken = [] }) (upto n) .bus)
   corner-room bus n h =
       turn-wires b (Added bus) skip turn (record { bus = bus; taken = [] }) n h
-      (record { bricks = omega arith; wires = omega arith; ports = omega arith; muting = λ w m. m })
+      (record { rerouters = omega arith; wires = omega arith; ports = omega arith; muting = λ w m. m })
     where
       skip : (k : ℕ) (r : Bus) → Added bus k r → Added bus (suc k) r
       skip k r q =
           let m = count-tail (turns b bus) k (upto k) in
-          record { bricks = omega (arith, q .bricks); wires = omega (arith, q .wires); ports = omega (arith, q .ports); muting = q .muting }
+          record { rerouters = omega (arith, q .rerouters); wires = omega (arith, q .wires); ports = omega (arith, q .ports); muting = q .muting }
 
       turn : (k s t level : ℕ) (r : Bus) → k < length (b .wires) → turns b r k ≡ true → Added bus k r → Added bus (suc k) (withTurn b r k s t level)
       turn k s t level r i e q =
           let m = ap length (keep-yes (turns b bus) k (upto k) (turned-before bus r k (q .muting k) e)) in
           record {
-            bricks = omega (arith, q .bricks);
+            rerouters = omega (arith, q .rerouters);
             wires = omega (arith, q .wires);
             ports = omega (arith, q .ports, port-more (portOf b k) (r .ports));
             muting = λ w n. muted-turned r k s t level w (q .muting w n);

@@ -12,8 +12,8 @@ use Rattle.sheet.specs.Table.{ORIGIN, MISSING}
 use Rattle.base.specs.Views.{view}
 use Rattle.base.proofs.Lists.{same-two}
 use Rattle.base.proofs.Views.{view-more, length-view}
-use Rattle.routes.specs.Bus.{Brick, BusWire, End, port, rerouter, Carries, onward, delivery, Port}
-use Rattle.routes.specs.Buffers.{outward, brickRow, endRow, carriesRow, wireRow, portRow, inward, brickIn, endIn, carriesIn, wireIn, portIn, Row, Rows}
+use Rattle.routes.specs.Bus.{Rerouter, BusWire, End, port, rerouter, Carries, onward, delivery, Port}
+use Rattle.routes.specs.Buffers.{outward, rerouterRow, endRow, carriesRow, wireRow, portRow, inward, rerouterIn, endIn, carriesIn, wireIn, portIn, Row, Rows}
 use Rattle.routes.specs.Tables.{writtenOver}
 use Rattle.routes.proofs.Views.{rows-written}
 
@@ -22,7 +22,7 @@ use Rattle.routes.proofs.Views.{rows-written}
 pub inward-outward : (c : ℕ) → c < 4294967296 → inward (outward c) ≡ c
 inward-outward c h = omega arith
 
-pub record BrickFits (k : Brick) : Type 0 where
+pub record RerouterFits (k : Rerouter) : Type 0 where
   pub x : k .x < 4294967296
   pub y : k .y < 4294967296
   pub z : k .z < 4294967296
@@ -40,8 +40,8 @@ pub record WireFits (w : BusWire) : Type 0 where
   pub target : EndFit (w .target)
   pub carries : CarriesFit (w .carries)
 
-pub brick-back : (k : Brick) → BrickFits k → brickIn (brickRow k) ≡ k
-brick-back k f i =
+pub rerouter-back : (k : Rerouter) → RerouterFits k → rerouterIn (rerouterRow k) ≡ k
+rerouter-back k f i =
     record {
       x = inward-outward (k .x) (f .x) i;
       y = inward-outward (k .y) (f .y) i;
@@ -147,8 +147,8 @@ six (a ∷ b ∷ c ∷ d ∷ e ∷ []) l = absurd (omega arith)
 six (a ∷ b ∷ c ∷ d ∷ e ∷ f ∷ g ∷ r) l = absurd (omega arith)
 
 -- The row of what a row holds is that row.
-pub brick-row : (r : List ℕ) → Row 10 r → brickRow (brickIn r) ≡ r
-brick-row r h =
+pub rerouter-row : (r : List ℕ) → Row 10 r → rerouterRow (rerouterIn r) ≡ r
+rerouter-row r h =
     let x = outward-inward (getD r 0 0) (h .fits 0 (omega arith)) in
     let y = outward-inward (getD r 1 0) (h .fits 1 (omega arith)) in
     let z = outward-inward (getD r 2 0) (h .fits 2 (omega arith)) in

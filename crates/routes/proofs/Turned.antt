@@ -16,7 +16,7 @@ use Rattle.board.specs.Demands.{PageLanes}
 use Rattle.base.proofs.Lists.{clash, byTest, byFound, keep-no}
 use Rattle.routes.specs.Bus.{Bus, Feed, Port, insertPort, samePort, portOf, portFeed, placedFeed, place, deliver, muted, port}
 use Rattle.routes.specs.Demand3.{here, names, timesDelivered, atPort, through}
-use Rattle.routes.specs.Corners.{Cornering, turnsDown, turns, turnWire, withCorner, cornerLevel, cornerBrick, corners}
+use Rattle.routes.specs.Corners.{Cornering, turnsDown, turns, turnWire, withCorner, cornerLevel, cornerRerouter, corners}
 use Rattle.routes.proofs.Made.{Made, nothing, placing, serving, aside, cornered, deliveryWire, onwardWire}
 
 -- A port suppressed is there, and stays.
@@ -59,7 +59,7 @@ muted-stays b bus f v w h = port-stays (portOf b w) (portOf b v) (bus .ports) h
 module _ (b : Board) where
   -- The bus with a corner, which its source port feeds and which feeds its target.
   abbrev pub withTurn : Bus → ℕ → ℕ → ℕ → ℕ → Bus
-  withTurn bus w s t level = deliver b (place bus (portFeed b w) (cornerBrick b s t level)) (placedFeed bus (portFeed b w)) w
+  withTurn bus w s t level = deliver b (place bus (portFeed b w) (cornerRerouter b s t level)) (placedFeed bus (portFeed b w)) w
 
   -- Q n holds of the bus after n wires, if it goes on to hold where a wire is passed over and where one that passes the tests gets a corner.
   module _ (Q : ℕ → Bus → Type 0) (skip : (n : ℕ) (bus : Bus) → Q n bus → Q (suc n) bus)
@@ -114,15 +114,15 @@ module _ (b : Board) (ps : List PageLanes) where
       go (no e) false q ih = ap length (keep-no (names w) (deliveryWire b f v) (bus .wires) (ne-eqb v w e)) ∙ ih q
 
   turn-made : (n s t level : ℕ) (bus : Bus) → n < length (b .wires) → turns b bus n ≡ true → Made b ps bus → Made b ps (withTurn b bus n s t level)
-  unfolding cornerBrick timesDelivered
+  unfolding cornerRerouter timesDelivered
   turn-made n s t level bus h e m =
-      serving (placing m (portFeed b n) (cornerBrick b s t level) tt (aside refl)) (placedFeed bus (portFeed b n)) n
+      serving (placing m (portFeed b n) (cornerRerouter b s t level) tt (aside refl)) (placedFeed bus (portFeed b n)) n
       (record {
         onBoard = h;
         fresh = not-muted m n (turns-open b bus n e);
         back = through (onwardWire bus (portFeed b n)) (List·Memᴰ·head refl) refl atPort;
-        number = length (bus .bricks);
-        brick = cornerBrick b s t level;
+        number = length (bus .rerouters);
+        standing = cornerRerouter b s t level;
         ends = refl;
         numbered = here refl;
         far = cornered refl refl;

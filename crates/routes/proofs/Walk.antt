@@ -16,8 +16,8 @@ use Rattle.board.proofs.Taps.{taps-of}
 use Rattle.board.proofs.LanesFit.{planned-fits}
 use Rattle.routes.specs.Stops.{laidTaps, newGroup, newRow, newColumn}
 use Rattle.routes.specs.Levels.{Level, dropped, shared, own, Stop, keptAt, unclaimed, stopFor, stopsOf, laneFor}
-use Rattle.routes.specs.Bus.{Bus, Brick, Feed, port, place, placedFeed, portFeed, deliver}
-use Rattle.routes.specs.Rerouters.{Emission, columnFree, brickNear, levelHere, source, laneBrick, rowBrick, headBrick, linkBrick, tapBrick, sourceBrick, gateSideBrick, clearFor, hangOn, withSource, startGroup, withLink, startRow, withGateSide, serve, emitTap, emit}
+use Rattle.routes.specs.Bus.{Bus, Rerouter, Feed, port, place, placedFeed, portFeed, deliver}
+use Rattle.routes.specs.Rerouters.{Emission, columnFree, rerouterNear, levelHere, source, laneRerouter, rowRerouter, headRerouter, linkRerouter, tapRerouter, sourceRerouter, gateSideRerouter, clearFor, hangOn, withSource, startGroup, withLink, startRow, withGateSide, serve, emitTap, emit}
 use Rattle.routes.specs.Plan.{busOf}
 use Rattle.routes.specs.Demand3.{atPort}
 use Rattle.routes.proofs.Made.{InLane, Served, within, place-grows, deliver-grows, Grown}
@@ -27,15 +27,15 @@ use Rattle.routes.proofs.Kept.{Live, Stands, live-grows, stands-grows, 
 
 -- Where the bus stays, feeds stay.
 same-bus : (bus : Bus) → Grown bus bus
-same-bus bus = record { wiresIn = λ w m. m; bricksIn = λ n k m. m; longer = omega arith }
+same-bus bus = record { wiresIn = λ w m. m; reroutersIn = λ n k m. m; longer = omega arith }
 
 -- A rerouter that is no head or link takes no column.
-still-free : (stops : List Stop) (bus : Bus) (f : Feed) (k : Brick) (p lane x : ℕ) → isChain k ≡ false → columnFree stops bus p lane x ≡ true
+still-free : (stops : List Stop) (bus : Bus) (f : Feed) (k : Rerouter) (p lane x : ℕ) → isChain k ≡ false → columnFree stops bus p lane x ≡ true
     → columnFree stops (place bus f k) p lane x ≡ true
 unfolding columnFree
 still-free stops bus f k p lane x c h = rw (off (eqb (k .page) p && eqb (k .lane) lane) refl) h
   where
-    off : (t : Bool) → (eqb (k .page) p && eqb (k .lane) lane) ≡ t → brickNear p lane x k ≡ false
+    off : (t : Bool) → (eqb (k .page) p && eqb (k .lane) lane) ≡ t → rerouterNear p lane x k ≡ false
     off true e = rw (e, c)
     off false e = rw e
 
@@ -47,11 +47,11 @@ cost (own x) = 4
 
 module _ (b : Board) (ps : List PageLanes) (plan : planLanes b ≡ planned ps) (accepted : Accepted b) where
   -- The heads, links and taps of a laid tap stand in an open lane of a gutter.
-  in-lane : (t : Tap) → found (laneOf ps (t .page) (t .group)) ≡ true → (x rotation part : ℕ) → InLane b ps (laneBrick b (tapsOf b) ps t x rotation part)
-  unfolding laneBrick
+  in-lane : (t : Tap) → found (laneOf ps (t .page) (t .group)) ≡ true → (x rotation part : ℕ) → InLane b ps (laneRerouter b (tapsOf b) ps t x rotation part)
+  unfolding laneRerouter
   in-lane t h x rotation part = go (laneOf ps (t .page) (t .group)) refl
     where
-      go : (f : Found) → laneOf ps (t .page) (t .group) ≡ f → InLane b ps (laneBrick b (tapsOf b) ps t x rotation part)
+      go : (f : Found) → laneOf ps (t .page) (t .group) ≡ f → InLane b ps (laneRerouter b (tapsOf b) ps t x rotation part)
       go none e = clash (rw e at h) refl
       go (at lane) e =
           let fits = planned-fits b ps plan (t .page) (t .group) lane e in
@@ -89,14 +89,14 @@ module _ (b : Board) (ps : List PageLanes) (plan : planLanes b ≡ planned ps) (
       sourced : (e : Emission) → Kept b ps stops old l 0 (e .bus) → Live b (e .bus) (e .upstream) (t .group) 0
           → columnFree stops (e .bus) (t .page) (laneFor ps t) (xOf b (source b ts ps t)) ≡ true
           → Sourced (withSource b ts ps e t)
-      unfolding withSource rowBrick
+      unfolding withSource rowRerouter
       sourced e k h f =
           byFound Sourced (sourceRow b (t .group) (t .page)) (λ n. same)
-          (λ row n. byTest Sourced (clearFor b ts ps (e .bus) (sourceBrick b ts ps t row))
+          (λ row n. byTest Sourced (clearFor b ts ps (e .bus) (sourceRerouter b ts ps t row))
           (λ c. record {
-            kept = kept-beside b ps stops (e .upstream) (sourceBrick b ts ps t row) (h .low) refl k;
-            hang = live-placed b (sourceBrick b ts ps t row) (omega arith) h;
-            free = still-free stops (e .bus) (e .upstream) (sourceBrick b ts ps t row) (t .page) (laneFor ps t) (xOf b (source b ts ps t)) refl f;
+            kept = kept-beside b ps stops (e .upstream) (sourceRerouter b ts ps t row) (h .low) refl k;
+            hang = live-placed b (sourceRerouter b ts ps t row) (omega arith) h;
+            free = still-free stops (e .bus) (e .upstream) (sourceRerouter b ts ps t row) (t .page) (laneFor ps t) (xOf b (source b ts ps t)) refl f;
           })
           (λ c. same))
         where
@@ -104,7 +104,7 @@ module _ (b : Board) (ps : List PageLanes) (plan : planLanes b ≡ planned ps) (
           same = record { kept = kept-more b ps stops 1 (omega arith) k; hang = live-grows b (same-bus (e .bus)) (omega arith) h; free = f }
 
       begins : (e : Emission) → Kept b ps stops old l 0 (e .bus) → At old l 2 (t .group) r (startGroup b ts ps stops e t)
-      unfolding startGroup laneBrick
+      unfolding startGroup laneRerouter
       begins e k =
           byTest (At old l 2 (t .group) r) (placed b (source b ts ps t) && columnFree stops (e .bus) (t .page) (laneFor ps t) (xOf b (source b ts ps t)))
           (λ h. head (sourced at-port k port-live (and-right (placed b (source b ts ps t)) _ h)))
@@ -120,11 +120,11 @@ module _ (b : Board) (ps : List PageLanes) (plan : planLanes b ≡ planned ps) (
           port-live : Live b (e .bus) (portFeed b (t .group)) (t .group) 0
           port-live = record { back = atPort; low = tt; short = omega arith }
 
-          head : {s : Emission} → Sourced s → At old l 2 (t .group) r (hangOn b ts ps s (s .upstream) (headBrick b ts ps t))
+          head : {s : Emission} → Sourced s → At old l 2 (t .group) r (hangOn b ts ps s (s .upstream) (headRerouter b ts ps t))
           head {s} q =
               record {
-                kept = kept-chain b ps stops (s .upstream) (headBrick b ts ps t) (q .hang .low) (in-lane t lane _ _ _) refl (q .free) before (q .kept);
-                hang = live-placed b (headBrick b ts ps t) (omega arith) (q .hang);
+                kept = kept-chain b ps stops (s .upstream) (headRerouter b ts ps t) (q .hang .low) (in-lane t lane _ _ _) refl (q .free) before (q .kept);
+                hang = live-placed b (headRerouter b ts ps t) (omega arith) (q .hang);
                 tapped = λ a. clash a fresh;
               }
 
@@ -138,24 +138,24 @@ module _ (b : Board) (ps : List PageLanes) (plan : planLanes b ≡ planned ps) (
         hang : Live b (e .bus) (e .upstream) (t .group) (3 + r)
 
       linked : (e : Emission) (x : ℕ) → Before old → At old l 2 (t .group) r e → Linked (withLink b ts ps stops e t x)
-      unfolding withLink laneBrick
+      unfolding withLink laneRerouter
       linked e x before a =
           byTest Linked (columnFree stops (e .bus) (t .page) (laneFor ps t) (x + 2))
           (λ h. record {
-            kept = kept-chain b ps stops (e .upstream) (linkBrick b ts ps t x) (a .hang .low) (in-lane t lane _ _ _) refl h before (a .kept);
-            hang = live-placed b (linkBrick b ts ps t x) (omega arith) (a .hang);
+            kept = kept-chain b ps stops (e .upstream) (linkRerouter b ts ps t x) (a .hang .low) (in-lane t lane _ _ _) refl h before (a .kept);
+            hang = live-placed b (linkRerouter b ts ps t x) (omega arith) (a .hang);
           })
           (λ h. record { kept = kept-more b ps stops 3 (omega arith) (a .kept); hang = live-grows b (same-bus (e .bus)) (omega arith) (a .hang) })
 
       row-own : (e : Emission) (x : ℕ) → Before (stop ∷ old) → Before old → stop .level ≡ own x → At old l 2 (t .group) r e
           → At (stop ∷ old) l 4 (t .group) (suc r) (startRow b ts ps stops e t (own x)) × Ended (own x) (t .group) (4 + r) (startRow b ts ps stops e t (own x))
-      unfolding startRow laneBrick stopFor
+      unfolding startRow laneRerouter stopFor
       row-own e x after before level a = (
         record {
           kept =
-              kept-tap b ps stops stop (s .upstream) (tapBrick b ts ps t x) (q .hang .low) (in-lane t lane _ _ _) refl refl refl level
+              kept-tap b ps stops stop (s .upstream) (tapRerouter b ts ps t x) (q .hang .low) (in-lane t lane _ _ _) refl refl refl level
               (own-unclaimed b old (laneFor ps t) _ t x level) after (q .kept);
-          hang = live-grows b (place-grows (s .bus) (s .upstream) (tapBrick b ts ps t x)) (omega arith) (q .hang);
+          hang = live-grows b (place-grows (s .bus) (s .upstream) (tapRerouter b ts ps t x)) (omega arith) (q .hang);
           tapped = λ k. stands-grows b (same-bus _) (omega arith) stands;
         },
         λ f. stands,
@@ -167,8 +167,8 @@ module _ (b : Board) (ps : List PageLanes) (plan : planLanes b ≡ planned ps) (
           q : Linked s
           q = linked e x before a
 
-          stands : Stands b (place (s .bus) (s .upstream) (tapBrick b ts ps t x)) (placedFeed (s .bus) (s .upstream)) (t .group) (4 + r)
-          stands = stands-placed b (tapBrick b ts ps t x) (λ e. omega arith) (omega arith) (q .hang)
+          stands : Stands b (place (s .bus) (s .upstream) (tapRerouter b ts ps t x)) (placedFeed (s .bus) (s .upstream)) (t .group) (4 + r)
+          stands = stands-placed b (tapRerouter b ts ps t x) (λ e. omega arith) (omega arith) (q .hang)
 
       -- A dropped stop keeps nothing, a shared one hangs its row on the tap of the kept stop before it.
       row-new : (c : ℕ) (e : Emission) (level : Level) → Before (stop ∷ old) → Before old → stop .level ≡ level → At old l 2 (t .group) r e
@@ -268,11 +268,11 @@ module _ (b : Board) (ps : List PageLanes) (plan : planLanes b ≡ planned ps) (
 
       gated : (e : Emission) (x : ℕ) → At (stopsOf b ps (t ∷ l)) l 4 (t .group) rows e → Stands b (e .bus) (e .rowEnd) (t .group) (3 + rows + columnsSeen l t)
           → Gated (elim (newColumn l t) [ true ↦ withGateSide b ts ps e t x | false ↦ e ])
-      unfolding withGateSide rowBrick
+      unfolding withGateSide rowRerouter
       gated e x a s =
           byTest Gated (newColumn l t)
           (λ n.
-          let k = gateSideBrick b ts ps t x in
+          let k = gateSideRerouter b ts ps t x in
           let more : 3 + rows + columnsSeen l t < 3 + rows + columnsSeen (t ∷ l) t = omega (arith, columns-new b ps t l h n) in
           byTest Gated (clearFor b ts ps (e .bus) k)
           (λ c. record {
@@ -305,7 +305,7 @@ module _ (b : Board) (ps : List PageLanes) (plan : planLanes b ≡ planned ps) (
             fresh = g .state .kept .named (t .wire) (new-wire b ps t l h);
             back = rw (group .node, group .port) at (s .live .back);
             number = s .number;
-            brick = s .brick;
+            standing = s .standing;
             ends = s .ends;
             numbered = s .numbered;
             far =

@@ -8,15 +8,15 @@ use lib.Dec.{eqb}
 use lib.ListN.{length, getD, take}
 use Rattle.sheet.specs.Table.{ORIGIN, MISSING}
 use Rattle.base.specs.Views.{view}
-use Rattle.routes.specs.Bus.{Bus, Brick, BusWire, End, port, rerouter, Carries, onward, delivery, Port}
+use Rattle.routes.specs.Bus.{Bus, Rerouter, BusWire, End, port, rerouter, Carries, onward, delivery, Port}
 
 -- P7: a held coordinate as a number of 32 bits.
 abbrev pub outward : ℕ → ℕ
 outward c = (c + 4294967296 - ORIGIN) % 4294967296
 
 -- P7: the row of a rerouter.
-abbrev pub brickRow : Brick → List ℕ
-brickRow k =
+abbrev pub rerouterRow : Rerouter → List ℕ
+rerouterRow k =
     outward (k .x) ∷ outward (k .y) ∷ outward (k .z) ∷ k .rotation ∷ k .role ∷ k .part ∷ k .colour ∷ k .page ∷ k .lane ∷ k .row ∷ []
 
 -- P7: the row of a bus wire: its two ends, then what it delivers.
@@ -40,8 +40,8 @@ abbrev pub inward : ℕ → ℕ
 inward c = (c + ORIGIN) % 4294967296
 
 -- A rerouter by its row.
-abbrev pub brickIn : List ℕ → Brick
-brickIn r =
+abbrev pub rerouterIn : List ℕ → Rerouter
+rerouterIn r =
     record {
       x = inward (getD r 0 0);
       y = inward (getD r 1 0);
@@ -77,7 +77,7 @@ portsHeld ports u = map portIn (take u ports)
 
 -- The bus in the first n rerouter rows, k bus wire rows and u port rows.
 unfoldable pub busHeld : List (List ℕ) → ℕ → List (List ℕ) → ℕ → List (List ℕ) → ℕ → Bus
-busHeld rerouters n busWires k ports u = record { bricks = view brickIn rerouters n; wires = view wireIn busWires k; ports = portsHeld ports u }
+busHeld rerouters n busWires k ports u = record { rerouters = view rerouterIn rerouters n; wires = view wireIn busWires k; ports = portsHeld ports u }
 
 -- A row of so many numbers of 32 bits, and such rows.
 pub record Row (width : ℕ) (r : List ℕ) : Type 0 where

@@ -9,7 +9,7 @@ use Rattle.board.specs.Board.{Board, sourceNode, sourcePort, targetNode, target
 use Rattle.board.specs.Rows.{Cell, cellsOverlap, rerouterCell, brickCell, bricksIn}
 
 -- A rerouter. Heads, links and taps have a lane and no row; the others stand beside a row and have no lane.
-pub record Brick : Type 0 where
+pub record Rerouter : Type 0 where
   pub x : ℕ
   pub y : ℕ
   pub z : ℕ
@@ -79,30 +79,30 @@ insertPort p (q ∷ l) =
 
 -- The plan so far (`BusLayout`): rerouters and bus wires, newest first, so that a rerouter's number is how many stand behind it; and suppressed ports.
 pub record Bus : Type 0 where
-  pub bricks : List Brick
+  pub rerouters : List Rerouter
   pub wires : List BusWire
   pub ports : List Port
 
 abbrev pub emptyBus : Bus
-emptyBus = record { bricks = []; wires = []; ports = [] }
+emptyBus = record { rerouters = []; wires = []; ports = [] }
 
 -- W4: what a bus wire can leave, with the count of rerouters back to the port, itself included.
 pub record Feed : Type 0 where
   pub end : End
   pub depth : ℕ
 
--- R13: a brick, and in the same step the bus wire that feeds it.
-abbrev pub place : Bus → Feed → Brick → Bus
-place bus feed brick =
+-- R13: a rerouter, and in the same step the bus wire that feeds it.
+abbrev pub place : Bus → Feed → Rerouter → Bus
+place bus feed new =
     record {
-      bricks = brick ∷ bus .bricks;
-      wires = record { source = feed .end; target = rerouter (length (bus .bricks)); carries = onward } ∷ bus .wires;
+      rerouters = new ∷ bus .rerouters;
+      wires = record { source = feed .end; target = rerouter (length (bus .rerouters)); carries = onward } ∷ bus .wires;
       ports = bus .ports;
     }
 
--- The feed of the brick so placed.
+-- The feed of the rerouter so placed.
 abbrev pub placedFeed : Bus → Feed → Feed
-placedFeed bus feed = record { end = rerouter (length (bus .bricks)); depth = suc (feed .depth) }
+placedFeed bus feed = record { end = rerouter (length (bus .rerouters)); depth = suc (feed .depth) }
 
 -- R12: the feed of a wire's source port.
 abbrev pub portFeed : Board → ℕ → Feed
@@ -116,7 +116,7 @@ portOf b w = record { node = targetNode b w; port = targetPort b w }
 abbrev pub deliver : Board → Bus → Feed → ℕ → Bus
 deliver b bus feed w =
     record {
-      bricks = bus .bricks;
+      rerouters = bus .rerouters;
       wires = record { source = feed .end; target = port (targetNode b w) (targetPort b w); carries = delivery w (feed .depth) } ∷ bus .wires;
       ports = insertPort (portOf b w) (bus .ports);
     }
@@ -129,9 +129,9 @@ unfoldable pub muted : Board → Bus → ℕ → Bool
 muted b bus w = any (samePort (portOf b w)) (bus .ports)
 
 -- C6: clear of what is booked on a row: its bricks, and the rerouters placed beside it.
-abbrev pub besideRow : ℕ → ℕ → Cell → Brick → Bool
+abbrev pub besideRow : ℕ → ℕ → Cell → Rerouter → Bool
 besideRow p r cell k = eqb (k .page) p && eqb (k .row) r && cellsOverlap (rerouterCell (k .x) (k .y)) cell
 
 unfoldable pub clearOfRow : Board → Bus → ℕ → ℕ → Cell → Bool
 clearOfRow b bus p r cell =
-    not (any (λ i. cellsOverlap (brickCell b i) cell) (bricksIn b p r)) && not (any (besideRow p r cell) (bus .bricks))
+    not (any (λ i. cellsOverlap (brickCell b i) cell) (bricksIn b p r)) && not (any (besideRow p r cell) (bus .rerouters))

@@ -11,7 +11,7 @@ use Rattle.board.specs.Rows.{rerouterCell, brickCell, rowOf}
 use Rattle.board.specs.Refusals.{bodyOf}
 use Rattle.board.specs.Groups.{wireOpen}
 use Rattle.routes.specs.Levels.{levelsIn, lowest, lightest}
-use Rattle.routes.specs.Bus.{Brick, Bus, Feed, clearOfRow, deliver, muted, partCorner, place, placedFeed, portFeed, roleLine}
+use Rattle.routes.specs.Bus.{Rerouter, Bus, Feed, clearOfRow, deliver, muted, partCorner, place, placedFeed, portFeed, roleLine}
 
 -- K9: a level that a corner of this sink took.
 pub record Taken : Type 0 where
@@ -33,8 +33,8 @@ module _ (b : Board) where
       && ltb (downOf b s) (downOf b t) && ltb (yOf b t) (yOf b s)
 
   -- K8: the corner of source s and sink t at a level.
-  unfoldable pub cornerBrick : ℕ → ℕ → ℕ → Brick
-  cornerBrick s t level =
+  unfoldable pub cornerRerouter : ℕ → ℕ → ℕ → Rerouter
+  cornerRerouter s t level =
       record {
         x = level;
         y = yOf b s;
@@ -68,7 +68,7 @@ module _ (b : Board) where
   withCorner c w s t level =
       let feed : Feed = portFeed b w in
       record {
-        bus = deliver b (place (c .bus) feed (cornerBrick s t level)) (placedFeed (c .bus) feed) w;
+        bus = deliver b (place (c .bus) feed (cornerRerouter s t level)) (placedFeed (c .bus) feed) w;
         taken = record { sink = t; level = level } ∷ c .taken;
       }
 

@@ -9,13 +9,13 @@ use Rattle.base.specs.Lists.{any, keep}
 use Rattle.board.specs.Board.{Board, sourceNode, sourcePort, targetNode, targetPort}
 use Rattle.board.specs.Rows.{REROUTER_SIZE}
 use Rattle.board.specs.Groups.{Tap, tapsOf}
-use Rattle.routes.specs.Bus.{Bus, Brick, BusWire, End, port, rerouter, Carries, onward, delivery, partHead, partLink, partTap, partCorner}
+use Rattle.routes.specs.Bus.{Bus, Rerouter, BusWire, End, port, rerouter, Carries, onward, delivery, partHead, partLink, partTap, partCorner}
 use Rattle.routes.specs.Plan.{isDelivery, deliveries}
 
--- S13: the brick is the rerouter of that number: lists hold the newest first, and numbers count from 0.
-pub data Numbered (n : ℕ) (k : Brick) : List Brick → Type 0 where
-  here : {l : List Brick} → n ≡ length l → Numbered n k (k ∷ l)
-  there : {j : Brick} {l : List Brick} → Numbered n k l → Numbered n k (j ∷ l)
+-- S13: the rerouter of that number: lists hold the newest first, and numbers count from 0.
+pub data Numbered (n : ℕ) (k : Rerouter) : List Rerouter → Type 0 where
+  here : {l : List Rerouter} → n ≡ length l → Numbered n k (k ∷ l)
+  there : {j : Rerouter} {l : List Rerouter} → Numbered n k l → Numbered n k (j ∷ l)
 
 -- W7: how many bus wires arrive at a rerouter.
 abbrev pub arrivesAt : ℕ → BusWire → Bool
@@ -54,12 +54,12 @@ rowsUpTo ts t = length (distinct (map (λ u. u .row) (keep (λ u. eqb (u .group)
 unfoldable pub columnsOn : List Tap → Tap → ℕ
 columnsOn ts t = length (distinct (map (λ u. u .y) (keep (λ u. eqb (u .group) (t .group) && eqb (u .row) (t .row)) ts)))
 
--- W6: the lane bricks: heads, links and taps.
-abbrev pub inGutter : Brick → Bool
+-- W6: the lane rerouters: heads, links and taps.
+abbrev pub inGutter : Rerouter → Bool
 inGutter k = eqb (k .part) partHead || eqb (k .part) partLink || eqb (k .part) partTap
 
--- W6: two bricks of one page whose spans overlap in x and in y.
-pub record Overlap (j k : Brick) : Type 0 where
+-- W6: two rerouters of one page whose spans overlap in x and in y.
+pub record Overlap (j k : Rerouter) : Type 0 where
   pub page : j .page ≡ k .page
   pub left : j .x < k .x + REROUTER_SIZE
   pub right : k .x < j .x + REROUTER_SIZE
@@ -81,23 +81,23 @@ pub record Bounded (b : Board) (k d : ℕ) : Type 0 where
 
 pub record Demand3 (b : Board) (bus : Bus) : Type 0 where
   -- W7: one bus wire and no more arrives at each.
-  pub oneArrives : (n : ℕ) → n < length (bus .bricks) → arriving (bus .wires) n ≡ 1
+  pub oneArrives : (n : ℕ) → n < length (bus .rerouters) → arriving (bus .wires) n ≡ 1
   -- W7: it leaves a port or an earlier rerouter.
   pub fromLower : (w : BusWire) (n : ℕ) → List·Memᴰ w (bus .wires) → w .target ≡ rerouter n → PortOrLower (w .source) n
   -- W7: only rerouters of the plan are named.
-  pub onPlan : (w : BusWire) (n : ℕ) → List·Memᴰ w (bus .wires) → w .target ≡ rerouter n → n < length (bus .bricks)
+  pub onPlan : (w : BusWire) (n : ℕ) → List·Memᴰ w (bus .wires) → w .target ≡ rerouter n → n < length (bus .rerouters)
   -- W2, W8: a bus wire to a port is a delivery, and leaves a rerouter.
   pub portNamed : (w : BusWire) (n p : ℕ) → List·Memᴰ w (bus .wires) → w .target ≡ port n p → isDelivery w ≡ true
-  pub leaves : (w : BusWire) → List·Memᴰ w (bus .wires) → isDelivery w ≡ true → (m : ℕ) × (m < length (bus .bricks)) × (w .source ≡ rerouter m)
+  pub leaves : (w : BusWire) → List·Memᴰ w (bus .wires) → isDelivery w ≡ true → (m : ℕ) × (m < length (bus .rerouters)) × (w .source ≡ rerouter m)
   -- W9: a delivery has its wire's target and source, and the distance of its way back.
   pub delivered : (w : BusWire) (k d : ℕ) → List·Memᴰ w (bus .wires) → w .carries ≡ delivery k d → Delivered b (bus .wires) w k d
   -- W10: a wire has one delivery at most.
   pub once : (k : ℕ) → timesDelivered (bus .wires) k ≤ 1
   -- W11: the counts add up.
-  pub total : length (bus .wires) ≡ length (bus .bricks) + deliveries bus
+  pub total : length (bus .wires) ≡ length (bus .rerouters) + deliveries bus
   -- W12: the distance of a delivery that leaves a corner.
-  pub cornerOne : (w : BusWire) (k d m : ℕ) (j : Brick) → List·Memᴰ w (bus .wires) → w .carries ≡ delivery k d → w .source ≡ rerouter m → Numbered m j (bus .bricks) → j .part ≡ partCorner → d ≡ 1
+  pub cornerOne : (w : BusWire) (k d m : ℕ) (j : Rerouter) → List·Memᴰ w (bus .wires) → w .carries ≡ delivery k d → w .source ≡ rerouter m → Numbered m j (bus .rerouters) → j .part ≡ partCorner → d ≡ 1
   -- W13: the bound on that of any other.
-  pub otherBound : (w : BusWire) (k d m : ℕ) (j : Brick) → List·Memᴰ w (bus .wires) → w .carries ≡ delivery k d → w .source ≡ rerouter m → Numbered m j (bus .bricks) → (j .part ≡ partCorner → ⊥) → Bounded b k d
-  -- W14: lane bricks lie apart.
-  pub apart : (m n : ℕ) (j k : Brick) → Numbered m j (bus .bricks) → Numbered n k (bus .bricks) → (m ≡ n → ⊥) → inGutter j ≡ true → inGutter k ≡ true → Overlap j k → ⊥
+  pub otherBound : (w : BusWire) (k d m : ℕ) (j : Rerouter) → List·Memᴰ w (bus .wires) → w .carries ≡ delivery k d → w .source ≡ rerouter m → Numbered m j (bus .rerouters) → (j .part ≡ partCorner → ⊥) → Bounded b k d
+  -- W14: lane rerouters lie apart.
+  pub apart : (m n : ℕ) (j k : Rerouter) → Numbered m j (bus .rerouters) → Numbered n k (bus .rerouters) → (m ≡ n → ⊥) → inGutter j ≡ true → inGutter k ≡ true → Overlap j k → ⊥

@@ -136,7 +136,7 @@ unfolding bytes lanesOf stopsOn laidOn
     Reading.sheetLines Reading.rowOf Reading.rowsFrom Reading.counted Reading.after Reading.unreadable Reading.overMost Reading.outOfRange
     Reading.first Reading.refusals Reading.readLines Reading.reading Record.allowed Record.within Record.present Record.cellOf
     Record.fieldsRead Record.placeOf Record.sectionOf Record.recordRead Record.lineRead Text.onFirst Text.parts Text.firstPart Text.lineOf
-    Text.fieldOf Written.digitsOf Written.decimal Written.coordinateText Written.numberText Written.written Lanes.entries Lanes.ahead
+    Text.partOf Written.digitsOf Written.decimal Written.coordinateText Written.numberText Written.written Lanes.entries Lanes.ahead
     Lanes.ranked Lanes.firstThat Lanes.laneFor Lanes.withTenant Lanes.packIn Lanes.packed Sort.inserted Sort.sorted Sort.joined Sort.merged
     Sort.lexLess Sort.rightNext Sort.sortedRows Board.section Board.boardOf Demands.band Demands.firstRow Demands.lastRow Demands.needsLane
     Demands.demandOf Demands.groupsOn Demands.packedOn Demands.planUpto Demands.planLanes Demands.laneY Groups.topChip Groups.anchorOf
@@ -146,11 +146,11 @@ unfolding bytes lanesOf stopsOn laidOn
     Refusals.nodeTwice Refusals.chipTwice Refusals.innerTwice Refusals.pageMissing Refusals.parentMissing Refusals.chipMissing
     Refusals.rowUnplaced Refusals.idTwice Refusals.notThere Refusals.unplaced Refusals.judgedBoard Refusals.judged Rows.cellsOverlap
     Rows.nodesOn Rows.downsOn Rows.rowOf Rows.brickCell Rows.bricksIn Rows.rowTop Bus.muted Bus.clearOfRow Corners.turnsDown
-    Corners.cornerBrick Corners.sinkLoad Corners.cornerClear Corners.cornerLevel Corners.withCorner Corners.turnWire Corners.corners
+    Corners.cornerRerouter Corners.sinkLoad Corners.cornerClear Corners.cornerLevel Corners.withCorner Corners.turnWire Corners.corners
     Corners.turns Corners.turnable Levels.loadAt Levels.unclaimed Levels.freeLevel Levels.findLevel Levels.levelOf Levels.stopFor
     Levels.stopsOf Plan.busOf Plan.laidGroups Plan.finished Plan.deliveries PlanSheet.fields PlanSheet.numbered PlanSheet.laneLine
-    PlanSheet.brickLine PlanSheet.wireLine PlanSheet.portLine PlanSheet.totalLine PlanSheet.planSheet PlanSheet.refusalSheet
-    Rerouters.columnFree Rerouters.chainRotation Rerouters.laneBrick Rerouters.rowBrick Rerouters.withSource Rerouters.startGroup
+    PlanSheet.rerouterLine PlanSheet.wireLine PlanSheet.portLine PlanSheet.totalLine PlanSheet.planSheet PlanSheet.refusalSheet
+    Rerouters.columnFree Rerouters.chainRotation Rerouters.laneRerouter Rerouters.rowRerouter Rerouters.withSource Rerouters.startGroup
     Rerouters.withLink Rerouters.startRow Rerouters.withGateSide Rerouters.serve Rerouters.emitTap Rerouters.emit Route.fitsPlan Route.laid
     Route.routed Route.sheetOf Route.answerTo Stops.spread Stops.longEnough Stops.isLaid Stops.laidTaps
 worked = (refl, (refl, (refl, (refl, (refl, (refl, (refl, (refl, (refl, (refl, tt))))))))))

@@ -9,7 +9,7 @@ use Rattle.sheet.specs.Text.{NEWLINE}
 use Rattle.sheet.specs.Written.{decimal, coordinateText, numberText, tabbed}
 use Rattle.board.specs.Board.{Board}
 use Rattle.board.specs.Demands.{PageLanes, band}
-use Rattle.routes.specs.Bus.{Bus, Brick, BusWire, End, port, rerouter, Carries, onward, delivery, Port}
+use Rattle.routes.specs.Bus.{Bus, Rerouter, BusWire, End, port, rerouter, Carries, onward, delivery, Port}
 use Rattle.routes.specs.Plan.{deliveries}
 
 -- P1: a line: its letter, its fields each after a tab, byte 10.
@@ -30,8 +30,8 @@ unfoldable pub laneLine : ℕ → PageLanes → List ℕ
 laneLine p l = line (code "L") (decimal p ∷ decimal (l .count) ∷ decimal (band (l .count)) ∷ [])
 
 -- P3: a rerouter's line.
-unfoldable pub brickLine : ℕ → Brick → List ℕ
-brickLine n k =
+unfoldable pub rerouterLine : ℕ → Rerouter → List ℕ
+rerouterLine n k =
     line (code "R")
     (decimal n ∷ coordinateText (k .x) ∷ coordinateText (k .y) ∷ coordinateText (k .z) ∷ decimal (k .rotation) ∷ decimal (k .role)
     ∷ decimal (k .part) ∷ decimal (k .colour) ∷ decimal (k .page) ∷ numberText (k .lane) ∷ [])
@@ -56,14 +56,14 @@ portLine n p = line (code "U") (decimal (p .node) ∷ decimal (p .port) ∷ [])
 unfoldable pub totalLine : Board → Bus → ℕ → List ℕ
 totalLine b bus laid =
     line (code "T")
-    (decimal (length (bus .bricks)) ∷ decimal (length (bus .wires)) ∷ decimal (deliveries bus)
+    (decimal (length (bus .rerouters)) ∷ decimal (length (bus .wires)) ∷ decimal (deliveries bus)
     ∷ decimal (length (b .wires) - deliveries bus) ∷ decimal laid ∷ [])
 
 -- P1: the lines in their order.
 unfoldable pub planSheet : Board → List PageLanes → Bus → ℕ → List ℕ
 planSheet b ps bus laid =
     numbered laneLine 0 ps
-    ++ (numbered brickLine 0 (reverse (bus .bricks))
+    ++ (numbered rerouterLine 0 (reverse (bus .rerouters))
     ++ (numbered wireLine 0 (reverse (bus .wires)) ++ (numbered portLine 0 (bus .ports) ++ totalLine b bus laid)))
 
 -- E12: the E line.

@@ -12,13 +12,13 @@ use Rattle.board.specs.Groups.{Tap, tapsIn, sourceAnchor, sourceRow}
 use Rattle.board.specs.Demands.{PageLanes, noLanes, laneY}
 use Rattle.routes.specs.Stops.{near, newGroup, newRow, newColumn}
 use Rattle.routes.specs.Levels.{Level, dropped, shared, own, Stop, unclaimed, laneFor}
-use Rattle.routes.specs.Bus.{Brick, Bus, Feed, clearOfRow, deliver, emptyBus, partGateSide, partHead, partLink, partSource, partTap, place, placedFeed, port, portFeed, roleGutter, roleSource}
+use Rattle.routes.specs.Bus.{Rerouter, Bus, Feed, clearOfRow, deliver, emptyBus, partGateSide, partHead, partLink, partSource, partTap, place, placedFeed, port, portFeed, roleGutter, roleSource}
 
 -- R6, R10: how far from its brick a source or gate-side rerouter stands.
 abbrev pub TAP_RESERVE : ℕ
 TAP_RESERVE = 5
 
--- R12: what the walk over the taps holds: the bus, the feed of links and taps, the tap brick of the group's last own level, and the end of the row's
+-- R12: what the walk over the taps holds: the bus, the feed of links and taps, the tap rerouter of the group's last own level, and the end of the row's
 -- chain so far.
 pub record Emission : Type 0 where
   pub bus : Bus
@@ -27,12 +27,12 @@ pub record Emission : Type 0 where
   pub rowEnd : Feed
 
 -- R8, R13: the span at x is claimed in a lane's column by a level, or by a head or link placed there.
-abbrev pub brickNear : ℕ → ℕ → ℕ → Brick → Bool
-brickNear p lane x k =
+abbrev pub rerouterNear : ℕ → ℕ → ℕ → Rerouter → Bool
+rerouterNear p lane x k =
     eqb (k .page) p && eqb (k .lane) lane && (eqb (k .part) partHead || eqb (k .part) partLink) && near x (k .x)
 
 unfoldable pub columnFree : List Stop → Bus → ℕ → ℕ → ℕ → Bool
-columnFree stops bus p lane x = unclaimed stops p lane x && not (any (brickNear p lane x) (bus .bricks))
+columnFree stops bus p lane x = unclaimed stops p lane x && not (any (rerouterNear p lane x) (bus .rerouters))
 
 -- Stops stand in the order of the taps, one for each new row: the newest so far is that of the tap's row, and the others are those before that row.
 abbrev pub levelHere : List Stop → Level
@@ -54,8 +54,8 @@ module _ (b : Board) (ts : List Tap) (ps : List PageLanes) where
       elim (placed b (source t) && not (any (λ u. not (ltb (xOf b (source t)) (u .x))) (tapsIn b ts (t .group)))) [ true ↦ 3 | false ↦ 1 ]
 
   -- R2, R3: a head, link or tap at x in the column of the tap's lane.
-  unfoldable pub laneBrick : Tap → ℕ → ℕ → ℕ → Brick
-  laneBrick t x rotation part =
+  unfoldable pub laneRerouter : Tap → ℕ → ℕ → ℕ → Rerouter
+  laneRerouter t x rotation part =
       record {
         x = x;
         y = laneY (minYOf b (t .page)) (getD ps (t .page) noLanes .count) (laneFor ps t);
@@ -70,43 +70,43 @@ module _ (b : Board) (ts : List Tap) (ps : List PageLanes) where
       }
 
   -- R5: a head, at the source anchor's x.
-  abbrev pub headBrick : Tap → Brick
-  headBrick t = laneBrick t (xOf b (source t)) (chainRotation t) partHead
+  abbrev pub headRerouter : Tap → Rerouter
+  headRerouter t = laneRerouter t (xOf b (source t)) (chainRotation t) partHead
 
   -- R8: a link, just above its tap.
-  abbrev pub linkBrick : Tap → ℕ → Brick
-  linkBrick t level = laneBrick t (level + REROUTER_SIZE) (chainRotation t) partLink
+  abbrev pub linkRerouter : Tap → ℕ → Rerouter
+  linkRerouter t level = laneRerouter t (level + REROUTER_SIZE) (chainRotation t) partLink
 
   -- R9: a tap, at its level.
-  abbrev pub tapBrick : Tap → ℕ → Brick
-  tapBrick t level = laneBrick t level 0 partTap
+  abbrev pub tapRerouter : Tap → ℕ → Rerouter
+  tapRerouter t level = laneRerouter t level 0 partTap
 
   -- R3: a rerouter beside a row of the tap's page.
-  unfoldable pub rowBrick : Tap → ℕ → ℕ → ℕ → ℕ → ℕ → ℕ → Brick
-  rowBrick t r x y rotation role part =
+  unfoldable pub rowRerouter : Tap → ℕ → ℕ → ℕ → ℕ → ℕ → ℕ → Rerouter
+  rowRerouter t r x y rotation role part =
       record
       { x = x; y = y; z = zOf b (t .page); rotation = rotation; role = role; part = part; colour = idOf b (source t); page = t .page; lane = MISSING; row = r }
 
   -- R6: a source rerouter, beside the source anchor.
-  abbrev pub sourceBrick : Tap → ℕ → Brick
-  sourceBrick t r = rowBrick t r (xOf b (source t)) (yOf b (source t) - TAP_RESERVE) 2 roleSource partSource
+  abbrev pub sourceRerouter : Tap → ℕ → Rerouter
+  sourceRerouter t r = rowRerouter t r (xOf b (source t)) (yOf b (source t) - TAP_RESERVE) 2 roleSource partSource
 
   -- R10: a gate-side rerouter, beside the tap's target.
-  abbrev pub gateSideBrick : Tap → ℕ → Brick
-  gateSideBrick t level = rowBrick t (t .row) level (t .y - TAP_RESERVE) 0 roleGutter partGateSide
+  abbrev pub gateSideRerouter : Tap → ℕ → Rerouter
+  gateSideRerouter t level = rowRerouter t (t .row) level (t .y - TAP_RESERVE) 0 roleGutter partGateSide
 
-  abbrev pub clearFor : Bus → Brick → Bool
+  abbrev pub clearFor : Bus → Rerouter → Bool
   clearFor bus k = clearOfRow b bus (k .page) (k .row) (rerouterCell (k .x) (k .y))
 
-  -- R12: the emission with a brick placed at a feed, which feeds links and taps from then on; or which is the stop's tap; or which the row's chain ends in.
-  abbrev pub hangOn : Emission → Feed → Brick → Emission
+  -- R12: the emission with a rerouter placed at a feed, which feeds links and taps from then on; or which is the stop's tap; or which the row's chain ends in.
+  abbrev pub hangOn : Emission → Feed → Rerouter → Emission
   hangOn e feed k = record { bus = place (e .bus) feed k; upstream = placedFeed (e .bus) feed; stopTap = e .stopTap; rowEnd = e .rowEnd }
 
-  abbrev pub tapOff : Emission → Brick → Emission
+  abbrev pub tapOff : Emission → Rerouter → Emission
   tapOff e k =
       record { bus = place (e .bus) (e .upstream) k; upstream = e .upstream; stopTap = placedFeed (e .bus) (e .upstream); rowEnd = placedFeed (e .bus) (e .upstream) }
 
-  abbrev pub chainOn : Emission → Brick → Emission
+  abbrev pub chainOn : Emission → Rerouter → Emission
   chainOn e k = record { bus = place (e .bus) (e .rowEnd) k; upstream = e .upstream; stopTap = e .stopTap; rowEnd = placedFeed (e .bus) (e .rowEnd) }
 
   -- R6: a source rerouter, where there is a source row and it is clear of that. It feeds the head.
@@ -114,7 +114,7 @@ module _ (b : Board) (ts : List Tap) (ps : List PageLanes) where
   withSource e t =
       elim (sourceRow b (t .group) (t .page)) [
         | none ↦ e
-        | at r ↦ elim (clearFor (e .bus) (sourceBrick t r)) [ true ↦ hangOn e (e .upstream) (sourceBrick t r) | false ↦ e ]
+        | at r ↦ elim (clearFor (e .bus) (sourceRerouter t r)) [ true ↦ hangOn e (e .upstream) (sourceRerouter t r) | false ↦ e ]
       ]
 
   -- R5: a group begins at its port, with a head where the source is placed and the span there unclaimed.
@@ -122,23 +122,23 @@ module _ (b : Board) (ts : List Tap) (ps : List PageLanes) where
   startGroup stops e t =
       let e′ : Emission = record { bus = e .bus; upstream = portFeed b (t .group); stopTap = e .stopTap; rowEnd = e .rowEnd } in
       elim (placed b (source t) && columnFree stops (e .bus) (t .page) (laneFor ps t) (xOf b (source t)))
-      [ true ↦ let s = withSource e′ t in hangOn s (s .upstream) (headBrick t) | false ↦ e′ ]
+      [ true ↦ let s = withSource e′ t in hangOn s (s .upstream) (headRerouter t) | false ↦ e′ ]
 
   -- R8: a link, unless its span is claimed.
   unfoldable pub withLink : List Stop → Emission → Tap → ℕ → Emission
   withLink stops e t level =
       elim (columnFree stops (e .bus) (t .page) (laneFor ps t) (level + REROUTER_SIZE))
-      [ true ↦ hangOn e (e .upstream) (linkBrick t level) | false ↦ e ]
+      [ true ↦ hangOn e (e .upstream) (linkRerouter t level) | false ↦ e ]
 
   -- R7: a level of its own has a link and a tap; one taken over goes by the tap of the stop it was taken from.
   unfoldable pub startRow : List Stop → Emission → Tap → Level → Emission
   startRow stops e t dropped = e
   startRow stops e t (shared level) = record { bus = e .bus; upstream = e .upstream; stopTap = e .stopTap; rowEnd = e .stopTap }
-  startRow stops e t (own level) = tapOff (withLink stops e t level) (tapBrick t level)
+  startRow stops e t (own level) = tapOff (withLink stops e t level) (tapRerouter t level)
 
   -- R10: it is placed if it is clear of the row.
   unfoldable pub withGateSide : Emission → Tap → ℕ → Emission
-  withGateSide e t level = elim (clearFor (e .bus) (gateSideBrick t level)) [ true ↦ chainOn e (gateSideBrick t level) | false ↦ e ]
+  withGateSide e t level = elim (clearFor (e .bus) (gateSideRerouter t level)) [ true ↦ chainOn e (gateSideRerouter t level) | false ↦ e ]
 
   -- R11: a tap's delivery, in a new column after the gate-side rerouter.
   unfoldable pub serve : Emission → Tap → Bool → ℕ → Emission

@@ -35,7 +35,7 @@ fitsPlan rerouters busWires ports answers work b =
 
 -- A bus, and u more corners, fit into what is lent for a board.
 pub record Room (b : Board) (bus : Bus) (u : ℕ) : Type 0 where
-  pub bricks : length (bus .bricks) + u ≤ reroutersFor b
+  pub rerouters : length (bus .rerouters) + u ≤ reroutersFor b
   pub wires : length (bus .wires) + 2 * u ≤ busWiresFor b
   pub ports : length (bus .ports) + u ≤ portsFor b
 

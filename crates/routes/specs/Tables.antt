@@ -1,5 +1,5 @@
 -- How the code holds stops, rerouters and bus wires in tables of rows of numbers. Of the rules only P8 stands here.
-use Prim.Native.Nat.{ℕ, zero, suc, _+_, _<_}
+use Prim.Native.Nat.{ℕ, zero, suc, _+_}
 use mathlib.Core.Path.{_≡_}
 use mathlib.Core.Bool.{Bool, true, false}
 use mathlib.Core.List.{List, [], _∷_, List·Memᴰ, map}
@@ -8,7 +8,7 @@ use lib.ListN.{length, getD, set}
 use Rattle.base.specs.Lists.{least, greatest}
 use Rattle.board.specs.Board.{Board, field}
 use Rattle.board.specs.Groups.{Tap, tapsIn}
-use Rattle.board.specs.Demands.{PageLanes, laneOf, noLanes}
+use Rattle.board.specs.Demands.{PageLanes, laneOf}
 use Rattle.board.specs.Tables.{held}
 use Rattle.routes.specs.Levels.{Level, dropped, shared, own, Stop}
 
@@ -37,7 +37,3 @@ pub record GroupFacts (b : Board) (ts : List Tap) (ps : List PageLanes) (facts :
   pub lanes : (t : Tap) → List·Memᴰ t ts → field facts (t .group) 4 ≡ held (laneOf ps (t .page) (t .group))
   pub lows : (t : Tap) → List·Memᴰ t ts → field facts (t .group) 5 ≡ least 0 (map (λ u. u .x) (tapsIn b ts (t .group)))
   pub highs : (t : Tap) → List·Memᴰ t ts → field facts (t .group) 6 ≡ greatest 0 (map (λ u. u .x) (tapsIn b ts (t .group)))
-
--- Facts of the pages: column 0 is the count of lanes.
-pub record PageFacts (ps : List PageLanes) (facts : List (List ℕ)) : Type 0 where
-  pub counts : (p : ℕ) → p < length ps → field facts p 0 ≡ getD ps p noLanes .count

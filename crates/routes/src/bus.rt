@@ -9,7 +9,7 @@ ghost use mathlib.Core.Path.{_≡_};
 ghost use Prim.Native.Nat.{_+_, _<_};
 ghost use lib.ListN.{length};
 ghost use Rattle.routes.specs.Buffers.{outward as outwardOf};
-ghost use Rattle.routes.specs.Holding.{endNode, endPort, RoomForBrick, RoomForWire, Placing, Delivering};
+ghost use Rattle.routes.specs.Holding.{endNode, endPort, RoomForRerouter, RoomForWire, Placing, Delivering};
 
 // What a bus wire leaves.
 pub enum End {
@@ -24,7 +24,7 @@ pub struct Feed {
 }
 
 // A rerouter, its coordinates as held.
-pub struct Brick {
+pub struct Rerouter {
     pub x: u32,
     pub y: u32,
     pub z: u32,
@@ -43,7 +43,15 @@ pub struct BusCount {
     pub wires: usize,
 }
 
-// The bus after a brick, and the feed of that brick.
+// How many rerouters, bus wires and suppressed ports a bus has in the buffers.
+#[repr(C)]
+pub struct BusCounts {
+    pub rerouters: usize,
+    pub bus_wires: usize,
+    pub ports: usize,
+}
+
+// The bus after a rerouter, and the feed of that rerouter.
 pub struct Placed {
     pub count: BusCount,
     pub feed: Feed,
@@ -75,33 +83,33 @@ fn end_port(end: End) -> u32
     }
 }
 
-// R13: a brick, and in the same step the bus wire that feeds it. Its depth is one more than its feeder's.
+// R13: a rerouter, and in the same step the bus wire that feeds it. Its depth is one more than its feeder's.
 pub fn push_bus_node(
     rerouters: &mut [RerouterRow],
     bus_wires: &mut [BusWireRow],
     count: BusCount,
     feed: Feed,
-    brick: Brick,
+    new: Rerouter,
 ) -> Placed
-    requires { ⌜ RoomForBrick (now rerouters) (now «bus_wires») count feed ⌝ }
-    ensures { λ r. ⌜ Placing (now (rerouters .entry)) (now («bus_wires» .entry)) count feed brick r (now (rerouters .exit)) (now («bus_wires» .exit)) ⌝ }
+    requires { ⌜ RoomForRerouter (now rerouters) (now «bus_wires») count feed ⌝ }
+    ensures { λ r. ⌜ Placing (now (rerouters .entry)) (now («bus_wires» .entry)) count feed new r (now (rerouters .exit)) (now («bus_wires» .exit)) ⌝ }
 {
     let n = count.rerouters;
     let w = count.wires;
     let number = n as u32;
     let end = feed.end;
-    let colour = brick.colour;
+    let colour = new.colour;
     rerouters[n] = [
-        outward(brick.x),
-        outward(brick.y),
-        outward(brick.z),
-        brick.rotation,
-        brick.role,
-        brick.part,
+        outward(new.x),
+        outward(new.y),
+        outward(new.z),
+        new.rotation,
+        new.role,
+        new.part,
         colour.0,
-        brick.page,
-        brick.lane,
-        brick.row,
+        new.page,
+        new.lane,
+        new.row,
     ];
     bus_wires[w] = [
         end_node(end),

@@ -67,19 +67,19 @@ module _ (c : Column) (before : Bool) (n : Scanned) where
       go true = refl
       go false = refl
 
-  pub cell-missing : (end : ℕ) → n ≡ Missing end → allowed (c .gap) before true ≡ true → Holds MISSING ≡ cellOf c before (numberIn n)
+  pub cell-missing : n ≡ Missing → allowed (c .gap) before true ≡ true → Holds MISSING ≡ cellOf c before (numberIn n)
   unfolding present
-  cell-missing end e a = rw e (cell-allowed c before missing a)
+  cell-missing e a = rw e (cell-allowed c before missing a)
 
-  pub cell-plus : (v end : ℕ) → n ≡ Plus v end → allowed (c .gap) before false ≡ true
+  pub cell-plus : (v : ℕ) → n ≡ Plus v → allowed (c .gap) before false ≡ true
       → within (c .low) (c .high) true (c .origin + v) ≡ cellOf c before (numberIn n)
   unfolding present
-  cell-plus v end e a = rw e (cell-allowed c before (plus v) a)
+  cell-plus v e a = rw e (cell-allowed c before (plus v) a)
 
-  pub cell-minus : (v end : ℕ) → n ≡ Minus v end → allowed (c .gap) before false ≡ true
+  pub cell-minus : (v : ℕ) → n ≡ Minus v → allowed (c .gap) before false ≡ true
       → within (c .low) (c .high) (leb v (c .origin)) (c .origin - v) ≡ cellOf c before (numberIn n)
   unfolding present
-  cell-minus v end e a = rw e (cell-allowed c before (minus v) a)
+  cell-minus v e a = rw e (cell-allowed c before (minus v) a)
 
   pub cell-refused : (gone : Bool) → isMissing (numberIn n) ≡ gone → allowed (c .gap) before gone ≡ false → Malformed ≡ cellOf c before (numberIn n)
   cell-refused gone e a = cell-not c before (numberIn n) (rw e a)

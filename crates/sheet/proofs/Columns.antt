@@ -1,17 +1,15 @@
 -- The columns of all sections in one table, and a section's part of it.
 use mathlib.Core.Path.{_≡_, refl, sym, _∙_, ap, subst}
-use mathlib.Core.Bool.{Bool, true, false, _&&_, cond}
-use mathlib.Core.Logic.{inl, inr}
+use mathlib.Core.Bool.{Bool, true, false, _&&_}
 use mathlib.Core.List.{List, [], _∷_, map}
 use Prim.Native.Nat.{ℕ, zero, suc, _+_, _-_, _≤_, _<_}
 use native.Mathlib.Omega.{arith}
 use lib.Dec.{leb, ltb}
-use lib.ListN.{length, getD, take, drop}
+use lib.ListN.{length, getD}
 use lib.Seq.{slice, slice-cons, slice-empty}
-use borrow.Author.Tests.{leb-true, ltb-true, ltb-false, lt-ltb, le-ltb}
-use Rattle.sheet.specs.Text.{TAB, NEWLINE}
+use borrow.Author.Tests.{leb-true, ltb-true, ltb-false}
 use Rattle.sheet.specs.Table.{Column, SECTIONS, columnsOf, id}
-use Rattle.sheet.specs.Walk.{Separator, separatorAt, columnRow, columnIn, allColumns, columnRows, firstColumn}
+use Rattle.sheet.specs.Walk.{separatorAt, columnRow, columnIn, allColumns, columnRows, firstColumn}
 use Rattle.sheet.proofs.Tests.{and-left, and-right}
 use Rattle.sheet.proofs.Fields.{sepBefore}
 
@@ -75,10 +73,3 @@ pub ranged : (rows : List (List ℕ)) (i : ℕ) → rows ≡ columnRows → i < 
 unfolding upTo
 ranged rows i e h =
     subst (λ (c : Column). c .origin ≤ c .high) (sym (row-is-column rows i e h)) (up-at allColumns refl i h)
-
-pub separator-fits : (i end : ℕ) → Separator (separatorAt i end)
-separator-fits i end = go (ltb i (end - 1))
-  where
-    go : (b : Bool) → Separator (cond b TAB NEWLINE)
-    go true = inl refl
-    go false = inr refl

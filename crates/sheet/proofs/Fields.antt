@@ -1,158 +1,101 @@
--- Lines and fields of a text, from the field at its front on; and one turn along the fields of a record.
+-- The fields of a line, and one turn along the fields of a record.
 use mathlib.Core.Path.{_≡_, refl, sym, _∙_, ap, subst}
-use mathlib.Core.Bool.{Bool, true, false, _||_}
+use mathlib.Core.Bool.{Bool, true, false, cond}
 use mathlib.Core.List.{List, [], _∷_, _++_}
-use mathlib.Core.Logic.{_⊎_, inl, inr}
-use Prim.Native.Nat.{ℕ, zero, suc, _+_, _-_, _≤_, _<_}
-use native.Mathlib.Nat.{add-suc, suc-add, zero-add}
+use Prim.Native.Nat.{ℕ, suc, _+_, _≤_, _<_}
 use native.Mathlib.Numerals.{add-one}
 use native.Mathlib.Omega.{arith}
-use lib.Dec.{eqb}
-use lib.ListN.{length, drop, set, getD}
+use lib.Dec.{eqb, leb, ltb}
+use lib.ListN.{length, drop, set, getD, drop-of-length-le, length-drop, length-append}
 use lib.Seq.{drop-drop, getD-set-other}
-use borrow.Author.Tests.{eq-eqb, ne-eqb, eqb-true, eqb-false}
+use borrow.Author.Tests.{eqb-true, le-ltb, lt-ltb, le-leb, lt-leb, ltb-true, ltb-false}
 use Rattle.sheet.specs.declared.line.Cell.{Cell}
 use Rattle.sheet.specs.declared.line.Cell.the-variants.{Holds, OutOfRange, Malformed}
-use Rattle.sheet.specs.Text.{TAB, NEWLINE, onFirst, parts, firstPart, lineOf, fieldOf}
 use Rattle.sheet.specs.declared.number.Scanned.{Scanned}
-use Rattle.sheet.specs.Number.{Number, bad, missing, plus, minus, number}
+use Rattle.sheet.specs.Text.{TAB, NEWLINE, parts, partOf, lineOf}
+use Rattle.sheet.specs.Number.{bad, number}
 use Rattle.sheet.specs.Table.{Column}
 use Rattle.sheet.specs.Record.{Line, unread, row, isMissing, allowed, present, cellOf, fieldsRead}
-use Rattle.sheet.specs.Walk.{startsWith, endedBy, ifEnded, ended, fieldsOf, fieldsFrom, lineEnd, scannedFrom, scannedTo, numberIn, endIn, isMalformed, fitsAfter, rowAfter}
-use Rattle.sheet.proofs.Tests.{or-false-left, or-false-right}
-use Rattle.sheet.proofs.Numbers.{starts-inside, ends, field-ends, field-goes, ended-true, ended-false}
+use Rattle.sheet.specs.Walk.{has, ended, fieldsOf, fieldsFrom, lineEnd, numberIn, isMalformed, fitsAfter, rowAfter}
+use Rattle.sheet.proofs.Parts.{Cut, whole, cut, cut-at, has-goes, has-append, has-there, drop-past, parts-free, parts-cut, parts-some, part-free, part-cut, part-goes, part-past}
+use Rattle.sheet.proofs.Numbers.{number-broken}
 
--- the first part, and the parts after it, one byte further
-first-goes : (s b : ℕ) (t : List ℕ) → eqb b s ≡ false → firstPart (parts s (b ∷ t)) ≡ b ∷ firstPart (parts s t)
-unfolding parts firstPart onFirst
-first-goes s b t e = rw (e, parts) (go (parts s t))
+-- The front of a text up to its first tab or byte 10: there is none of them, byte 10 ends a line of one field, or a tab ends a field.
+pub data Front : List ℕ → Type 0 where
+  none : (t : List ℕ) → has TAB t ≡ false → has NEWLINE t ≡ false → Front t
+  only : (f u : List ℕ) → has TAB f ≡ false → has NEWLINE f ≡ false → Front (f ++ NEWLINE ∷ u)
+  tabbed : (f u : List ℕ) → has TAB f ≡ false → has NEWLINE f ≡ false → Front (f ++ TAB ∷ u)
+
+pub front-of : (t : List ℕ) → Front t
+unfolding has
+front-of [] = none [] refl refl
+front-of (b ∷ t) = go (eqb b TAB) refl (eqb b NEWLINE) refl (front-of t)
   where
-    go : (l : List (List ℕ)) → firstPart (onFirst b l) ≡ b ∷ firstPart l
-    go [] = refl
-    go (p ∷ ps) = refl
+    go : {t : List ℕ} (x : Bool) → eqb b TAB ≡ x → (y : Bool) → eqb b NEWLINE ≡ y → Front t → Front (b ∷ t)
+    go {t} true e y f r = subst (λ (z : ℕ). Front (z ∷ t)) (sym (eqb-true b TAB e)) (tabbed [] t refl refl)
+    go {t} false e true f r = subst (λ (z : ℕ). Front (z ∷ t)) (sym (eqb-true b NEWLINE f)) (only [] t refl refl)
+    go false e false f (none t p q) = none (b ∷ t) (has-goes TAB b t e p) (has-goes NEWLINE b t f q)
+    go false e false f (only g u p q) = only (b ∷ g) u (has-goes TAB b g e p) (has-goes NEWLINE b g f q)
+    go false e false f (tabbed g u p q) = tabbed (b ∷ g) u (has-goes TAB b g e p) (has-goes NEWLINE b g f q)
 
-pub parts-some : (s : ℕ) (t : List ℕ) → parts s t ≡ firstPart (parts s t) ∷ drop 1 (parts s t)
-unfolding parts firstPart onFirst
-parts-some s [] = refl
-parts-some s (b ∷ t) = go (eqb b s) refl (parts s t)
-  where
-    put : (l : List (List ℕ)) → onFirst b l ≡ firstPart (onFirst b l) ∷ drop 1 (onFirst b l)
-    put [] = refl
-    put (p ∷ ps) = refl
+-- The fields of each.
 
-    go : (x : Bool) → eqb b s ≡ x → (l : List (List ℕ)) → parts s (b ∷ t) ≡ firstPart (parts s (b ∷ t)) ∷ drop 1 (parts s (b ∷ t))
-    go true e l = rw (e, parts)
-    go false e l = rw (e, parts) (put (parts s t))
+pub fields-only : (f u : List ℕ) → has TAB f ≡ false → has NEWLINE f ≡ false → fieldsOf (f ++ NEWLINE ∷ u) ≡ f ∷ []
+unfolding fieldsOf lineOf
+fields-only f u p q = ap (parts TAB) (part-cut NEWLINE f u q) ∙ parts-free TAB f p
 
--- lines, one byte further
+-- up to the next tab, such a line goes on past its byte 10
+pub only-field : (f u : List ℕ) → has TAB f ≡ false → partOf TAB (f ++ NEWLINE ∷ u) ≡ f ++ NEWLINE ∷ partOf TAB u
+only-field f u p = part-past TAB f (NEWLINE ∷ u) p ∙ ap (λ (l : List ℕ). f ++ l) (part-goes TAB NEWLINE u refl)
 
-pub line-ends : (t : List ℕ) → lineOf (NEWLINE ∷ t) ≡ []
-unfolding lineOf parts firstPart
-line-ends t = refl
+module _ (f u : List ℕ) (q : has NEWLINE f ≡ false) where
+  line-tabbed : lineOf (f ++ TAB ∷ u) ≡ f ++ TAB ∷ lineOf u
+  unfolding lineOf
+  line-tabbed = part-past NEWLINE f (TAB ∷ u) q ∙ ap (λ (l : List ℕ). f ++ l) (part-goes NEWLINE TAB u refl)
 
-pub line-goes : (b : ℕ) (t : List ℕ) → eqb b NEWLINE ≡ false → lineOf (b ∷ t) ≡ b ∷ lineOf t
+  pub ended-tabbed : ended (f ++ TAB ∷ u) ≡ ended u
+  unfolding has
+  ended-tabbed = has-append NEWLINE f (TAB ∷ u) ∙ rw q
+
+  pub fields-tabbed : has TAB f ≡ false → fieldsOf (f ++ TAB ∷ u) ≡ f ∷ fieldsOf u
+  unfolding fieldsOf
+  fields-tabbed p = ap (parts TAB) line-tabbed ∙ parts-cut TAB f (lineOf u) p
+
+  pub end-tabbed : (at : ℕ) → lineEnd at (f ++ TAB ∷ u) ≡ lineEnd (suc (at + length f)) u
+  end-tabbed at = omega (arith, ap length line-tabbed, length-append f (TAB ∷ lineOf u))
+
+-- no field has a byte that parts fields or lines
+tab-broken : (a b : List ℕ) → number (a ++ TAB ∷ b) ≡ bad
+tab-broken a b = number-broken TAB refl refl a b
+
+newline-broken : (a b : List ℕ) → number (a ++ NEWLINE ∷ b) ≡ bad
+newline-broken a b = number-broken NEWLINE refl refl a b
+
+tabbed-broken : (f u : List ℕ) → has NEWLINE f ≡ false → number (partOf NEWLINE (f ++ TAB ∷ u)) ≡ bad
 unfolding lineOf
-line-goes b t e = first-goes NEWLINE b t e
+tabbed-broken f u q = ap number (line-tabbed f u q) ∙ tab-broken f (lineOf u)
 
-pub ended-goes : (b : ℕ) (t : List ℕ) → eqb b NEWLINE ≡ false → ended (b ∷ t) ≡ ended t
-unfolding ended
-ended-goes b t e = rw (e, ended)
-
--- the fields of a line, one byte further
-
-fields-tab : (t : List ℕ) → fieldsOf (TAB ∷ t) ≡ [] ∷ fieldsOf t
-unfolding fieldsOf parts
-fields-tab t = rw (line-goes TAB t refl)
-
-fields-end : (t : List ℕ) → fieldsOf (NEWLINE ∷ t) ≡ [] ∷ []
-unfolding fieldsOf parts
-fields-end t = rw (line-ends t)
-
-fields-goes : (b : ℕ) (t : List ℕ) → ends b ≡ false → fieldsOf (b ∷ t) ≡ onFirst b (fieldsOf t)
-unfolding fieldsOf parts
-fields-goes b t e =
-    rw (line-goes b t (or-false-right (eqb b TAB) (eqb b NEWLINE) e)) (rw (or-false-left (eqb b TAB) (eqb b NEWLINE) e, parts))
-
-pub fields-some : (t : List ℕ) → fieldsOf t ≡ firstPart (fieldsOf t) ∷ drop 1 (fieldsOf t)
+fields-some : (u : List ℕ) → fieldsOf u ≡ partOf TAB (lineOf u) ∷ drop 1 (fieldsOf u)
 unfolding fieldsOf
-fields-some t = parts-some TAB (lineOf t)
-
--- What stands after the field at the front of a text.
-
--- a byte that ends a field is a tab or byte 10
-pub ends-which : (b : ℕ) → ends b ≡ true → (b ≡ TAB) ⊎ (b ≡ NEWLINE)
-ends-which b e = go (eqb b TAB) refl e
-  where
-    go : (x : Bool) → eqb b TAB ≡ x → (x || eqb b NEWLINE) ≡ true → (b ≡ TAB) ⊎ (b ≡ NEWLINE)
-    go true p e = inl (eqb-true b TAB p)
-    go false p e = inr (eqb-true b NEWLINE e)
-
--- nothing, a tab, or byte 10
-pub data After (t : List ℕ) : List ℕ → Type 0 where
-  nothing : ended t ≡ false → After t []
-  tab : (u : List ℕ) → fieldsOf t ≡ fieldOf t ∷ fieldsOf u → ended t ≡ ended u → length (lineOf t) ≡ suc (length (fieldOf t) + length (lineOf u)) → After t (TAB ∷ u)
-  newline : (u : List ℕ) → fieldsOf t ≡ fieldOf t ∷ [] → ended t ≡ true → length (lineOf t) ≡ length (fieldOf t) → After t (NEWLINE ∷ u)
-
-further : (b : ℕ) (t : List ℕ) → ends b ≡ false → {u : List ℕ} → After t u → After (b ∷ t) u
-unfolding onFirst
-further b t e (nothing p) = nothing (ended-goes b t (or-false-right (eqb b TAB) (eqb b NEWLINE) e) ∙ p)
-further b t e (tab u f d l) =
-    let n = or-false-right (eqb b TAB) (eqb b NEWLINE) e in
-    tab u (fields-goes b t e ∙ (ap (onFirst b) f ∙ sym (ap (λ (x : List ℕ). x ∷ fieldsOf u) (field-goes b t e)))) (ended-goes b t n ∙ d)
-    (omega (arith, ap length (line-goes b t n), ap length (field-goes b t e)))
-further b t e (newline u f d l) =
-    let n = or-false-right (eqb b TAB) (eqb b NEWLINE) e in
-    newline u (fields-goes b t e ∙ (ap (onFirst b) f ∙ sym (ap (λ (x : List ℕ). x ∷ []) (field-goes b t e)))) (ended-goes b t n ∙ d)
-    (omega (arith, ap length (line-goes b t n), ap length (field-goes b t e)))
-
-pub after-field : (t : List ℕ) → After t (drop (length (fieldOf t)) t)
-unfolding ended fieldOf lineOf parts firstPart
-after-field [] = nothing refl
-after-field (b ∷ t) = go (ends b) refl (after-field t)
-  where
-    stop : (b ≡ TAB) ⊎ (b ≡ NEWLINE) → After (b ∷ t) (b ∷ t)
-    stop (inl e) =
-        subst (λ (x : ℕ). After (x ∷ t) (x ∷ t)) (sym e)
-        (tab t (fields-tab t) (ended-goes TAB t refl) (ap length (line-goes TAB t refl) ∙ ap suc (sym (zero-add (length (lineOf t))))))
-    stop (inr e) = subst (λ (x : ℕ). After (x ∷ t) (x ∷ t)) (sym e) (newline t (fields-end t) refl refl)
-
-    go : (x : Bool) → ends b ≡ x → After t (drop (length (fieldOf t)) t) → After (b ∷ t) (drop (length (fieldOf (b ∷ t))) (b ∷ t))
-    go true e a = rw (field-ends b t e) (stop (ends-which b e))
-    go false e a = rw (field-goes b t e) (further b t e a)
+fields-some u = parts-some TAB (lineOf u)
 
 -- One turn along the fields of a record.
 
--- the byte that ends a field before the columns `cs`
+-- the byte that ends a field before the columns `cs`, that field, and the text behind it
 abbrev pub sepBefore : List Column → ℕ
 sepBefore [] = NEWLINE
 sepBefore (c ∷ cs) = TAB
 
--- a record of which the columns `cs` are left to read, from a text's front on: none left, and the record is whole
-abbrev pub restRead : List Column → List ℕ → (before fits : Bool) (k : ℕ) → List ℕ → Line
-restRead [] t before fits k r = row fits r
-restRead (c ∷ cs) t before fits k r = fieldsFrom (c ∷ cs) t before fits k r
+abbrev pub fieldIn : List Column → List ℕ → List ℕ
+fieldIn cs t = partOf (sepBefore cs) t
 
--- where such a record's next line starts
-abbrev pub endRead : List Column → ℕ → List ℕ → ℕ
-endRead [] at t = at
-endRead (c ∷ cs) at t = lineEnd at t
+abbrev pub past : List Column → List ℕ → List ℕ
+past cs t = drop (suc (length (fieldIn cs t))) t
 
--- what a field leaves of a record
-abbrev pub turn : Cell → List Column → List ℕ → (before fits : Bool) (k : ℕ) → List ℕ → Line
-turn (Holds v) cs t before fits k r = restRead cs t before fits (suc k) (set r k v)
-turn OutOfRange cs t before fits k r = restRead cs t before false (suc k) r
-turn Malformed cs t before fits k r = unread
-
--- the field at the front of a text, where it ends as it should
-abbrev pub here : List Column → List ℕ → Number
-here cs t = ifEnded (sepBefore cs) t (number (fieldOf t))
-
--- the text after that field and the byte that ends it
-abbrev pub past : List ℕ → List ℕ
-past t = drop (suc (length (fieldOf t))) t
-
-past-is : {b : ℕ} {v : List ℕ} (t : List ℕ) (n : ℕ) → drop n t ≡ b ∷ v → drop (suc n) t ≡ v
-past-is t n p = ap (λ (m : ℕ). drop m t) (sym (add-one n)) ∙ (sym (drop-drop 1 n t) ∙ ap (drop 1) p)
+-- a record of which the columns `cs` are left to read, from a text's front on: none left, and the record is whole if its last field was ended
+abbrev pub restRead : List Column → Bool → List ℕ → (before fits : Bool) (k : ℕ) → List ℕ → Line
+restRead [] there t before fits k r = cond there (row fits r) unread
+restRead (c ∷ cs) there t before fits k r = fieldsFrom (c ∷ cs) t before fits k r
 
 bad-malformed : (c : Column) (before : Bool) → cellOf c before bad ≡ Malformed
 unfolding cellOf present
@@ -162,25 +105,35 @@ bad-malformed c before = go (allowed (c .gap) before false)
     go true = refl
     go false = refl
 
+-- nothing can be read, malformed or not
+neither : (b : Bool) → cond b unread unread ≡ unread
+neither true = refl
+neither false = refl
+
 module _ (c : Column) (before fits : Bool) (k : ℕ) (r : List ℕ) where
-  -- too few fields, or too many
-  few : (d : Column) (cs : List Column) (f : List ℕ) → fieldsRead (c ∷ d ∷ cs) (f ∷ []) before fits k r ≡ unread
+  abbrev cell : List ℕ → Cell
+  cell f = cellOf c before (number f)
+
+  -- a field of a record, and those behind it
+  read-one : (cs : List Column) (f : List ℕ) (fs : List (List ℕ)) → fieldsRead (c ∷ cs) (f ∷ fs) before fits k r
+      ≡ cond (isMalformed (cell f)) unread (fieldsRead cs fs (isMissing (number f)) (fitsAfter (cell f) fits) (suc k) (rowAfter (cell f) r k))
   unfolding fieldsRead
-  few d cs f = go (cellOf c before (number f)) refl
+  read-one cs f fs = go (cell f) refl
     where
-      go : (x : Cell) → cellOf c before (number f) ≡ x → fieldsRead (c ∷ d ∷ cs) (f ∷ []) before fits k r ≡ unread
+      go : (x : Cell) → cell f ≡ x → fieldsRead (c ∷ cs) (f ∷ fs) before fits k r
+          ≡ cond (isMalformed (cell f)) unread (fieldsRead cs fs (isMissing (number f)) (fitsAfter (cell f) fits) (suc k) (rowAfter (cell f) r k))
       go (Holds v) e = rw (e, fieldsRead)
       go OutOfRange e = rw (e, fieldsRead)
       go Malformed e = rw (e, fieldsRead)
 
+  -- too few fields, or too many
+  few : (d : Column) (cs : List Column) (f : List ℕ) → fieldsRead (c ∷ d ∷ cs) (f ∷ []) before fits k r ≡ unread
+  unfolding fieldsRead
+  few d cs f = read-one (d ∷ cs) f [] ∙ neither (isMalformed (cell f))
+
   many : (f g : List ℕ) (fs : List (List ℕ)) → fieldsRead (c ∷ []) (f ∷ g ∷ fs) before fits k r ≡ unread
   unfolding fieldsRead
-  many f g fs = go (cellOf c before (number f)) refl
-    where
-      go : (x : Cell) → cellOf c before (number f) ≡ x → fieldsRead (c ∷ []) (f ∷ g ∷ fs) before fits k r ≡ unread
-      go (Holds v) e = rw (e, fieldsRead)
-      go OutOfRange e = rw (e, fieldsRead)
-      go Malformed e = rw (e, fieldsRead)
+  many f g fs = read-one [] f (g ∷ fs) ∙ neither (isMalformed (cell f))
 
   -- a line that does not end in byte 10 can't be read
   unended : (cs : List Column) (t : List ℕ) → ended t ≡ false → fieldsFrom cs t before fits k r ≡ unread
@@ -195,159 +148,151 @@ module _ (c : Column) (before fits : Bool) (k : ℕ) (r : List ℕ) where
       go true n = rw (n, fieldsFrom) (rw p e)
       go false n = unended cs t n
 
-  -- a field that does not end as it should leaves a line that can't be read
-  ill-ended : (cs : List Column) (t : List ℕ) → endedBy (sepBefore cs) t ≡ false → fieldsFrom (c ∷ cs) t before fits k r ≡ unread
-  unfolding endedBy startsWith
-  ill-ended cs t e = go cs (drop (length (fieldOf t)) t) (after-field t) e
+  -- what the field `f` leaves of a record, before the columns `cs` and the text `u`; one that is no number leaves nothing
+  abbrev left : List Column → List ℕ → Bool → List ℕ → Line
+  left cs f there u = cond (isMalformed (cell f)) unread (restRead cs there u (isMissing (number f)) (fitsAfter (cell f) fits) (suc k) (rowAfter (cell f) r k))
+
+  left-bad : (cs : List Column) (f : List ℕ) (there : Bool) (u : List ℕ) → number f ≡ bad → left cs f there u ≡ unread
+  left-bad cs f there u e = rw (ap isMalformed (ap (cellOf c before) e ∙ bad-malformed c before))
+
+  -- The field at the front of a text leaves what it holds, and the rest of the line.
+  abbrev there : List Column → List ℕ → Bool
+  there cs t = ltb (length (fieldIn cs t)) (length t)
+
+  turn-last : (t : List ℕ) → fieldsFrom (c ∷ []) t before fits k r ≡ left [] (fieldIn [] t) (there [] t) (past [] t)
+  unfolding fieldsFrom fieldsRead
+  turn-last t = go (front-of t)
     where
-      go : (cs : List Column) (u : List ℕ) → After t u → startsWith (sepBefore cs) u ≡ false → fieldsFrom (c ∷ cs) t before fits k r ≡ unread
-      go cs u (nothing p) e = unended (c ∷ cs) t p
-      go [] u (tab v f d l) e = from-fields (c ∷ []) t (fieldOf t ∷ firstPart (fieldsOf v) ∷ drop 1 (fieldsOf v)) (f ∙ ap (λ (x : List (List ℕ)). fieldOf t ∷ x) (fields-some v)) (many (fieldOf t) (firstPart (fieldsOf v)) (drop 1 (fieldsOf v)))
-      go (d ∷ cs) u (tab v f q l) e = let z : _≡_ {A = ℕ} 0 1 = cc in absurd (omega arith)
-      go [] u (newline v f q l) e = let z : _≡_ {A = ℕ} 0 1 = cc in absurd (omega arith)
-      go (d ∷ cs) u (newline v f q l) e = from-fields (c ∷ d ∷ cs) t (fieldOf t ∷ []) f (few d cs (fieldOf t))
+      go : {t : List ℕ} → Front t → fieldsFrom (c ∷ []) t before fits k r ≡ left [] (fieldIn [] t) (there [] t) (past [] t)
+      go (none t p q) = unended (c ∷ []) t q ∙ sym (rw (part-free NEWLINE t q, le-ltb (length t) (length t) (omega arith)) (neither (isMalformed (cell t))))
+      go (only f u p q) =
+          let n : length f < length (f ++ NEWLINE ∷ u) = omega (arith, length-append f (NEWLINE ∷ u)) in
+          rw (part-cut NEWLINE f u q, lt-ltb (length f) (length (f ++ NEWLINE ∷ u)) n) (rw (has-there NEWLINE f u, fieldsFrom) (rw (fields-only f u p q) (read-one [] f [])))
+      go (tabbed f u p q) =
+          let t = f ++ TAB ∷ u in
+          let g = partOf TAB (lineOf u) in
+          let gs = drop 1 (fieldsOf u) in
+          from-fields (c ∷ []) t (f ∷ g ∷ gs) (fields-tabbed f u q p ∙ ap (λ (l : List (List ℕ)). f ∷ l) (fields-some u)) (many f g gs)
+          ∙ sym (left-bad [] (partOf NEWLINE t) (there [] t) (past [] t) (tabbed-broken f u q))
 
-  -- one that does leaves what it holds, and the rest of the line
-  well-ended : (cs : List Column) (t : List ℕ) → endedBy (sepBefore cs) t ≡ true
-      → fieldsFrom (c ∷ cs) t before fits k r ≡ turn (cellOf c before (number (fieldOf t))) cs (past t) (isMissing (number (fieldOf t))) fits k r
-  unfolding endedBy startsWith fieldsFrom fieldsRead
-  well-ended cs t e = go cs (drop (length (fieldOf t)) t) refl (after-field t) e
+  turn-more : (d : Column) (cs : List Column) (t : List ℕ) → fieldsFrom (c ∷ d ∷ cs) t before fits k r ≡ left (d ∷ cs) (fieldIn (d ∷ cs) t) (there (d ∷ cs) t) (past (d ∷ cs) t)
+  unfolding fieldsFrom has
+  turn-more d cs t = go (front-of t)
     where
-      Goal : List Column → Type 0
-      Goal cs = fieldsFrom (c ∷ cs) t before fits k r ≡ turn (cellOf c before (number (fieldOf t))) cs (past t) (isMissing (number (fieldOf t))) fits k r
+      go : {t : List ℕ} → Front t → fieldsFrom (c ∷ d ∷ cs) t before fits k r ≡ left (d ∷ cs) (fieldIn (d ∷ cs) t) (there (d ∷ cs) t) (past (d ∷ cs) t)
+      go (none t p q) =
+          unended (c ∷ d ∷ cs) t q ∙ sym (rw (part-free TAB t p, drop-of-length-le t {i = suc (length t)} (omega arith)) (neither (isMalformed (cell t))))
+      go (only f u p q) =
+          let t = f ++ NEWLINE ∷ u in
+          from-fields (c ∷ d ∷ cs) t (f ∷ []) (fields-only f u p q) (few d cs f)
+          ∙ sym (left-bad (d ∷ cs) (partOf TAB t) (there (d ∷ cs) t) (past (d ∷ cs) t) (ap number (only-field f u p) ∙ newline-broken f (partOf TAB u)))
+      go (tabbed f u p q) = rw (part-cut TAB f u p, drop-past f TAB u) (next (ended u) refl)
+        where
+          next : (x : Bool) → ended u ≡ x → fieldsFrom (c ∷ d ∷ cs) (f ++ TAB ∷ u) before fits k r ≡ left (d ∷ cs) f (ltb (length f) (length (f ++ TAB ∷ u))) u
+          next true n = rw (ended-tabbed f u q ∙ n, fieldsFrom) (rw (fields-tabbed f u q p) (read-one (d ∷ cs) f (fieldsOf u) ∙ rw (n, fieldsFrom)))
+          next false n = unended (c ∷ d ∷ cs) (f ++ TAB ∷ u) (ended-tabbed f u q ∙ n) ∙ sym (rw (n, fieldsFrom) (neither (isMalformed (cell f))))
 
-      last : fieldsOf t ≡ fieldOf t ∷ [] → ended t ≡ true → (x : Cell) → cellOf c before (number (fieldOf t)) ≡ x → Goal []
-      last f q (Holds v) e = rw (q, fieldsFrom) (rw f (rw (e, fieldsRead)))
-      last f q OutOfRange e = rw (q, fieldsFrom) (rw f (rw (e, fieldsRead)))
-      last f q Malformed e = rw (q, fieldsFrom) (rw f (rw (e, fieldsRead)))
+  turn-here : (cs : List Column) (t : List ℕ) → fieldsFrom (c ∷ cs) t before fits k r ≡ left cs (fieldIn cs t) (there cs t) (past cs t)
+  turn-here [] t = turn-last t
+  turn-here (d ∷ cs) t = turn-more d cs t
 
-      next : (d : Column) (cs : List Column) → fieldsOf t ≡ fieldOf t ∷ fieldsOf (past t) → ended t ≡ ended (past t)
-          → (x : Cell) → cellOf c before (number (fieldOf t)) ≡ x → (y : Bool) → ended (past t) ≡ y → Goal (d ∷ cs)
-      next d cs f q (Holds v) e true n = rw (q ∙ n, fieldsFrom) (rw f (rw (e, fieldsRead) (rw (n, fieldsFrom))))
-      next d cs f q OutOfRange e true n = rw (q ∙ n, fieldsFrom) (rw f (rw (e, fieldsRead) (rw (n, fieldsFrom))))
-      next d cs f q Malformed e true n = rw (q ∙ n, fieldsFrom) (rw f (rw (e, fieldsRead)))
-      next d cs f q (Holds v) e false n = rw (q ∙ n, fieldsFrom) (rw e (rw (n, fieldsFrom)))
-      next d cs f q OutOfRange e false n = rw (q ∙ n, fieldsFrom) (rw e (rw (n, fieldsFrom)))
-      next d cs f q Malformed e false n = rw (q ∙ n, fieldsFrom) (rw e)
+-- The same turn as the code takes it: what `number_of` and `cell_of` found in the field at a place of a text, and how long it is.
 
-      go : (cs : List Column) (u : List ℕ) → drop (length (fieldOf t)) t ≡ u → After t u → startsWith (sepBefore cs) u ≡ true → Goal cs
-      go cs u p (nothing q) e = let z : _≡_ {A = ℕ} 0 1 = cc in absurd (omega arith)
-      go [] u p (tab v f q l) e = let z : _≡_ {A = ℕ} 0 1 = cc in absurd (omega arith)
-      go (d ∷ cs) u p (tab v f q l) e =
-          let here = past-is t (length (fieldOf t)) p in
-          next d cs (rw here f) (rw here q) (cellOf c before (number (fieldOf t))) refl (ended (past t)) refl
-      go [] u p (newline v f q l) e = last f q (cellOf c before (number (fieldOf t))) refl
-      go (d ∷ cs) u p (newline v f q l) e = let z : _≡_ {A = ℕ} 0 1 = cc in absurd (omega arith)
+-- whether the record's end is known: byte 10 is still to come, or the last field was ended
+abbrev pub Open : List Column → List ℕ → ℕ → Type 0
+Open [] text next = next ≤ length text
+Open (c ∷ cs) text next = ended (drop next text) ≡ true
 
-  pub turn-here : (cs : List Column) (t : List ℕ)
-      → fieldsFrom (c ∷ cs) t before fits k r ≡ turn (cellOf c before (here cs t)) cs (past t) (isMissing (here cs t)) fits k r
-  turn-here cs t = go (endedBy (sepBefore cs) t) refl
-    where
-      go : (b : Bool) → endedBy (sepBefore cs) t ≡ b
-          → fieldsFrom (c ∷ cs) t before fits k r ≡ turn (cellOf c before (here cs t)) cs (past t) (isMissing (here cs t)) fits k r
-      go true e = rw (ended-true (sepBefore cs) t (number (fieldOf t)) e) (well-ended cs t e)
-      go false e = rw (ended-false (sepBefore cs) t (number (fieldOf t)) e) (rw (bad-malformed c before) (ill-ended cs t e))
+-- where such a record's next line starts
+abbrev pub endRead : List Column → ℕ → List ℕ → ℕ
+endRead [] at t = at
+endRead (c ∷ cs) at t = lineEnd at t
 
--- where the next line starts, after one field more
-pub end-here : (cs : List Column) (at : ℕ) (t : List ℕ) → endedBy (sepBefore cs) t ≡ true → lineEnd at t ≡ endRead cs (suc (at + length (fieldOf t))) (past t)
-unfolding endedBy startsWith
-end-here cs at t e = go cs (drop (length (fieldOf t)) t) refl (after-field t) e
+-- a text with more in it than its first line has a byte 10
+ended-part : (t : List ℕ) → length (lineOf t) < length t → ended t ≡ true
+unfolding lineOf
+ended-part t h = go (cut-at NEWLINE t) h
   where
-    go : (cs : List Column) (u : List ℕ) → drop (length (fieldOf t)) t ≡ u → After t u → startsWith (sepBefore cs) u ≡ true
-        → lineEnd at t ≡ endRead cs (suc (at + length (fieldOf t))) (past t)
-    go cs u p (nothing q) e = let z : _≡_ {A = ℕ} 0 1 = cc in absurd (omega arith)
-    go [] u p (tab v f q l) e = let z : _≡_ {A = ℕ} 0 1 = cc in absurd (omega arith)
-    go (d ∷ cs) u p (tab v f q l) e = rw (past-is t (length (fieldOf t)) p) (omega arith)
-    go [] u p (newline v f q l) e = omega arith
-    go (d ∷ cs) u p (newline v f q l) e = let z : _≡_ {A = ℕ} 0 1 = cc in absurd (omega arith)
+    go : {t : List ℕ} → Cut NEWLINE t → length (partOf NEWLINE t) < length t → ended t ≡ true
+    go (whole t e) h = absurd (omega (arith, h, ap length (part-free NEWLINE t e)))
+    go (cut f u e) h = has-there NEWLINE f u
 
--- a number was read, so the field ends as it should
-pub here-ended : (cs : List Column) (t : List ℕ) → (here cs t ≡ bad → ⊥) → endedBy (sepBefore cs) t ≡ true
-here-ended cs t n = go (endedBy (sepBefore cs) t) refl
+-- a field that is a number, with more of its line behind it, is ended by a tab
+ended-field : (at : ℕ) (t : List ℕ) → (number (partOf TAB t) ≡ bad → ⊥) → ended (drop (suc (length (partOf TAB t))) t) ≡ true
+    → (ended t ≡ true) × (lineEnd at t ≡ lineEnd (suc (at + length (partOf TAB t))) (drop (suc (length (partOf TAB t))) t))
+unfolding has
+ended-field at t n o = go (front-of t) n o
   where
-    go : (b : Bool) → endedBy (sepBefore cs) t ≡ b → endedBy (sepBefore cs) t ≡ true
-    go true e = e
-    go false e = absurd (n (ended-false (sepBefore cs) t (number (fieldOf t)) e))
+    go : {t : List ℕ} → Front t → (number (partOf TAB t) ≡ bad → ⊥) → ended (drop (suc (length (partOf TAB t))) t) ≡ true
+        → (ended t ≡ true) × (lineEnd at t ≡ lineEnd (suc (at + length (partOf TAB t))) (drop (suc (length (partOf TAB t))) t))
+    go (none t p q) n o =
+        let no : false ≡ true = ap ended (sym (drop-of-length-le t {i = suc (length (partOf TAB t))} (omega (arith, ap length (part-free TAB t p))))) ∙ o in
+        let z : _≡_ {A = ℕ} 0 1 = cc in
+        absurd (omega arith)
+    go (only f u p q) n o = absurd (n (ap number (only-field f u p) ∙ newline-broken f (partOf TAB u)))
+    go (tabbed f u p q) n o =
+        let here = part-cut TAB f u p in
+        let behind : ended u ≡ true = rw (here, drop-past f TAB u) at o in
+        (ended-tabbed f u q ∙ behind, rw (here, drop-past f TAB u) (end-tabbed f u q at))
 
--- The same turn as the code takes it: what `number_at` and `cell_of` found, at a place of a text.
+opens : (cs : List Column) (text : List ℕ) (at next : ℕ) → next ≡ at + length (fieldIn cs (drop at text)) + 1 → (number (fieldIn cs (drop at text)) ≡ bad → ⊥)
+    → past cs (drop at text) ≡ drop next text → Open cs text next → (ended (drop at text) ≡ true) × (lineEnd at (drop at text) ≡ endRead cs next (drop next text))
+unfolding lineOf
+opens [] text at next e n p o = (ended-part (drop at text) (omega (arith, e, o, length-drop at text)), omega arith)
+opens (d ∷ cs) text at next e n p o =
+    let x = ended-field at (drop at text) n (ap ended p ∙ o) in
+    (x .0, x .1 ∙ rw (p, e, add-one (at + length (partOf TAB (drop at text)))))
 
-scanned-number : (at sep : ℕ) (t : List ℕ) → numberIn (scannedFrom at sep t) ≡ ifEnded sep t (number (fieldOf t))
-unfolding scannedFrom scannedTo
-scanned-number at sep t = go (ifEnded sep t (number (fieldOf t)))
-  where
-    go : (n : Number) → numberIn (scannedTo (at + length (fieldOf t)) n) ≡ n
-    go bad = refl
-    go missing = refl
-    go (plus v) = refl
-    go (minus v) = refl
-
-scanned-end : (at sep : ℕ) (t : List ℕ) → (ifEnded sep t (number (fieldOf t)) ≡ bad → ⊥) → endIn (scannedFrom at sep t) ≡ at + length (fieldOf t)
-unfolding scannedFrom scannedTo
-scanned-end at sep t n = go (ifEnded sep t (number (fieldOf t))) n
-  where
-    go : (m : Number) → (m ≡ bad → ⊥) → endIn (scannedTo (at + length (fieldOf t)) m) ≡ at + length (fieldOf t)
-    go bad n = absurd (n refl)
-    go missing n = refl
-    go (plus v) n = refl
-    go (minus v) n = refl
-
-module _ (col : Column) (cs : List Column) (before fits : Bool) (k : ℕ) (r : List ℕ) (text : List ℕ) (next : ℕ) (n : Scanned) (held : Cell)
-    (scanned : n ≡ scannedFrom next (sepBefore cs) (drop next text)) (cell : held ≡ cellOf col before (numberIn n)) where
+module _ (col : Column) (cs : List Column) (before fits : Bool) (k : ℕ) (r : List ℕ) (text : List ℕ) (at : ℕ) (n : Scanned) (held : Cell) (next : ℕ)
+    (scanned : numberIn n ≡ number (fieldIn cs (drop at text))) (cell : held ≡ cellOf col before (numberIn n)) (behind : next ≡ at + length (fieldIn cs (drop at text)) + 1) where
   abbrev front : List ℕ
-  front = drop next text
+  front = drop at text
 
-  read-here : numberIn n ≡ here cs front
-  read-here = ap numberIn scanned ∙ scanned-number next (sepBefore cs) front
+  past-place : past cs front ≡ drop next text
+  past-place =
+      let e : at + suc (length (fieldIn cs front)) ≡ next = omega arith in
+      drop-drop (suc (length (fieldIn cs front))) at text ∙ ap (λ (j : ℕ). drop j text) e
 
-  turned : fieldsFrom (col ∷ cs) front before fits k r ≡ turn held cs (past front) (isMissing (numberIn n)) fits k r
-  turned = rw (cell, read-here) (turn-here col before fits k r cs front)
+  there-place : ltb (length (fieldIn cs front)) (length front) ≡ leb next (length text)
+  there-place = go (ltb (length (fieldIn cs front)) (length front)) refl
+    where
+      m : ℕ
+      m = length (fieldIn cs front)
+
+      go : (b : Bool) → ltb m (length front) ≡ b → b ≡ leb next (length text)
+      go true e = sym (le-leb next (length text) (omega (arith, ltb-true m (length front) e, length-drop at text)))
+      go false e = sym (lt-leb next (length text) (omega (arith, ltb-false m (length front) e, length-drop at text)))
+
+  turned : fieldsFrom (col ∷ cs) front before fits k r
+      ≡ cond (isMalformed held) unread (restRead cs (leb next (length text)) (drop next text) (isMissing (numberIn n)) (fitsAfter held fits) (suc k) (rowAfter held r k))
+  turned = rw (sym past-place, sym there-place, cell, scanned) (turn-here col before fits k r cs front)
 
   pub turn-malformed : isMalformed held ≡ true → fieldsFrom (col ∷ cs) front before fits k r ≡ unread
-  turn-malformed m = turned ∙ go held m
-    where
-      go : (x : Cell) → isMalformed x ≡ true → turn x cs (past front) (isMissing (numberIn n)) fits k r ≡ unread
-      go (Holds v) m = let z : _≡_ {A = ℕ} 0 1 = cc in absurd (omega arith)
-      go OutOfRange m = let z : _≡_ {A = ℕ} 0 1 = cc in absurd (omega arith)
-      go Malformed m = refl
+  turn-malformed m = turned ∙ rw m
 
   module _ (fine : isMalformed held ≡ false) where
-    some-number : here cs front ≡ bad → ⊥
+    pub turn-goes : fieldsFrom (col ∷ cs) front before fits k r
+        ≡ restRead cs (leb next (length text)) (drop next text) (isMissing (numberIn n)) (fitsAfter held fits) (suc k) (rowAfter held r k)
+    turn-goes = turned ∙ rw fine
+
+    some-number : number (fieldIn cs front) ≡ bad → ⊥
     some-number e =
-        let h : held ≡ Malformed = cell ∙ (ap (cellOf col before) (read-here ∙ e) ∙ bad-malformed col before) in
+        let h : held ≡ Malformed = cell ∙ (ap (cellOf col before) (scanned ∙ e) ∙ bad-malformed col before) in
         let no : false ≡ true = sym fine ∙ ap isMalformed h in
         let z : _≡_ {A = ℕ} 0 1 = cc in
         omega arith
 
-    well : endedBy (sepBefore cs) front ≡ true
-    well = here-ended cs front some-number
+    pub turn-open : Open cs text next → (ended front ≡ true) × (lineEnd at front ≡ endRead cs next (drop next text))
+    turn-open o = opens cs text at next behind some-number past-place o
 
-    field-end : endIn n ≡ next + length (fieldOf front)
-    field-end = ap endIn scanned ∙ scanned-end next (sepBefore cs) front some-number
-
-    past-place : drop (endIn n + 1) text ≡ past front
-    past-place = ap (λ (m : ℕ). drop m text) (ap (λ (m : ℕ). m + 1) field-end ∙ (add-one (next + length (fieldOf front)) ∙ sym (add-suc next (length (fieldOf front)))))
-        ∙ sym (drop-drop (suc (length (fieldOf front))) next text)
-
-    pub turn-inside : endIn n < length text
-    unfolding endedBy
-    turn-inside =
-        starts-inside text (endIn n) (sepBefore cs)
-        (ap (λ (m : ℕ). startsWith (sepBefore cs) (drop m text)) field-end ∙ (ap (startsWith (sepBefore cs)) (sym (drop-drop (length (fieldOf front)) next text)) ∙ well))
-
-    pub turn-goes : fieldsFrom (col ∷ cs) front before fits k r
-        ≡ restRead cs (drop (endIn n + 1) text) (isMissing (numberIn n)) (fitsAfter held fits) (suc k) (rowAfter held r k)
-    turn-goes = turned ∙ (go held fine ∙ ap (λ (t : List ℕ). restRead cs t (isMissing (numberIn n)) (fitsAfter held fits) (suc k) (rowAfter held r k)) (sym past-place))
-      where
-        go : (x : Cell) → isMalformed x ≡ false
-            → turn x cs (past front) (isMissing (numberIn n)) fits k r ≡ restRead cs (past front) (isMissing (numberIn n)) (fitsAfter x fits) (suc k) (rowAfter x r k)
-        go (Holds v) m = refl
-        go OutOfRange m = refl
-        go Malformed m = let z : _≡_ {A = ℕ} 0 1 = cc in absurd (omega arith)
-
-    pub turn-end : lineEnd next front ≡ endRead cs (endIn n + 1) (drop (endIn n + 1) text)
-    turn-end =
-        end-here cs next front well
-        ∙ rw (past-place, ap (λ (m : ℕ). m + 1) field-end ∙ add-one (next + length (fieldOf front)))
+-- a record that was read has its byte 10
+pub read-ended : (cs : List Column) (t : List ℕ) (before fits : Bool) (k : ℕ) (r : List ℕ) (f : Bool) (l : List ℕ) → fieldsFrom cs t before fits k r ≡ row f l → ended t ≡ true
+unfolding fieldsFrom
+read-ended cs t before fits k r f l e = go (ended t) refl
+  where
+    go : (x : Bool) → ended t ≡ x → ended t ≡ true
+    go true n = n
+    go false n = let no : unread ≡ row f l = rw (n, fieldsFrom) at e in let z : _≡_ {A = ℕ} 0 1 = cc in absurd (omega arith)
 
 -- a field never takes the place of the section's number
 pub keep-first : (held : Cell) (r : List ℕ) (k : ℕ) → 0 < k → getD (rowAfter held r k) 0 0 ≡ getD r 0 0

@@ -1,6 +1,7 @@
 -- Laws that belong to no one function.
 pub mod Tests
-pub mod Digits
+pub mod Parts
+pub mod Held
 pub mod Numbers
 pub mod Cells
 pub mod Writing

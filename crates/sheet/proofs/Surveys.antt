@@ -6,31 +6,30 @@ use Prim.Native.Nat.{ℕ, zero, suc, _+_, _-_, _≤_, _<_}
 use native.Mathlib.Numerals.{add-one}
 use native.Mathlib.Omega.{arith}
 use lib.Dec.{eqb, leb, ltb}
-use lib.ListN.{length, drop, getD, set, replicate, drop-of-length-le, length-set, length-drop, length-map}
+use lib.ListN.{length, drop, getD, set, replicate, drop-of-length-le, length-set, length-drop, length-append, length-map}
 use lib.Seq.{drop-drop, getD-set-same, getD-set-other}
 use borrow.Author.Tests.{eq-eqb, ne-eqb, eqb-true, eqb-false, lt-ltb, le-ltb}
 use Rattle.sheet.specs.declared.line.LineAt.{LineAt}
 use Rattle.sheet.specs.declared.check.Survey.{Survey}
 use Rattle.sheet.specs.declared.check.Survey.the-variants.{Refused, Fine}
-use Rattle.sheet.specs.Text.{NEWLINE, lineOf}
+use Rattle.sheet.specs.Text.{NEWLINE, partOf, lineOf}
 use Rattle.sheet.specs.Table.{SECTIONS}
 use Rattle.sheet.specs.Record.{Line, unread, row}
 use Rattle.sheet.specs.Reading.{sheetLines, rowOf, sectionIn, counted, Before, after, noLines, unreadable, overMost, outOfRange, NO_LINE, first, Reading, refused, rows, refusals, readLines}
 use Rattle.sheet.specs.Answer.{countedAll, countsOf, countsFrom, frontLine}
 use Rattle.sheet.specs.Walk.{ended, lineEnd, lineAnswer, LineSays, firstOf, surveyOf}
-use Rattle.sheet.proofs.Fields.{line-ends, line-goes, ended-goes}
+use Rattle.sheet.proofs.Parts.{Cut, whole, cut, cut-at, part-cut}
 use Rattle.sheet.proofs.Lines.{pastLine, lines-none, lines-unended, lines-ended}
 
 -- The line at the front of a text and the lines after it, by what was said of it.
 
 ended-inside : (t : List ℕ) → ended t ≡ true → length (lineOf t) < length t
-unfolding ended lineOf
-ended-inside [] e = let z : _≡_ {A = ℕ} 0 1 = cc in absurd (omega arith)
-ended-inside (b ∷ t) e = go (eqb b NEWLINE) refl (ended-inside t) e
+unfolding lineOf
+ended-inside t e = go (cut-at NEWLINE t) e
   where
-    go : (x : Bool) → eqb b NEWLINE ≡ x → (ended t ≡ true → length (lineOf t) < length t) → ended (b ∷ t) ≡ true → length (lineOf (b ∷ t)) < length (b ∷ t)
-    go true n h e = omega (arith, ap length (ap (λ (c : ℕ). lineOf (c ∷ t)) (eqb-true b NEWLINE n) ∙ line-ends t))
-    go false n h e = omega (arith, ap length (line-goes b t n), h (sym (ended-goes b t n) ∙ e))
+    go : {t : List ℕ} → Cut NEWLINE t → ended t ≡ true → length (partOf NEWLINE t) < length t
+    go (whole t n) e = let no : true ≡ false = sym e ∙ n in let z : _≡_ {A = ℕ} 0 1 = cc in absurd (omega arith)
+    go (cut l u n) e = omega (arith, ap length (part-cut NEWLINE l u n), length-append l (NEWLINE ∷ u))
 
 -- a line that was read, with the lines after it
 pub front-read : (t : List ℕ) (fits : Bool) (r : List ℕ) → frontLine (sheetLines t) ≡ row fits r

@@ -1,12 +1,6 @@
--- Tests as Bools, and how a case on one is taken.
+-- Tests as Bools.
 use mathlib.Core.Path.{_≡_, refl, sym, _∙_, ap}
 use mathlib.Core.Bool.{Bool, true, false, _&&_, _||_, not}
-use mathlib.Core.Logic.{_⊎_, inl, inr}
-
--- a Bool is one or the other, with the equation kept
-pub either : (b : Bool) → (b ≡ true) ⊎ (b ≡ false)
-either true = inl refl
-either false = inr refl
 
 pub and-left : (a b : Bool) → (a && b) ≡ true → a ≡ true
 and-left true b e = refl

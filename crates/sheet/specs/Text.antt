@@ -1,5 +1,5 @@
 -- S, the board sheet: a text's lines and their fields.
-use mathlib.Core.Bool.{Bool, true, false, _||_}
+use mathlib.Core.Bool.{true, false}
 use mathlib.Core.List.{List, [], _∷_}
 use Prim.Native.Nat.{ℕ}
 use lib.Dec.{eqb}
@@ -22,17 +22,17 @@ unfolding onFirst
 parts s [] = [] ∷ []
 parts s (b ∷ t) = elim (eqb b s) [ true ↦ [] ∷ parts s t | false ↦ onFirst b (parts s t) ]
 
--- the first part: the bytes before the first `s`, or all
+-- the first of some parts
 unfoldable pub firstPart : List (List ℕ) → List ℕ
 firstPart [] = []
 firstPart (p ∷ ps) = p
 
+-- S1: the part at the front of a text: the bytes before the first byte `s`, or all
+unfoldable pub partOf : ℕ → List ℕ → List ℕ
+unfolding firstPart parts
+partOf s t = firstPart (parts s t)
+
 -- S1: the line at the front of a text, without its byte 10
 unfoldable pub lineOf : List ℕ → List ℕ
-unfolding firstPart parts
-lineOf t = firstPart (parts NEWLINE t)
-
--- S1: the field at the front of a text: the bytes before the first tab or byte 10
-unfoldable pub fieldOf : List ℕ → List ℕ
-fieldOf [] = []
-fieldOf (b ∷ t) = elim (eqb b TAB || eqb b NEWLINE) [ true ↦ [] | false ↦ b ∷ fieldOf t ]
+unfolding partOf
+lineOf t = partOf NEWLINE t

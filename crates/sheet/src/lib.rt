@@ -18,6 +18,7 @@ mod check;
 mod line;
 mod number;
 pub mod table;
+pub mod walk;
 pub mod write;
 
 // How many records of each section: P, N, C, F, X, W. Of a sheet, or the most that a caller takes.

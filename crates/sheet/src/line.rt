@@ -1,20 +1,22 @@
-// One line of a sheet: its section, and what its fields hold.
+// One line of a sheet: its section, and what its fields hold. A walker shows each field as a part of the text: the last of a line is the part that byte 10 ends,
+// each other the part that a tab ends. So each field's end is looked for once, and the line's end is where its last field ends.
 use base::numbers::MISSING;
+use base::numbers::NEWLINE;
+use base::numbers::TAB;
 ghost use mathlib.Core.Path.{_≡_};
 ghost use mathlib.Core.Bool.{false, true};
-ghost use Prim.Native.Nat.{ℕ, _+_, _-_, _≤_, _<_};
+ghost use Prim.Native.Nat.{suc, _+_, _-_, _≤_, _<_};
 ghost use lib.Dec.{leb};
 ghost use lib.ListN.{length, drop, getD};
-ghost use Rattle.sheet.specs.Text.{TAB, NEWLINE};
-ghost use Rattle.sheet.specs.Table.{Column, SECTIONS, columnsOf, letters};
-ghost use Rattle.sheet.specs.Record.{allowed as mayStand, placeOf, within, cellOf, isMissing, emptyRow, unread as noRecord};
+ghost use Rattle.sheet.specs.Table.{SECTIONS, columnsOf, letters};
+ghost use Rattle.sheet.specs.Record.{allowed as mayStand, placeOf, sectionOf, within, cellOf, isMissing, emptyRow, unread as noRecord};
 ghost use Rattle.sheet.specs.Reading.{sheetLines};
 ghost use Rattle.sheet.specs.Answer.{frontLine};
-ghost use Rattle.sheet.specs.Walk.{Separator, separatorAt, numberIn, endIn, isMalformed, fitsAfter, rowAfter, columnIn, columnRows, fieldsFrom, lineAnswer, lineEnd, LineSays};
+ghost use Rattle.sheet.specs.Walk.{separatorAt, numberIn, isMalformed, fitsAfter, rowAfter, columnIn, columnRows, fieldsFrom, lineAnswer, lineEnd, LineSays};
 use crate::number::Scanned;
-use crate::number::byte_is;
-use crate::number::number_at;
+use crate::number::number_of;
 use crate::table::first_column;
+use crate::walk::part_from;
 
 // What one field holds: the number held, a number that can be read and is out of range, or nothing that may stand there.
 pub enum Cell {
@@ -81,21 +83,21 @@ pub fn cell_of(c: [u32; 4], before: bool, n: Scanned) -> Cell
 {
     match n {
         Scanned::Bad => Cell::Malformed,
-        Scanned::Missing(_) => {
+        Scanned::Missing => {
             if allowed(c[3], before, true) {
                 Cell::Holds(MISSING)
             } else {
                 Cell::Malformed
             }
         }
-        Scanned::Plus(v, _) => {
+        Scanned::Plus(v) => {
             if allowed(c[3], before, false) {
                 plus_cell(c[0], c[1], c[2], v)
             } else {
                 Cell::Malformed
             }
         }
-        Scanned::Minus(v, _) => {
+        Scanned::Minus(v) => {
             if allowed(c[3], before, false) {
                 minus_cell(c[0], c[1], c[2], v)
             } else {
@@ -105,25 +107,14 @@ pub fn cell_of(c: [u32; 4], before: bool, n: Scanned) -> Cell
     }
 }
 
-fn end_of(n: Scanned) -> usize
-    ensures { λ r. ⌜ r ≡ endIn n ⌝ }
-{
-    match n {
-        Scanned::Bad => 0,
-        Scanned::Missing(e) => e,
-        Scanned::Plus(_, e) => e,
-        Scanned::Minus(_, e) => e,
-    }
-}
-
 fn is_missing(n: Scanned) -> bool
     ensures { λ r. ⌜ r ≡ isMissing (numberIn n) ⌝ }
 {
     match n {
         Scanned::Bad => false,
-        Scanned::Missing(_) => true,
-        Scanned::Plus(_, _) => false,
-        Scanned::Minus(_, _) => false,
+        Scanned::Missing => true,
+        Scanned::Plus(_) => false,
+        Scanned::Minus(_) => false,
     }
 }
 
@@ -177,12 +168,12 @@ fn separator(k: usize, end: usize) -> u8
     requires { ⌜ k < end ⌝ }
     ensures { λ r. ⌜ r ≡ separatorAt k end ⌝ }
 {
-    if k < end - 1 { 9 } else { 10 }
+    if k < end - 1 { TAB } else { NEWLINE }
 }
 
-// The fields of a record of section `s`, from `at` on.
+// The fields of a record of section `s`, from `at` on. A last field that goes up to the text's end is one that no byte 10 ends.
 fn fields_at(columns: &[[u32; 4]], text: &[u8], at: usize, s: usize, row: &mut [u32; 16]) -> LineAt
-    requires { ⌜ (now columns ≡ columnRows) × (at ≤ length (now text)) × (s < SECTIONS) ⌝ }
+    requires { ⌜ (now columns ≡ columnRows) × (at ≤ suc (length (now text))) × (s < SECTIONS) ⌝ }
     ensures { λ r. ⌜ LineSays (fieldsFrom (columnsOf s) (drop at (now (text .entry))) false true 1 (emptyRow s)) (lineEnd at (drop at (now (text .entry)))) r (now (row .exit)) ⌝ }
 {
     let first = first_column(s);
@@ -193,15 +184,19 @@ fn fields_at(columns: &[[u32; 4]], text: &[u8], at: usize, s: usize, row: &mut [
     let mut next = at;
     let mut i = first;
     while i < end {
-        let n = number_at(text, next, separator(i, end));
+        let field = part_from(text, next, separator(i, end));
+        let n = number_of(field);
         let held = cell_of(columns[i], before, n);
         if is_malformed(held) {
             return unread();
         }
         fits = put_cell(row, i - first + 1, held, fits);
         before = is_missing(n);
-        next = end_of(n) + 1;
+        next = next + field.len() + 1;
         i += 1;
+    }
+    if text.len() < next {
+        return unread();
     }
     LineAt {
         read: true,
@@ -226,19 +221,24 @@ fn section_of(b: u8) -> usize
     }
 }
 
+// The section that a line's first field names: its one byte is a letter. Or 6.
+fn section_in(field: &[u8]) -> usize
+    ensures { λ r. ⌜ r ≡ sectionOf (now (field .entry)) ⌝ }
+{
+    if field.len() == 1 {
+        section_of(field[0])
+    } else {
+        6
+    }
+}
+
 // The line that starts at `at`.
 pub fn line_at(columns: &[[u32; 4]], text: &[u8], at: usize, row: &mut [u32; 16]) -> LineAt
     requires { ⌜ now columns ≡ columnRows ⌝ }
     ensures { λ r. ⌜ LineSays (frontLine (sheetLines (drop at (now (text .entry))))) (lineEnd at (drop at (now (text .entry)))) r (now (row .exit)) ⌝ }
 {
-    if text.len() <= at {
-        return unread();
-    }
-    let s = section_of(text[at]);
+    let s = section_in(part_from(text, at, TAB));
     if s == 6 {
-        return unread();
-    }
-    if !byte_is(text, at + 1, 9) {
         return unread();
     }
     fields_at(columns, text, at + 2, s, row)

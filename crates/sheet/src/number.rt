@@ -1,30 +1,19 @@
-// The numbers of a sheet's fields.
+// The numbers of a sheet's fields. A field is a part of the text, without the byte that ends it.
 use base::numbers::DIGITS_MOST;
 use base::numbers::MINUS;
 use base::numbers::ZERO;
 ghost use mathlib.Core.Path.{_≡_};
-ghost use Prim.Native.Nat.{_+_, _≤_, min};
-ghost use lib.ListN.{length, drop};
-ghost use Rattle.sheet.specs.Walk.{runMost, digitsFrom, startsWith, unsignedFrom, signedFrom, scannedFrom, Separator};
+ghost use Prim.Native.Nat.{_≤_};
+ghost use lib.ListN.{length};
+ghost use Rattle.sheet.specs.Number.{unsigned, signed, number, digitsMost};
+ghost use Rattle.sheet.specs.Walk.{numberIn, digitsRead, negated as withMinus};
 
-// The digits from a place on: their value, and the place after them.
-pub struct Digits {
-    pub value: u64,
-    pub next: usize,
-}
-
-// An unsigned number and the place after it, or no number.
-pub enum Unsigned {
-    Bad,
-    Value(u64, usize),
-}
-
-// What a field says, with the place after it.
+// What a field says.
 pub enum Scanned {
     Bad,
-    Missing(usize),
-    Plus(u64, usize),
-    Minus(u64, usize),
+    Missing,
+    Plus(u64),
+    Minus(u64),
 }
 
 const NINE: u8 = 57;
@@ -35,105 +24,81 @@ fn wide(b: u8) -> u64
     b as u64
 }
 
-// Where a run of digits is broken off: one digit more than a number may have.
-fn run_end(text: &[u8], from: usize) -> usize
-    requires { ⌜ from ≤ length (now text) ⌝ }
-    ensures { λ r. ⌜ r ≡ min (length (now (text .entry))) (from + runMost) ⌝ }
+// The number that digits write.
+fn digits_of(field: &[u8]) -> Scanned
+    requires { ⌜ length (now field) ≤ digitsMost ⌝ }
+    ensures { λ r. ⌜ numberIn r ≡ digitsRead 0 (now (field .entry)) ⌝ }
 {
-    if text.len() - from <= DIGITS_MOST {
-        text.len()
-    } else {
-        from + DIGITS_MOST + 1
-    }
-}
-
-// The run of digits that starts at `from`, at most eleven.
-fn digits_at(text: &[u8], from: usize) -> Digits
-    requires { ⌜ from ≤ length (now text) ⌝ }
-    ensures { λ r. ⌜ r ≡ digitsFrom from (drop from (now (text .entry))) ⌝ }
-{
-    let end = run_end(text, from);
     let mut value: u64 = 0;
-    let mut i = from;
-    while i < end {
-        let b = text[i];
+    let mut i = 0;
+    while i < field.len() {
+        let b = field[i];
         if b < ZERO {
-            return Digits { value, next: i };
+            return Scanned::Bad;
         }
         if NINE < b {
-            return Digits { value, next: i };
+            return Scanned::Bad;
         }
         value = value * 10 + wide(b - ZERO);
         i += 1;
     }
-    Digits { value, next: i }
+    Scanned::Plus(value)
 }
 
-// Whether the byte at a place is `b`.
-pub fn byte_is(text: &[u8], at: usize, b: u8) -> bool
-    ensures { λ r. ⌜ r ≡ startsWith b (drop at (now (text .entry))) ⌝ }
+// A number without a sign: one to ten digits, and no zero in front of others.
+fn unsigned_of(field: &[u8]) -> Scanned
+    ensures { λ r. ⌜ numberIn r ≡ unsigned (now (field .entry)) ⌝ }
 {
-    if at < text.len() {
-        text[at] == b
-    } else {
-        false
+    let n = field.len();
+    if n == 0 {
+        return Scanned::Bad;
     }
+    if DIGITS_MOST < n {
+        return Scanned::Bad;
+    }
+    if (1 < n) & (field[0] == ZERO) {
+        return Scanned::Bad;
+    }
+    digits_of(field)
 }
 
-// The unsigned number in the field at `from`, which ends in `sep`.
-fn unsigned_at(text: &[u8], from: usize, sep: u8) -> Unsigned
-    requires { ⌜ (from ≤ length (now text)) × Separator sep ⌝ }
-    ensures { λ r. ⌜ r ≡ unsignedFrom from sep (drop from (now (text .entry))) ⌝ }
+// A number with a `-` in front: there is no `-0`.
+fn negated(n: Scanned) -> Scanned
+    ensures { λ r. ⌜ numberIn r ≡ withMinus (numberIn n) ⌝ }
 {
-    let d = digits_at(text, from);
-    let next = d.next;
-    if !byte_is(text, next, sep) {
-        return Unsigned::Bad;
-    }
-    if next == from {
-        return Unsigned::Bad;
-    }
-    if DIGITS_MOST < next - from {
-        return Unsigned::Bad;
-    }
-    if text[from] == ZERO {
-        if 1 < next - from {
-            return Unsigned::Bad;
-        }
-    }
-    Unsigned::Value(d.value, next)
-}
-
-// What stands in a field after its `-`.
-fn minus_at(text: &[u8], from: usize, sep: u8) -> Scanned
-    requires { ⌜ (from ≤ length (now text)) × Separator sep ⌝ }
-    ensures { λ r. ⌜ r ≡ signedFrom from sep (drop from (now (text .entry))) ⌝ }
-{
-    if byte_is(text, from, sep) {
-        return Scanned::Missing(from);
-    }
-    match unsigned_at(text, from, sep) {
-        Unsigned::Bad => Scanned::Bad,
-        Unsigned::Value(v, next) => {
+    match n {
+        Scanned::Bad => Scanned::Bad,
+        Scanned::Missing => Scanned::Bad,
+        Scanned::Plus(v) => {
             if v == 0 {
                 Scanned::Bad
             } else {
-                Scanned::Minus(v, next)
+                Scanned::Minus(v)
             }
         }
+        Scanned::Minus(_) => Scanned::Bad,
     }
 }
 
-// The number in the field at `at`, which ends in `sep`.
-pub fn number_at(text: &[u8], at: usize, sep: u8) -> Scanned
-    requires { ⌜ (at ≤ length (now text)) × Separator sep ⌝ }
-    ensures { λ r. ⌜ r ≡ scannedFrom at sep (drop at (now (text .entry))) ⌝ }
+// What follows a `-`: nothing, or a number without a sign.
+fn signed_of(rest: &[u8]) -> Scanned
+    ensures { λ r. ⌜ numberIn r ≡ signed (now (rest .entry)) ⌝ }
 {
-    if byte_is(text, at, MINUS) {
-        return minus_at(text, at + 1, sep);
+    if rest.len() == 0 {
+        return Scanned::Missing;
     }
-    match unsigned_at(text, at, sep) {
-        Unsigned::Bad => Scanned::Bad,
-        Unsigned::Value(v, next) => Scanned::Plus(v, next),
+    negated(unsigned_of(rest))
+}
+
+// The number that a field writes, with or without a sign.
+pub fn number_of(field: &[u8]) -> Scanned
+    ensures { λ r. ⌜ numberIn r ≡ number (now (field .entry)) ⌝ }
+{
+    if field.len() == 0 {
+        return Scanned::Bad;
     }
+    if field[0] == MINUS {
+        return signed_of(&field[1..]);
+    }
+    unsigned_of(field)
 }

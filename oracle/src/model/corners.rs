@@ -1,7 +1,7 @@
 //! Corners, over the wires in order.
 
 use super::branch::Branch;
-use super::{Feed, Work};
+use super::{Feed, SIZE, STAGGER_STEP, Work, rerouter_cell};
 use crate::board::{CLASS_INLINE_ONLY, KIND_COERCE, Node};
 use crate::facts::{cell, overlap};
 use crate::plan::*;
@@ -97,13 +97,13 @@ fn level(work: &Work, turn: &Turn, taken: &[i32]) -> Option<(i32, Branch)> {
     let end = cell(turn.sink, (turn.sink_x, 0)).1;
     let cells = &work.row_cells[&turn.row];
     let clear = |l: &i32| {
-        let c = (*l, *l + 2, turn.y, turn.y + 2);
+        let c = rerouter_cell(*l, turn.y);
         cells.iter().all(|other| !overlap(*other, c))
     };
     let levels = || {
         (0..)
-            .map(|k| turn.sink_x + 2 * k)
-            .take_while(|l| l + 2 <= end)
+            .map(|k| turn.sink_x + STAGGER_STEP * k)
+            .take_while(|l| l + SIZE <= end)
     };
     if let Some(l) = levels().find(|l| !taken.contains(l) && clear(l)) {
         let lowest = l == turn.sink_x;
@@ -127,7 +127,7 @@ fn corner(work: &mut Work, wire: usize, turn: &Turn, level: i32) {
         .met_if(info.min_y.is_none(), Branch::CornerNoMinY);
     let coerce = turn.source.kind == KIND_COERCE || turn.sink.kind == KIND_COERCE;
     work.counts.met_if(coerce, Branch::CornerCoerce);
-    let booked = (level, level + 2, turn.y, turn.y + 2);
+    let booked = rerouter_cell(level, turn.y);
     work.row_cells.entry(turn.row).or_default().push(booked);
     let port = Feed {
         end: End::Port(w.source),

@@ -2,11 +2,11 @@
 
 use super::branch::Branch;
 use super::levels::{Claims, Stop, claim};
-use super::{Feed, Lane, Work};
+use super::{BUS_BAND_GUTTER, Feed, LANE_PITCH, Lane, SIZE, TAP_RESERVE, Work, rerouter_cell};
 use crate::facts::{Group, Tap};
 use crate::plan::*;
 
-/// What all bricks of one lane share.
+/// What all rerouters of one lane share.
 struct Common {
     page: usize,
     z: i32,
@@ -53,7 +53,9 @@ pub fn lane(work: &mut Work, page: usize, lane: &Lane, stops: &[Stop], claims: &
         z: info.z,
         colour: group.source_anchor,
         lane: lane.lane,
-        lane_y: info.min_y.expect("a page with lanes has min_y") - 6 - 2 * back,
+        lane_y: info.min_y.expect("a page with lanes has min_y")
+            - BUS_BAND_GUTTER
+            - LANE_PITCH * back,
         chain: if up { 3 } else { 1 },
     };
     let port = Feed {
@@ -96,9 +98,10 @@ fn head(
     if let Some((page, row)) = stands {
         if page != common.page {
             work.counts.met(Branch::HeadElsewhere);
-        } else if work.book((page, row), (x, x + 2, y - 5, y - 3)) {
+        } else if work.book((page, row), rerouter_cell(x, y - TAP_RESERVE)) {
             work.counts.met(Branch::SourcePlaced);
-            feed = work.place(feed, common.beside_row(x, y - 5, 2, PART_SOURCE));
+            let source = common.beside_row(x, y - TAP_RESERVE, 2, PART_SOURCE);
+            feed = work.place(feed, source);
         } else {
             work.counts.met(Branch::SourceLost);
         }
@@ -115,9 +118,9 @@ fn pair(
     level: i32,
     claims: &mut Claims,
 ) -> (Feed, Feed) {
-    if claim(claims, common.lane, level + 2) {
+    if claim(claims, common.lane, level + SIZE) {
         work.counts.met(Branch::LinkPlaced);
-        hang = work.place(hang, common.in_lane(level + 2, common.chain, PART_LINK));
+        hang = work.place(hang, common.in_lane(level + SIZE, common.chain, PART_LINK));
     } else {
         work.counts.met(Branch::LinkLost);
         let on = match hang.end {
@@ -141,8 +144,8 @@ fn row(work: &mut Work, group: &Group, common: &Common, tap: Feed, stop: &Stop) 
         work.counts.met_if(column == Some(t.y), Branch::SameColumn);
         if column != Some(t.y) {
             column = Some(t.y);
-            let (x, y) = (stop.level, t.y - 5);
-            if work.book((common.page, stop.row), (x, x + 2, y, y + 2)) {
+            let (x, y) = (stop.level, t.y - TAP_RESERVE);
+            if work.book((common.page, stop.row), rerouter_cell(x, y)) {
                 work.counts.met(Branch::GateSide);
                 end = work.place(end, common.beside_row(x, y, 0, PART_GATE_SIDE));
             } else {

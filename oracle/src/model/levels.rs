@@ -1,7 +1,7 @@
 //! V1: stops and levels of one page. Its rerouters come after all of them.
 
 use super::branch::Branch;
-use super::{Lane, Work};
+use super::{Lane, SIZE, STAGGER_STEP, Work};
 use crate::facts::Group;
 use std::collections::HashMap;
 
@@ -18,9 +18,9 @@ pub type Claims = HashMap<usize, Vec<(i32, i32)>>;
 /// Claims two units from `at` in a lane's column, if they are free.
 pub fn claim(claims: &mut Claims, lane: usize, at: i32) -> bool {
     let column = claims.entry(lane).or_default();
-    let free = column.iter().all(|(lo, hi)| at + 2 <= *lo || *hi <= at);
+    let free = column.iter().all(|(lo, hi)| at + SIZE <= *lo || *hi <= at);
     if free {
-        column.push((at, at + 2));
+        column.push((at, at + SIZE));
     }
     free
 }
@@ -28,7 +28,7 @@ pub fn claim(claims: &mut Claims, lane: usize, at: i32) -> bool {
 fn is_free(claims: &Claims, lane: usize, at: i32) -> bool {
     claims
         .get(&lane)
-        .is_none_or(|c| c.iter().all(|(lo, hi)| at + 2 <= *lo || *hi <= at))
+        .is_none_or(|c| c.iter().all(|(lo, hi)| at + SIZE <= *lo || *hi <= at))
 }
 
 /// The rows of a lane with the x at which each stop begins.
@@ -96,7 +96,11 @@ fn find(
     base: i32,
     top: i32,
 ) -> Option<i32> {
-    let levels = || (0..).map(|k| base + 2 * k).take_while(|l| *l <= top);
+    let levels = || {
+        (0..)
+            .map(|k| base + STAGGER_STEP * k)
+            .take_while(|l| *l <= top)
+    };
     let open = |l: &i32| is_free(claims, lane, *l);
     if let Some(l) = levels().filter(open).find(|l| !on_row.contains(l)) {
         let branch = if l == base {

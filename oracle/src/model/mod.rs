@@ -12,6 +12,22 @@ use crate::plan::*;
 use branch::{Branch, Counts};
 use std::collections::{HashMap, HashSet};
 
+/// A rerouter is so wide and so high.
+const SIZE: i32 = 2;
+/// Levels of a row stand so far apart.
+const STAGGER_STEP: i32 = 2;
+/// Lanes stand so far apart, and the last one so far from the page.
+const LANE_PITCH: i32 = 2;
+const BUS_BAND_GUTTER: i32 = 6;
+/// Taps and source that lie closer are not laid.
+const MIN_LANE_TRAVEL: i32 = 6;
+/// Source and gate-side rerouters stand so far to the left.
+const TAP_RESERVE: i32 = 5;
+
+fn rerouter_cell(x: i32, y: i32) -> Cell {
+    (x, x + SIZE, y, y + SIZE)
+}
+
 /// A group with a demand, and its lane.
 struct Lane {
     group: usize,
@@ -102,7 +118,7 @@ pub fn turn(board: &Board, handed: &Handed) -> Vec<Corner> {
     bricks(&mut work);
     for b in &handed.beside {
         let cells = work.row_cells.entry((b.page, b.row)).or_default();
-        cells.push((b.x, b.x + 2, b.y, b.y + 2));
+        cells.push(rerouter_cell(b.x, b.y));
     }
     work.suppressed.extend(&handed.suppressed);
     corners::lay(&mut work);
@@ -237,7 +253,11 @@ fn demands(work: &mut Work, page: usize) -> Vec<Lane> {
         }
     }
     let count = pack(work, &mut lanes) as i32;
-    let band = if count == 0 { 0 } else { 2 * count + 6 };
+    let band = if count == 0 {
+        0
+    } else {
+        LANE_PITCH * count + BUS_BAND_GUTTER
+    };
     let lanes_open = PageAnswer { lanes: count, band };
     work.plan.pages.push(lanes_open);
     lanes
@@ -283,6 +303,6 @@ fn is_laid(work: &mut Work, lane: &Lane) -> bool {
     };
     let xs = || g.taps.iter().map(|t| t.x).chain([x]);
     let range = xs().max().unwrap_or(x) - xs().min().unwrap_or(x);
-    work.counts.met_if(range < 6, Branch::NotLaid);
-    range >= 6
+    work.counts.met_if(range < MIN_LANE_TRAVEL, Branch::NotLaid);
+    range >= MIN_LANE_TRAVEL
 }

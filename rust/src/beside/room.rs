@@ -2,7 +2,7 @@
 //! the library with them.
 
 use crate::buffers::lines_of;
-use crate::calls::{self, BusCounts, MISSING, Output, Work};
+use crate::calls::{self, BusCounts, MARK_ROWS, MISSING, Output, TABLES, Work};
 use crate::calls::{BusWireRow, PageRow, PortRow, RerouterRow};
 use crate::calls::{MiniNumbers, PagesNumbers, PlanNumbers};
 use crate::plan::{BusView, PlanView};
@@ -11,8 +11,8 @@ use crate::plan::{BusView, PlanView};
 const GUARD: u32 = 0xdead_beef;
 
 /// Output: rerouters, bus wires, suppressed ports, page answers. Work space:
-/// records, eight tables and the marks.
-pub const SLICES: usize = 14;
+/// records, the tables and among them last the marks.
+pub const SLICES: usize = 5 + TABLES;
 
 /// Each slice's length against what document 01 names: rows more or fewer.
 pub type Rows = [isize; SLICES];
@@ -38,7 +38,7 @@ impl Lines {
     pub fn lengths(&self, rows: &Rows) -> [usize; SLICES] {
         let mut lengths = [self.records; SLICES];
         lengths[..4].copy_from_slice(&[5 * self.wires, 6 * self.wires, self.wires, self.pages]);
-        lengths[SLICES - 1] = 2 * self.records;
+        lengths[SLICES - 1] = MARK_ROWS * self.records;
         for (length, more) in lengths.iter_mut().zip(rows) {
             *length = length.saturating_add_signed(*more);
         }
@@ -214,7 +214,7 @@ pub struct Room {
     ports: Buffer<2>,
     answers: Buffer<2>,
     records: Buffer<16>,
-    tables: [Buffer<8>; 9],
+    tables: [Buffer<8>; TABLES],
     anew: bool,
 }
 
@@ -511,8 +511,8 @@ mod tests {
         }
         alter(|room, row| &mut room.records.rows[row][0], lines.records);
         alter(
-            |room, row| &mut room.tables[8].rows[row][0],
-            2 * lines.records,
+            |room, row| &mut room.tables[TABLES - 1].rows[row][0],
+            MARK_ROWS * lines.records,
         );
     }
 }

@@ -2,7 +2,9 @@
 //! three calls, and refusal 7 from the lengths lent.
 
 use super::room::{Found, Lending, Lines, Reports, Rows, Way};
-use crate::calls::{BusCounts, MiniNumbers, PageRow, PagesNumbers, PlanNumbers, PortRow};
+use crate::calls::{
+    BusCounts, MARK_ROWS, MiniNumbers, PageRow, PagesNumbers, PlanNumbers, PortRow,
+};
 use oracle::board::{self, Board, Lent, Limits, Refusal};
 use oracle::plan::{End, PART_CORNER, PageAnswer, Plan};
 use oracle::{check3, harness};
@@ -183,8 +185,7 @@ impl Truth {
 }
 
 /// Refusal 7, where slices of these lengths bring it. Of the work space only
-/// the rows of the shortest slice count, of the marks half of them; without a
-/// bus there are no marks.
+/// the rows of the shortest slice count, of the marks a fifth.
 pub fn too_short(
     board: &Board,
     lines: &Lines,
@@ -202,14 +203,13 @@ pub fn too_short(
     ] = lines.lengths(rows);
     let rows = work.into_iter().min().unwrap_or(0);
     let mut lent = Lent {
-        work: 96 * rows,
+        work: 96 * rows.min(marks / MARK_ROWS),
         ..Lent::for_board(board)
     };
     if pages {
         lent.pages = lent_pages;
     }
     if bus {
-        lent.work = 96 * rows.min(marks / 2);
         lent.rerouters = rerouters;
         lent.bus_wires = bus_wires;
         lent.suppressed = suppressed;

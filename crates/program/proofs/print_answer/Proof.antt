@@ -1,6 +1,6 @@
 -- `program::print_answer` is safe and ends: the bytes that an answer counts are there. Assumes nothing.
 use borrow.Author.Needs.{needs}
-use Rattle.answer.proofs.Promise.{told-counts}
+use Rattle.program_answer.proofs.Promise.{told-counts}
 use Rattle.program.proofs.print_answer.Statement.{statement}
 use Rattle.program.proofs.print_answer.Tie as tie
 

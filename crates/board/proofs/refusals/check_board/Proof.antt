@@ -15,7 +15,7 @@ use Rattle.board.proofs.refusals.find_fault.Reads as find-fault-reads
 use Rattle.sheet.proofs.check_sheet.Reads as check-sheet-reads
 
 -- A sheet that is read.
-fine : (c : tie.After-counts) → Fine (c .counts .given .0 .0) ≡ checkedOf (reading (c .before .before .before .before .before .before .before .before .before .before .before .before .before .args .most) (c .before .before .before .before .before .before .before .before .before .before .before .before .before .args .text .now))
+fine : (c : tie.After-counts) → Fine (c .counts .given .0 .0) ≡ checkedOf (reading (c .before .before .before .before .args .most) (c .before .before .before .before .args .text .now))
 fine c = sym (c .counts .given .1) ∙ c .before .before .check-sheet .ensures
 
 check-sheet-requires : tie.Need-check-sheet-requires
@@ -29,8 +29,8 @@ enum-known-counts c = search needs
 
 find-fault-requires : tie.Need-find-fault-requires
 find-fault-requires c κs =
-    let p = c .before .before .before .before .before .before .before .before .before .before .before .before .before .before .before .before .before .before .before .before .before .before .before .pre in
-    let f = fine (c .before .before .before .before .before .before .before .before .before .before) in
+    let p = c .before .before .before .before .before .before .before .before .pre in
+    let f = fine (c .before .before .before .before) in
     (sheet-ready _ _ _ f (p .0), (sheet-counts _ _ _ f, p .1))
 
 enum-known-number-2 : tie.Need-enum-known-number-2
@@ -41,78 +41,42 @@ enum-told c = search needs
 
 returns : tie.Need-returns
 returns c =
-    let a = c .before .before .before .before .before .before .before .before .before .before .before .before .before .before .args in
+    let a = c .before .before .before .before .before .args in
     let j : judged (a .most) (a .text .now) ≡ turnedAway _ _ = sheet-refused (a .most) (a .text .now) _ _ (sym (c .before .number .given .1) ∙ c .before .before .before .check-sheet .ensures) in
     (ap boardChecked (sym j), rw j tt)
 
 same-length : tie.Need-same-length
-same-length c = c .before .before .before .before .before .before .before .before .before .before .before .before .before .before .before .before .before .before .before .before .before .find-fault .kept .1 .1 .0
+same-length c = c .before .before .before .before .before .before .find-fault .kept .1 .1 .0
 
 same-length-2 : tie.Need-same-length-2
-same-length-2 c = c .before .before .before .before .before .before .before .before .before .before .before .before .before .before .before .before .before .before .before .before .before .find-fault .kept .1 .1 .1 .0
+same-length-2 c = c .before .before .before .before .before .before .find-fault .kept .1 .1 .1 .0
 
 same-length-3 : tie.Need-same-length-3
-same-length-3 c = c .before .before .before .before .before .before .before .before .before .before .before .before .before .before .before .before .before .before .before .before .before .find-fault .kept .1 .1 .1 .1 .0
-
-same-length-4 : tie.Need-same-length-4
-same-length-4 c = c .before .before .before .before .before .before .before .before .before .before .before .before .before .before .before .before .before .before .before .before .before .find-fault .kept .1 .1 .1 .1 .1 .0
-
-same-length-5 : tie.Need-same-length-5
-same-length-5 c = c .before .before .before .before .before .before .before .before .before .before .before .before .before .before .before .before .before .before .before .before .before .find-fault .kept .1 .1 .1 .1 .1 .1 .0
-
-same-length-6 : tie.Need-same-length-6
-same-length-6 c = c .before .before .before .before .before .before .before .before .before .before .before .before .before .before .before .before .before .before .before .before .before .find-fault .kept .1 .1 .1 .1 .1 .1 .1 .0
-
-same-length-7 : tie.Need-same-length-7
-same-length-7 c = c .before .before .before .before .before .before .before .before .before .before .before .before .before .before .before .before .before .before .before .before .before .find-fault .kept .1 .1 .1 .1 .1 .1 .1 .1 .0
-
-same-length-8 : tie.Need-same-length-8
-same-length-8 c = c .before .before .before .before .before .before .before .before .before .before .before .before .before .before .before .before .before .before .before .before .before .find-fault .kept .1 .1 .1 .1 .1 .1 .1 .1 .1 .0
-
-same-length-9 : tie.Need-same-length-9
-same-length-9 c = c .before .before .before .before .before .before .before .before .before .before .before .before .before .before .before .before .before .before .before .before .before .find-fault .kept .1 .1 .1 .1 .1 .1 .1 .1 .1 .1 .0
+same-length-3 c = c .before .before .before .before .before .before .find-fault .kept .1 .1 .1 .1 .0
 
 returns-2 : tie.Need-returns-2
 returns-2 c =
-    let a = c .before .before .before .before .before .before .before .before .before .before .before .before .before .before .before .before .before .before .before .before .before .before .before .before .before .before .before .before .before .before .before .before .before .before .before .before .before .before .before .before .before .before .before .before .before .args in
-    let f = fine (c .before .before .before .before .before .before .before .before .before .before .before .before .before .before .before .before .before .before .before .before .before .before .before .before .before .before .before .before .before .before .before .before) in
+    let a = c .before .before .before .before .before .before .before .before .before .before .before .before .before .before .before .args in
+    let f = fine (c .before .before .before .before .before .before .before .before .before .before .before) in
     let j : judged (a .most) (a .text .now) ≡ turnedAway _ _ =
-    sheet-judged (a .most) (a .text .now) _ f ∙ fault-refused (sheetBoard (a .text .now)) _ _ (sym (c .before .number2 .given .1) ∙ c .before .before .before .before .before .before .before .before .before .before .before .before .before .before .before .before .before .before .before .before .before .find-fault .ensures .0) in
+    sheet-judged (a .most) (a .text .now) _ f ∙ fault-refused (sheetBoard (a .text .now)) _ _ (sym (c .before .number2 .given .1) ∙ c .before .before .before .before .before .before .find-fault .ensures .0) in
     (ap boardChecked (sym j), rw j tt)
 
-same-length-10 : tie.Need-same-length-10
-same-length-10 c = c .before .before .before .before .before .before .before .before .before .before .before .before .before .before .before .before .before .before .before .before .find-fault .kept .1 .1 .0
+same-length-4 : tie.Need-same-length-4
+same-length-4 c = c .before .before .before .before .before .find-fault .kept .1 .1 .0
 
-same-length-11 : tie.Need-same-length-11
-same-length-11 c = c .before .before .before .before .before .before .before .before .before .before .before .before .before .before .before .before .before .before .before .before .find-fault .kept .1 .1 .1 .0
+same-length-5 : tie.Need-same-length-5
+same-length-5 c = c .before .before .before .before .before .find-fault .kept .1 .1 .1 .0
 
-same-length-12 : tie.Need-same-length-12
-same-length-12 c = c .before .before .before .before .before .before .before .before .before .before .before .before .before .before .before .before .before .before .before .before .find-fault .kept .1 .1 .1 .1 .0
-
-same-length-13 : tie.Need-same-length-13
-same-length-13 c = c .before .before .before .before .before .before .before .before .before .before .before .before .before .before .before .before .before .before .before .before .find-fault .kept .1 .1 .1 .1 .1 .0
-
-same-length-14 : tie.Need-same-length-14
-same-length-14 c = c .before .before .before .before .before .before .before .before .before .before .before .before .before .before .before .before .before .before .before .before .find-fault .kept .1 .1 .1 .1 .1 .1 .0
-
-same-length-15 : tie.Need-same-length-15
-same-length-15 c = c .before .before .before .before .before .before .before .before .before .before .before .before .before .before .before .before .before .before .before .before .find-fault .kept .1 .1 .1 .1 .1 .1 .1 .0
-
-same-length-16 : tie.Need-same-length-16
-same-length-16 c = c .before .before .before .before .before .before .before .before .before .before .before .before .before .before .before .before .before .before .before .before .find-fault .kept .1 .1 .1 .1 .1 .1 .1 .1 .0
-
-same-length-17 : tie.Need-same-length-17
-same-length-17 c = c .before .before .before .before .before .before .before .before .before .before .before .before .before .before .before .before .before .before .before .before .find-fault .kept .1 .1 .1 .1 .1 .1 .1 .1 .1 .0
-
-same-length-18 : tie.Need-same-length-18
-same-length-18 c = c .before .before .before .before .before .before .before .before .before .before .before .before .before .before .before .before .before .before .before .before .find-fault .kept .1 .1 .1 .1 .1 .1 .1 .1 .1 .1 .0
+same-length-6 : tie.Need-same-length-6
+same-length-6 c = c .before .before .before .before .before .find-fault .kept .1 .1 .1 .1 .0
 
 returns-3 : tie.Need-returns-3
 returns-3 c =
-    let a = c .before .before .before .before .before .before .before .before .before .before .before .before .before .before .before .before .before .before .before .before .before .before .before .before .before .before .before .before .before .before .before .before .before .before .before .before .before .before .before .before .before .before .before .before .args in
+    let a = c .before .before .before .before .before .before .before .before .before .before .before .before .before .before .args in
     let b = sheetBoard (a .text .now) in
-    let f = fine (c .before .before .before .before .before .before .before .before .before .before .before .before .before .before .before .before .before .before .before .before .before .before .before .before .before .before .before .before .before .before .before) in
-    let found = c .before .before .before .before .before .before .before .before .before .before .before .before .before .before .before .before .before .before .before .before .find-fault in
+    let f = fine (c .before .before .before .before .before .before .before .before .before .before) in
+    let found = c .before .before .before .before .before .find-fault in
     let none = c .enum-told .given .1 in
     let j : judged (a .most) (a .text .now) ≡ board b = sheet-judged (a .most) (a .text .now) _ f ∙ fault-fine b (sym none ∙ found .ensures .0) in
     (ap Fine (counts-judged (a .most) (a .text .now) _ f) ∙ ap boardChecked (sym j), rw j (found .ensures .1 none))
@@ -131,20 +95,8 @@ check-board-spec =
     same-length
     same-length-2
     same-length-3
+    returns-2
     same-length-4
     same-length-5
     same-length-6
-    same-length-7
-    same-length-8
-    same-length-9
-    returns-2
-    same-length-10
-    same-length-11
-    same-length-12
-    same-length-13
-    same-length-14
-    same-length-15
-    same-length-16
-    same-length-17
-    same-length-18
     returns-3)

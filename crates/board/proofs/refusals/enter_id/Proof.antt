@@ -15,33 +15,21 @@ has-id-requires c κs = search needs
 same-length : tie.Need-same-length
 same-length c = search needs
 
-same-length-2 : tie.Need-same-length-2
-same-length-2 c = search needs
-
-same-length-3 : tie.Need-same-length-3
-same-length-3 c = search needs
-
 returns : tie.Need-returns
-returns c = entered-there _ _ _ _ _ _ _ _ (sym (c .if1 .taken) ∙ c .before .has-id .ensures)
+returns c = entered-there _ _ _ _ (sym (c .if1 .taken) ∙ c .before .has-id .ensures)
 
 add-id-requires : tie.Need-add-id-requires
 add-id-requires c κs = search needs
 
-same-length-4 : tie.Need-same-length-4
-same-length-4 c = search needs
-
-same-length-5 : tie.Need-same-length-5
-same-length-5 c = search needs
-
-same-length-6 : tie.Need-same-length-6
-same-length-6 c = search needs
+same-length-2 : tie.Need-same-length-2
+same-length-2 c = search needs
 
 returns-2 : tie.Need-returns-2
 returns-2 c =
     record {
-      answer = sym (c .before .before .before .before .before .before .before .before .before .before .if1 .left) ∙ c .before .before .before .before .before .before .before .before .before .before .before .has-id .ensures;
-      added = λ z. c .before .before .before .before .before .before .add-id .ensures .0;
-      index = λ z. c .before .before .before .before .before .before .add-id .ensures .1;
+      answer = sym (c .before .before .before .if1 .left) ∙ c .before .before .before .before .has-id .ensures;
+      added = λ z. c .before .add-id .ensures .0;
+      index = λ z. c .before .add-id .ensures .1;
     }
 
 pub enter-id-spec : {M : Type 1} → statement M
@@ -50,11 +38,7 @@ enter-id-spec =
     (tie.spec
     has-id-requires
     same-length
-    same-length-2
-    same-length-3
     returns
     add-id-requires
-    same-length-4
-    same-length-5
-    same-length-6
+    same-length-2
     returns-2)

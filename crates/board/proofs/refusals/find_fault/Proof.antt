@@ -29,7 +29,7 @@ few c =
 
 skip-lines-requires : tie.Need-skip-lines-requires
 skip-lines-requires c κs =
-    let s = c .before .before .before .before .before .before .before .before .before .before in
+    let s = c .before in
     (s .pre .0, omega (arith, counts-are s .pages, part-start (walk-sections (s .args .text .now) (s .pre .0) .nodes)))
 
 slice-aggregate-walk-nodes : tie.Need-slice-aggregate-walk-nodes
@@ -37,40 +37,34 @@ slice-aggregate-walk-nodes c = refl
 
 walk-nodes-requires : tie.Need-walk-nodes-requires
 walk-nodes-requires c κs =
-    let s = c .before .before .before .before .before .before .before .before .before .before .before .before .before .before .before in
+    let s = c .before .before .before .before in
     let n = counts-are s in (
-      c .before .before .before .before .skip-lines .ensures,
+      c .before .before .skip-lines .ensures,
       ((n .pages, n .nodes), (omega (arith, few s), fresh-fewer _ (s .pre .1 .1 .0) (omega (arith, few s)))),
     )
 
 same-length : tie.Need-same-length
-same-length c = c .before .before .before .before .before .before .before .before .before .walk-nodes .kept .1 .1 .1 .1 .0
-
-same-length-2 : tie.Need-same-length-2
-same-length-2 c = c .before .before .before .before .before .before .before .before .before .walk-nodes .kept .1 .1 .1 .1 .1 .0
-
-same-length-3 : tie.Need-same-length-3
-same-length-3 c = c .before .before .before .before .before .before .before .before .before .walk-nodes .kept .1 .1 .1 .1 .1 .1 .0
+same-length c = c .before .before .before .before .walk-nodes .kept .1 .1 .1 .1 .0
 
 returns : tie.Need-returns
 returns c =
-    let s = c .before .before .before .before .before .before .before .before .before .before .before .before .before .before .before .before .before .before .before .before .before .before .before .before .before in (
-      fault-nodes _ (s .args .counts) (counts-are s) _ (c .before .before .before .before .before .before .before .before .before .walk-nodes .ensures .0 .twice) (c .if1 .taken),
+    let s = c .before .before .before .before .before .before .before .before .before in (
+      fault-nodes _ (s .args .counts) (counts-are s) _ (c .before .before .before .before .walk-nodes .ensures .0 .twice) (c .if1 .taken),
       (λ z. let o : _≡_ {A = ℕ} 0 1 = cc in absurd (omega arith)),
     )
 
 add-walk-chips : tie.Need-add-walk-chips
-add-walk-chips c = omega (arith, few (c .before .before .before .before .before .before .before .before .before .before .before .before .before .before .before .before .before .before .before .before .before .before .before .before .before))
+add-walk-chips c = omega (arith, few (c .before .before .before .before .before .before .before .before .before))
 
 slice-aggregate-walk-chips : tie.Need-slice-aggregate-walk-chips
-slice-aggregate-walk-chips c = sym (c .before .before .before .before .before .before .before .before .before .before .before .before .before .walk-nodes .kept .1 .1 .1 .1 .1 .1 .1 .0)
+slice-aggregate-walk-chips c = sym (c .before .before .before .before .before .before .walk-nodes .kept .1 .1 .1 .1 .1 .0)
 
 walk-chips-requires : tie.Need-walk-chips-requires
 walk-chips-requires c κs =
-    let s = c .before .before .before .before .before .before .before .before .before .before .before .before .before .before .before .before .before .before .before .before .before .before .before .before .before .before .before .before .before .before .before .before in
+    let s = c .before .before .before .before .before .before .before .before .before .before .before .before in
     let n = counts-are s in
-    let w = c .before .before .before .before .before .before .before .before .before .before .before .before .before .before .before .before .walk-nodes in
-    let once = c .before .before .before .before .before .before .before .if1 .left in (
+    let w = c .before .before .before .before .before .before .before .walk-nodes in
+    let once = c .before .before .before .if1 .left in (
       w .ensures .0 .place once,
       (
         record {
@@ -78,50 +72,38 @@ walk-chips-requires c κs =
           count = n .chips;
           bodies = n .nodes;
           body = w .ensures .0 .entered once;
-          room = omega (arith, few s, w .kept .1 .1 .1 .1 .1 .1 .1 .0);
+          room = omega (arith, few s, w .kept .1 .1 .1 .1 .1 .0);
           kindsAre = w .ensures .1 .kinds once;
         },
         fresh-fewer _ (s .pre .1 .1 .1 .0) (omega (arith, few s)),
       ),
     )
 
-same-length-4 : tie.Need-same-length-4
-same-length-4 c = c .before .before .before .before .before .before .before .before .before .before .before .before .before .before .before .before .before .before .before .before .before .before .before .before .before .walk-nodes .kept .1 .1 .1 .1 .0
+same-length-2 : tie.Need-same-length-2
+same-length-2 c = c .before .before .before .before .before .before .before .before .before .before .before .walk-nodes .kept .1 .1 .1 .1 .0
 
-same-length-5 : tie.Need-same-length-5
-same-length-5 c = c .before .before .before .before .before .before .before .before .before .before .before .before .before .before .before .before .before .before .before .before .before .before .before .before .before .walk-nodes .kept .1 .1 .1 .1 .1 .0
-
-same-length-6 : tie.Need-same-length-6
-same-length-6 c = c .before .before .before .before .before .before .before .before .before .before .before .before .before .before .before .before .before .before .before .before .before .before .before .before .before .walk-nodes .kept .1 .1 .1 .1 .1 .1 .0
-
-same-length-7 : tie.Need-same-length-7
-same-length-7 c = c .before .before .before .before .before .before .before .before .walk-chips .kept .1 .1 .1 .1 .1 .1 .1 .1 .1 .0
-
-same-length-8 : tie.Need-same-length-8
-same-length-8 c = c .before .before .before .before .before .before .before .before .walk-chips .kept .1 .1 .1 .1 .1 .1 .1 .1 .1 .1 .0
-
-same-length-9 : tie.Need-same-length-9
-same-length-9 c = c .before .before .before .before .before .before .before .before .walk-chips .kept .1 .1 .1 .1 .1 .1 .1 .1 .1 .1 .1 .0
+same-length-3 : tie.Need-same-length-3
+same-length-3 c = c .before .before .before .walk-chips .kept .1 .1 .1 .1 .1 .1 .1 .0
 
 returns-2 : tie.Need-returns-2
 returns-2 c =
-    let s = c .before .before .before .before .before .before .before .before .before .before .before .before .before .before .before .before .before .before .before .before .before .before .before .before .before .before .before .before .before .before .before .before .before .before .before .before .before .before .before .before .before in (
-      fault-chips _ (s .args .counts) (counts-are s) _ (c .before .before .before .before .before .before .before .before .before .before .before .before .before .before .before .before .before .before .before .before .before .before .before .before .before .walk-nodes .ensures .0 .twice) (c .before .before .before .before .before .before .before .before .before .before .before .before .before .before .before .before .if1 .left) _ (c .before .before .before .before .before .before .before .before .walk-chips .ensures .0 .twice) (c .if2 .taken),
+    let s = c .before .before .before .before .before .before .before .before .before .before .before .before .before .before .before .before in (
+      fault-chips _ (s .args .counts) (counts-are s) _ (c .before .before .before .before .before .before .before .before .before .before .before .walk-nodes .ensures .0 .twice) (c .before .before .before .before .before .before .before .if1 .left) _ (c .before .before .before .walk-chips .ensures .0 .twice) (c .if2 .taken),
       (λ z. let o : _≡_ {A = ℕ} 0 1 = cc in absurd (omega arith)),
     )
 
 add-walk-inner : tie.Need-add-walk-inner
-add-walk-inner c = omega (arith, few (c .before .before .before .before .before .before .before .before .before .before .before .before .before .before .before .before .before .before .before .before .before .before .before .before .before .before .before .before .before .before .before .before .before .before .before .before .before .before .before .before .before))
+add-walk-inner c = omega (arith, few (c .before .before .before .before .before .before .before .before .before .before .before .before .before .before .before .before))
 
 add-walk-inner-2 : tie.Need-add-walk-inner-2
-add-walk-inner-2 c = omega (arith, few (c .before .before .before .before .before .before .before .before .before .before .before .before .before .before .before .before .before .before .before .before .before .before .before .before .before .before .before .before .before .before .before .before .before .before .before .before .before .before .before .before .before))
+add-walk-inner-2 c = omega (arith, few (c .before .before .before .before .before .before .before .before .before .before .before .before .before .before .before .before))
 
 walk-inner-requires : tie.Need-walk-inner-requires
 walk-inner-requires c κs =
-    let s = c .before .before .before .before .before .before .before .before .before .before .before .before .before .before .before .before .before .before .before .before .before .before .before .before .before .before .before .before .before .before .before .before .before .before .before .before .before .before .before .before .before .before .before .before .before .before .before .before .before .before in
+    let s = c .before .before .before .before .before .before .before .before .before .before .before .before .before .before .before .before .before .before .before in
     let n = counts-are s in
-    let w = c .before .before .before .before .before .before .before .before .before .before .before .before .before .before .before .before .before .walk-chips in
-    let once = c .before .before .before .before .before .before .before .before .before .if2 .left in (
+    let w = c .before .before .before .before .before .before .walk-chips in
+    let once = c .before .before .before .if2 .left in (
       w .ensures .0 .place once,
       (
         record {
@@ -129,87 +111,51 @@ walk-inner-requires c κs =
           count = n .inner;
           bodies = n .nodes;
           chipsAre = n .chips;
-          body = c .before .before .before .before .before .before .before .before .before .before .before .before .before .before .before .before .before .before .before .before .before .before .before .before .before .before .before .before .before .before .before .before .before .before .walk-nodes .ensures .0 .entered (c .before .before .before .before .before .before .before .before .before .before .before .before .before .before .before .before .before .before .before .before .before .before .before .before .before .if1 .left);
+          body = c .before .before .before .before .before .before .before .before .before .before .before .before .before .before .walk-nodes .ensures .0 .entered (c .before .before .before .before .before .before .before .before .before .before .if1 .left);
           chip = w .ensures .0 .entered once;
         },
         fresh-fewer _ (s .pre .1 .1 .1 .1) (omega (arith, few s)),
       ),
     )
 
-same-length-10 : tie.Need-same-length-10
-same-length-10 c = c .before .before .before .before .before .before .before .before .before .before .before .before .before .before .before .before .before .before .before .before .before .before .before .before .before .before .before .before .before .before .before .before .before .before .before .before .before .before .before .before .before .before .before .walk-nodes .kept .1 .1 .1 .1 .0
+same-length-4 : tie.Need-same-length-4
+same-length-4 c = c .before .before .before .before .before .before .before .before .before .before .before .before .before .before .before .before .before .before .walk-nodes .kept .1 .1 .1 .1 .0
 
-same-length-11 : tie.Need-same-length-11
-same-length-11 c = c .before .before .before .before .before .before .before .before .before .before .before .before .before .before .before .before .before .before .before .before .before .before .before .before .before .before .before .before .before .before .before .before .before .before .before .before .before .before .before .before .before .before .before .walk-nodes .kept .1 .1 .1 .1 .1 .0
+same-length-5 : tie.Need-same-length-5
+same-length-5 c = c .before .before .before .before .before .before .before .before .before .before .walk-chips .kept .1 .1 .1 .1 .1 .1 .1 .0
 
-same-length-12 : tie.Need-same-length-12
-same-length-12 c = c .before .before .before .before .before .before .before .before .before .before .before .before .before .before .before .before .before .before .before .before .before .before .before .before .before .before .before .before .before .before .before .before .before .before .before .before .before .before .before .before .before .before .before .walk-nodes .kept .1 .1 .1 .1 .1 .1 .0
-
-same-length-13 : tie.Need-same-length-13
-same-length-13 c = c .before .before .before .before .before .before .before .before .before .before .before .before .before .before .before .before .before .before .before .before .before .before .before .before .before .before .walk-chips .kept .1 .1 .1 .1 .1 .1 .1 .1 .1 .0
-
-same-length-14 : tie.Need-same-length-14
-same-length-14 c = c .before .before .before .before .before .before .before .before .before .before .before .before .before .before .before .before .before .before .before .before .before .before .before .before .before .before .walk-chips .kept .1 .1 .1 .1 .1 .1 .1 .1 .1 .1 .0
-
-same-length-15 : tie.Need-same-length-15
-same-length-15 c = c .before .before .before .before .before .before .before .before .before .before .before .before .before .before .before .before .before .before .before .before .before .before .before .before .before .before .walk-chips .kept .1 .1 .1 .1 .1 .1 .1 .1 .1 .1 .1 .0
-
-same-length-16 : tie.Need-same-length-16
-same-length-16 c = c .before .before .before .before .before .before .before .before .walk-inner .kept .1 .1 .1 .1 .1 .1 .1 .1 .1 .1 .1 .1 .0
-
-same-length-17 : tie.Need-same-length-17
-same-length-17 c = c .before .before .before .before .before .before .before .before .walk-inner .kept .1 .1 .1 .1 .1 .1 .1 .1 .1 .1 .1 .1 .1 .0
-
-same-length-18 : tie.Need-same-length-18
-same-length-18 c = c .before .before .before .before .before .before .before .before .walk-inner .kept .1 .1 .1 .1 .1 .1 .1 .1 .1 .1 .1 .1 .1 .1 .0
+same-length-6 : tie.Need-same-length-6
+same-length-6 c = c .before .before .before .walk-inner .kept .1 .1 .1 .1 .1 .1 .1 .1 .0
 
 returns-3 : tie.Need-returns-3
 returns-3 c =
-    let s = c .before .before .before .before .before .before .before .before .before .before .before .before .before .before .before .before .before .before .before .before .before .before .before .before .before .before .before .before .before .before .before .before .before .before .before .before .before .before .before .before .before .before .before .before .before .before .before .before .before .before .before .before .before .before .before .before .before .before .before in (
-      fault-inner _ (s .args .counts) (counts-are s) _ (c .before .before .before .before .before .before .before .before .before .before .before .before .before .before .before .before .before .before .before .before .before .before .before .before .before .before .before .before .before .before .before .before .before .before .before .before .before .before .before .before .before .before .before .walk-nodes .ensures .0 .twice) (c .before .before .before .before .before .before .before .before .before .before .before .before .before .before .before .before .before .before .before .before .before .before .before .before .before .before .before .before .before .before .before .before .before .before .if1 .left) _ (c .before .before .before .before .before .before .before .before .before .before .before .before .before .before .before .before .before .before .before .before .before .before .before .before .before .before .walk-chips .ensures .0 .twice) (c .before .before .before .before .before .before .before .before .before .before .before .before .before .before .before .before .before .before .if2 .left) _
-          (c .before .before .before .before .before .before .before .before .walk-inner .ensures .0 .twice) (c .if3 .taken),
+    let s = c .before .before .before .before .before .before .before .before .before .before .before .before .before .before .before .before .before .before .before .before .before .before .before in (
+      fault-inner _ (s .args .counts) (counts-are s) _ (c .before .before .before .before .before .before .before .before .before .before .before .before .before .before .before .before .before .before .walk-nodes .ensures .0 .twice) (c .before .before .before .before .before .before .before .before .before .before .before .before .before .before .if1 .left) _ (c .before .before .before .before .before .before .before .before .before .before .walk-chips .ensures .0 .twice) (c .before .before .before .before .before .before .before .if2 .left) _
+          (c .before .before .before .walk-inner .ensures .0 .twice) (c .if3 .taken),
       (λ z. let o : _≡_ {A = ℕ} 0 1 = cc in absurd (omega arith)),
     )
 
 verdict-requires : tie.Need-verdict-requires
 verdict-requires c κs = search needs
 
-same-length-19 : tie.Need-same-length-19
-same-length-19 c = c .before .before .before .before .before .before .before .before .before .before .before .before .before .before .before .before .before .before .before .before .before .before .before .before .before .before .before .before .before .before .before .before .before .before .before .before .before .before .before .before .before .before .before .before .walk-nodes .kept .1 .1 .1 .1 .0
+same-length-7 : tie.Need-same-length-7
+same-length-7 c = c .before .before .before .before .before .before .before .before .before .before .before .before .before .before .before .before .before .before .before .walk-nodes .kept .1 .1 .1 .1 .0
 
-same-length-20 : tie.Need-same-length-20
-same-length-20 c = c .before .before .before .before .before .before .before .before .before .before .before .before .before .before .before .before .before .before .before .before .before .before .before .before .before .before .before .before .before .before .before .before .before .before .before .before .before .before .before .before .before .before .before .before .walk-nodes .kept .1 .1 .1 .1 .1 .0
+same-length-8 : tie.Need-same-length-8
+same-length-8 c = c .before .before .before .before .before .before .before .before .before .before .before .walk-chips .kept .1 .1 .1 .1 .1 .1 .1 .0
 
-same-length-21 : tie.Need-same-length-21
-same-length-21 c = c .before .before .before .before .before .before .before .before .before .before .before .before .before .before .before .before .before .before .before .before .before .before .before .before .before .before .before .before .before .before .before .before .before .before .before .before .before .before .before .before .before .before .before .before .walk-nodes .kept .1 .1 .1 .1 .1 .1 .0
-
-same-length-22 : tie.Need-same-length-22
-same-length-22 c = c .before .before .before .before .before .before .before .before .before .before .before .before .before .before .before .before .before .before .before .before .before .before .before .before .before .before .before .walk-chips .kept .1 .1 .1 .1 .1 .1 .1 .1 .1 .0
-
-same-length-23 : tie.Need-same-length-23
-same-length-23 c = c .before .before .before .before .before .before .before .before .before .before .before .before .before .before .before .before .before .before .before .before .before .before .before .before .before .before .before .walk-chips .kept .1 .1 .1 .1 .1 .1 .1 .1 .1 .1 .0
-
-same-length-24 : tie.Need-same-length-24
-same-length-24 c = c .before .before .before .before .before .before .before .before .before .before .before .before .before .before .before .before .before .before .before .before .before .before .before .before .before .before .before .walk-chips .kept .1 .1 .1 .1 .1 .1 .1 .1 .1 .1 .1 .0
-
-same-length-25 : tie.Need-same-length-25
-same-length-25 c = c .before .before .before .before .before .before .before .before .before .walk-inner .kept .1 .1 .1 .1 .1 .1 .1 .1 .1 .1 .1 .1 .0
-
-same-length-26 : tie.Need-same-length-26
-same-length-26 c = c .before .before .before .before .before .before .before .before .before .walk-inner .kept .1 .1 .1 .1 .1 .1 .1 .1 .1 .1 .1 .1 .1 .0
-
-same-length-27 : tie.Need-same-length-27
-same-length-27 c = c .before .before .before .before .before .before .before .before .before .walk-inner .kept .1 .1 .1 .1 .1 .1 .1 .1 .1 .1 .1 .1 .1 .1 .0
+same-length-9 : tie.Need-same-length-9
+same-length-9 c = c .before .before .before .before .walk-inner .kept .1 .1 .1 .1 .1 .1 .1 .1 .0
 
 returns-4 : tie.Need-returns-4
 returns-4 c =
-    let s = c .before .before .before .before .before .before .before .before .before .before .before .before .before .before .before .before .before .before .before .before .before .before .before .before .before .before .before .before .before .before .before .before .before .before .before .before .before .before .before .before .before .before .before .before .before .before .before .before .before .before .before .before .before .before .before .before .before .before .before .before in
+    let s = c .before .before .before .before .before .before .before .before .before .before .before .before .before .before .before .before .before .before .before .before .before .before .before .before in
     let n = counts-are s in
-    let w₁ = c .before .before .before .before .before .before .before .before .before .before .before .before .before .before .before .before .before .before .before .before .before .before .before .before .before .before .before .before .before .before .before .before .before .before .before .before .before .before .before .before .before .before .before .before .walk-nodes .ensures in
-    let w₂ = c .before .before .before .before .before .before .before .before .before .before .before .before .before .before .before .before .before .before .before .before .before .before .before .before .before .before .before .walk-chips .ensures in
-    let w₃ = c .before .before .before .before .before .before .before .before .before .walk-inner .ensures in
-    let once₁ = c .before .before .before .before .before .before .before .before .before .before .before .before .before .before .before .before .before .before .before .before .before .before .before .before .before .before .before .before .before .before .before .before .before .before .before .if1 .left in
-    let once₂ = c .before .before .before .before .before .before .before .before .before .before .before .before .before .before .before .before .before .before .before .if2 .left in
+    let w₁ = c .before .before .before .before .before .before .before .before .before .before .before .before .before .before .before .before .before .before .before .walk-nodes .ensures in
+    let w₂ = c .before .before .before .before .before .before .before .before .before .before .before .walk-chips .ensures in
+    let w₃ = c .before .before .before .before .walk-inner .ensures in
+    let once₁ = c .before .before .before .before .before .before .before .before .before .before .before .before .before .before .before .if1 .left in
+    let once₂ = c .before .before .before .before .before .before .before .before .if2 .left in
     let once₃ = c .before .if3 .left in (
       c .verdict .ensures
           ∙ fault-rest _ (s .args .counts) n _ (w₁ .0 .twice) once₁ _ (w₂ .0 .twice) once₂ _ _ _ _ _ (w₃ .0 .twice) once₃ (w₁ .0 .missing once₁) (w₂ .0 .missing once₂)
@@ -225,40 +171,22 @@ find-fault-spec =
     slice-aggregate-walk-nodes
     walk-nodes-requires
     same-length
-    same-length-2
-    same-length-3
     returns
     add-walk-chips
     slice-aggregate-walk-chips
     walk-chips-requires
-    same-length-4
-    same-length-5
-    same-length-6
-    same-length-7
-    same-length-8
-    same-length-9
+    same-length-2
+    same-length-3
     returns-2
     add-walk-inner
     add-walk-inner-2
     walk-inner-requires
-    same-length-10
-    same-length-11
-    same-length-12
-    same-length-13
-    same-length-14
-    same-length-15
-    same-length-16
-    same-length-17
-    same-length-18
+    same-length-4
+    same-length-5
+    same-length-6
     returns-3
     verdict-requires
-    same-length-19
-    same-length-20
-    same-length-21
-    same-length-22
-    same-length-23
-    same-length-24
-    same-length-25
-    same-length-26
-    same-length-27
+    same-length-7
+    same-length-8
+    same-length-9
     returns-4)

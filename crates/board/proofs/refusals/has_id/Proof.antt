@@ -21,13 +21,13 @@ enum-told-2 c = search needs
 
 returns : tie.Need-returns
 returns c =
-    let a = c .before .before .before .before .before .before .args in
-    sym (ap found (found-at (entryOf (a .ids .now) (a .n) (a .id .0)) _ (sym (c .enum-told .given .1) ∙ c .before .before .find-id .ensures)))
+    let a = c .before .before .before .args in
+    sym (ap found (found-at (entryOf (a .index .now) (a .n) (a .id .0)) _ (sym (c .enum-told .given .1) ∙ c .before .before .find-id .ensures)))
 
 returns-2 : tie.Need-returns-2
 returns-2 c =
-    let a = c .before .before .before .before .before .before .args in
-    sym (ap found (found-none (entryOf (a .ids .now) (a .n) (a .id .0)) (sym (c .enum-told2 .given .1) ∙ c .before .before .find-id .ensures)))
+    let a = c .before .before .before .args in
+    sym (ap found (found-none (entryOf (a .index .now) (a .n) (a .id .0)) (sym (c .enum-told2 .given .1) ∙ c .before .before .find-id .ensures)))
 
 pub has-id-spec : {M : Type 1} → statement M
 has-id-spec = tie.close (tie.spec find-id-requires enum-told enum-told-2 returns returns-2)

@@ -21,30 +21,30 @@ enum-known-i : tie.Need-enum-known-i
 enum-known-i c = search needs
 
 -- The entry found.
-entry : (c : tie.After-i) → entryOf (c .before .before .before .before .before .before .before .args .ids .now) (c .before .before .before .before .before .before .before .args .n) (c .before .before .before .before .before .before .before .args .id .0) ≡ at (c .i .given .0 .0)
+entry : (c : tie.After-i) → entryOf (c .before .before .before .before .args .body .now) (c .before .before .before .before .args .n) (c .before .before .before .before .args .id .0) ≡ at (c .i .given .0 .0)
 entry c =
-    let a = c .before .before .before .before .before .before .before .args in
-    found-at (entryOf (a .ids .now) (a .n) (a .id .0)) _ (sym (c .i .given .1) ∙ c .before .before .find-id .ensures)
+    let a = c .before .before .before .before .args in
+    found-at (entryOf (a .body .now) (a .n) (a .id .0)) _ (sym (c .i .given .1) ∙ c .before .before .find-id .ensures)
 
-below : (c : tie.After-i) → c .i .given .0 .0 < c .before .before .before .before .before .before .before .args .n
-below c = let a = c .before .before .before .before .before .before .before .args in entry-below (a .ids .now) (a .n) (a .id .0) _ (entry c)
+below : (c : tie.After-i) → c .i .given .0 .0 < c .before .before .before .before .args .n
+below c = let a = c .before .before .before .before .args in entry-below (a .body .now) (a .n) (a .id .0) _ (entry c)
 
 mul-result : tie.Need-mul-result
-mul-result c = omega (arith, below (c .before), c .before .before .before .before .before .before .before .before .pre .1, c .before .before .before .before .before .before .before .before .good .1 .1 .1)
+mul-result c = omega (arith, below (c .before), c .before .before .before .before .before .pre .1, c .before .before .before .before .before .good .1)
 
 shared-slice-read-result : tie.Need-shared-slice-read-result
-shared-slice-read-result c = omega (arith, below (c .before .before), c .before .before .before .before .before .before .before .before .before .pre .1)
+shared-slice-read-result c = omega (arith, below (c .before .before), c .before .before .before .before .before .before .pre .1)
 
 enum-told : tie.Need-enum-told
 enum-told c = search needs
 
 returns : tie.Need-returns
-returns c = sym (ap (isChip (c .before .before .before .before .before .before .before .before .before .args .kinds .now)) (entry (c .before .before)))
+returns c = sym (ap (isChip (c .before .before .before .before .before .before .args .kinds .now)) (entry (c .before .before)))
 
 returns-2 : tie.Need-returns-2
 returns-2 c =
-    let a = c .before .before .before .before .before .before .before .args in
-    sym (ap (isChip (a .kinds .now)) (found-none (entryOf (a .ids .now) (a .n) (a .id .0)) (sym (c .enum-told .given .1) ∙ c .before .before .find-id .ensures)))
+    let a = c .before .before .before .before .args in
+    sym (ap (isChip (a .kinds .now)) (found-none (entryOf (a .body .now) (a .n) (a .id .0)) (sym (c .enum-told .given .1) ∙ c .before .before .find-id .ensures)))
 
 pub is-body-chip-spec : {M : Type 1} → statement M
 is-body-chip-spec =

@@ -16,27 +16,27 @@ use Rattle.board.proofs.refusals.is_body_chip.Reads as is-body-chip-rea
 array-read-parent : tie.Need-array-read-parent
 array-read-parent c = search needs
 
-array-read-t20 : tie.Need-array-read-t20
-array-read-t20 c = search needs
+array-read-t16 : tie.Need-array-read-t16
+array-read-t16 c = search needs
 
 is-body-chip-requires : tie.Need-is-body-chip-requires
 is-body-chip-requires c κs = search needs
 
 returns : tie.Need-returns
-returns c = ap not (c .is-body-chip .ensures) ∙ sym (pick-false (given (getD (c .before .before .before .before .before .before .before .before .before .args .t10) 2 0)) _ _ (given-missing _ (c .before .if1 .taken)))
+returns c = ap not (c .is-body-chip .ensures) ∙ sym (pick-false (given (getD (c .before .before .before .args .t6) 2 0)) _ _ (given-missing _ (c .before .if1 .taken)))
 
 has-id-requires : tie.Need-has-id-requires
 has-id-requires c κs = search needs
 
 returns-2 : tie.Need-returns-2
-returns-2 c = ap not (c .has-id .ensures) ∙ sym (pick-true (given (getD (c .before .before .before .before .before .before .before .before .before .args .t10) 2 0)) _ _ (given-there _ (c .before .if1 .left)))
+returns-2 c = ap not (c .has-id .ensures) ∙ sym (pick-true (given (getD (c .before .before .before .args .t6) 2 0)) _ _ (given-there _ (c .before .if1 .left)))
 
 pub parent-missing-spec : {M : Type 1} → statement M
 parent-missing-spec =
     tie.close
     (tie.spec
     array-read-parent
-    array-read-t20
+    array-read-t16
     is-body-chip-requires
     returns
     has-id-requires

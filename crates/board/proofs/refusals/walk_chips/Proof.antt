@@ -13,7 +13,7 @@ use Rattle.board.specs.Board.{chipId}
 use Rattle.board.specs.Refusals.{chipTwice, parentMissing}
 use Rattle.board.specs.Walk.{lineIf, earlier, lineFrom, sheetBoard, Ready}
 use Rattle.board.proofs.Sections.{Part, inOrder}
-use Rattle.board.proofs.Faults.{Kept, Walking, walking-start, walking-more, walking-twice, walking-end, walk-row, walk-next, walk-sections, ids-more, chip-field, chip-repeats, chip-gone}
+use Rattle.board.proofs.Faults.{Walking, walking-start, walking-more, walking-twice, walking-end, walk-row, walk-next, walk-sections, ids-more, chip-field, chip-repeats, chip-gone}
 use Rattle.board.proofs.refusals.walk_chips.Statement.{statement}
 use Rattle.board.proofs.refusals.walk_chips.Tie as tie
 use Rattle.board.proofs.refusals.walk_chips.Reads as reads
@@ -25,30 +25,30 @@ use Rattle.sheet.proofs.row_at.Reads as row-at-reads
 
 -- The first c chips are behind.
 abbrev Inv-loop : tie.InvT-loop
-Inv-loop text first n w body-ids body-nexts body-heads kinds nodes ids₀ nexts₀ heads₀ place₀ missing₀ c₀ ids nexts heads place missing c =
+Inv-loop text first n w body kinds nodes ids₀ place₀ missing₀ c₀ ids place missing c =
     let b = sheetBoard text in
-    Walking text first n c (chipId b) (chipTwice b) (parentMissing b) missing₀ missing place ids nexts heads × Kept ids₀ nexts₀ heads₀ ids nexts heads
+    Walking text first n c (chipId b) (chipTwice b) (parentMissing b) missing₀ missing place ids × (length ids ≡ length ids₀)
 
 abbrev μ-loop : tie.MeasureT-loop
-μ-loop text first n w body-ids body-nexts body-heads kinds nodes ids₀ nexts₀ heads₀ place₀ missing₀ c₀ ids nexts heads place missing c = n - c
+μ-loop text first n w body kinds nodes ids₀ place₀ missing₀ c₀ ids place missing c = n - c
 
 -- The counts are small.
-few : (c : tie.At-loop Inv-loop μ-loop) → (c .before .before .before .before .before .before .before .before .before .args .first ≤ 4160) × (c .before .before .before .before .before .before .before .before .before .args .n ≤ 256)
+few : (c : tie.At-loop Inv-loop μ-loop) → (c .before .before .before .args .first ≤ 4160) × (c .before .before .before .args .n ≤ 256)
 few c =
-    let p = c .before .before .before .before .before .before .before .before .before .pre in
+    let p = c .before .before .before .pre in
     let sec = walk-sections _ (p .0) in
     (omega (arith, p .1 .0 .behind, sec .few-pages, sec .few-nodes), omega (arith, p .1 .0 .count, sec .few-chips))
 
 -- The line at hand is the c-th chip's, and the next one follows.
 chip-here : (c : tie.After-row-at Inv-loop μ-loop)
-    → (c .row-at .result .row ≡ getD (sheetBoard (c .before .before .before .before .before .before .before .before .before .before .before .args .text .now) .chips) (c .before .before .loop .c) [])
-    × Ready (c .before .before .before .before .before .before .before .before .before .before .before .args .text .now) (suc (c .before .before .before .before .before .before .before .before .before .before .before .args .first + c .before .before .loop .c)) (c .row-at .result .next)
+    → (c .row-at .result .row ≡ getD (sheetBoard (c .before .before .before .before .before .args .text .now) .chips) (c .before .before .loop .c) [])
+    × Ready (c .before .before .before .before .before .args .text .now) (suc (c .before .before .before .before .before .args .first + c .before .before .loop .c)) (c .row-at .result .next)
 chip-here c =
-    let t = c .before .before .before .before .before .before .before .before .before .before .before .args .text .now in
-    let p = c .before .before .before .before .before .before .before .before .before .before .before .pre in
+    let t = c .before .before .before .before .before .args .text .now in
+    let p = c .before .before .before .before .before .pre in
     let i = c .before .before .loop .c in
     let w = c .before .before .loop .inv .0 in
-    let part : Part (rowsFrom t) (c .before .before .before .before .before .before .before .before .before .before .before .args .first) (sheetBoard t .chips) (inOrder 3 3 (rowsFrom t)) = rw (p .1 .0 .behind) (walk-sections t (p .0) .chips) in
+    let part : Part (rowsFrom t) (c .before .before .before .before .before .args .first) (sheetBoard t .chips) (inOrder 3 3 (rowsFrom t)) = rw (p .1 .0 .behind) (walk-sections t (p .0) .chips) in
     let h : i < length (sheetBoard t .chips) = omega (arith, c .before .loop-test .taken, p .1 .0 .count) in (
       ap (λ (r : RowAt). r .row) (c .row-at .ensures) ∙ walk-row t part i (w .ready) h,
       rw (c .row-at .ensures) (walk-next t part i (w .ready) h),
@@ -56,10 +56,10 @@ chip-here c =
 
 loop-holds : tie.Need-loop-holds Inv-loop μ-loop
 loop-holds c =
-    let a = c .before .before .before .before .before .before .before .before .args in
-    let p = c .before .before .before .before .before .before .before .before .pre in (
+    let a = c .before .before .args in
+    let p = c .before .before .pre in (
       walking-start (a .text .now) (a .first) (a .n) _ _ _ (a .w .missing) (a .w .place) (p .0) (p .1 .1),
-      record { ids-kept = refl; nexts-kept = refl; heads-kept = refl },
+      refl,
     )
 
 row-at-requires : tie.Need-row-at-requires Inv-loop μ-loop
@@ -73,39 +73,33 @@ add-line-2 c = omega (arith, few (c .before .before .before), c .before .before 
 
 parent-missing-requires : tie.Need-parent-missing-requires Inv-loop μ-loop
 parent-missing-requires c κs =
-    let inv = c .before .before .before .before .before .before .loop .inv in
-    let r = c .before .before .before .before .before .before .before .before .before .before .before .before .before .before .before .pre .1 .0 in
+    let inv = c .before .before .before .before .loop .inv in
+    let r = c .before .before .before .before .before .before .before .pre .1 .0 in
     (r .body .index, (r .room, inv .0 .entered .index))
 
-array-read-t38 : tie.Need-array-read-t38 Inv-loop μ-loop
-array-read-t38 c = search needs
+array-read-t26 : tie.Need-array-read-t26 Inv-loop μ-loop
+array-read-t26 c = search needs
 
 enter-id-requires : tie.Need-enter-id-requires Inv-loop μ-loop
 enter-id-requires c κs =
-    let inv = c .before .before .before .before .before .before .before .before .before .before .loop .inv in
-    let f = c .before .before .before .before .before .before .before .before .before .before .before .before .before .before .before .before .before .before .before .pre .1 .1 in
-    let h = c .before .before .before .before .before .before .before .before .before .loop-test .taken in (
+    let inv = c .before .before .before .before .before .before .loop .inv in
+    let f = c .before .before .before .before .before .before .before .before .before .pre .1 .1 in
+    let h = c .before .before .before .before .before .loop-test .taken in (
       inv .0 .entered .index,
-      (omega (arith, h, f .room, inv .1 .ids-kept), omega (arith, h, f .links, inv .1 .nexts-kept), omega (arith, h, few (c .before .before .before .before .before .before .before .before .before .before))),
+      (omega (arith, h, f .room, inv .1), omega (arith, h, few (c .before .before .before .before .before .before))),
     )
 
 same-length : tie.Need-same-length Inv-loop μ-loop
-same-length c = c .before .before .before .before .before .before .before .enter-id .kept .0 ∙ c .before .before .before .before .before .before .before .before .before .before .before .before .before .before .before .before .before .before .loop .inv .1 .ids-kept
-
-same-length-2 : tie.Need-same-length-2 Inv-loop μ-loop
-same-length-2 c = c .before .before .before .before .before .before .before .enter-id .kept .1 .0 ∙ c .before .before .before .before .before .before .before .before .before .before .before .before .before .before .before .before .before .before .loop .inv .1 .nexts-kept
-
-same-length-3 : tie.Need-same-length-3 Inv-loop μ-loop
-same-length-3 c = c .before .before .before .before .before .before .before .enter-id .kept .1 .1 .0 ∙ c .before .before .before .before .before .before .before .before .before .before .before .before .before .before .before .before .before .before .loop .inv .1 .heads-kept
+same-length c = c .before .before .enter-id .kept .0 ∙ c .before .before .before .before .before .before .before .before .before .loop .inv .1
 
 returns : tie.Need-returns Inv-loop μ-loop
 returns c =
-    let a = c .before .before .before .before .before .before .before .before .before .before .before .before .before .before .before .before .before .before .before .before .before .before .before .before .before .before .before .args in
-    let l = c .before .before .before .before .before .before .before .before .before .before .before .before .before .before .before .before .before .before .loop in
+    let a = c .before .before .before .before .before .before .before .before .before .before .before .before .args in
+    let l = c .before .before .before .before .before .before .before .before .before .loop in
     let b = sheetBoard (a .text .now) in
     let again : chipTwice b (l .c) ≡ true =
-    sym (sym (c .if1 .taken) ∙ c .before .before .before .before .before .before .before .enter-id .ensures .answer ∙ chip-repeats b (l .c) _ (chip-here (c .before .before .before .before .before .before .before .before .before .before .before .before .before .before .before .before) .0) (l .inv .0 .entered)) in (
-      walking-twice (a .text .now) (a .first) (a .n) _ _ _ (a .w .missing) (l .c) (l .missing) (l .place) (l .inv .0) (c .before .before .before .before .before .before .before .before .before .before .before .before .before .before .before .before .before .loop-test .taken) (a .w) _ _ _ _ again
+    sym (sym (c .if1 .taken) ∙ c .before .before .enter-id .ensures .answer ∙ chip-repeats b (l .c) _ (chip-here (c .before .before .before .before .before .before .before) .0) (l .inv .0 .entered)) in (
+      walking-twice (a .text .now) (a .first) (a .n) _ _ _ (a .w .missing) (l .c) (l .missing) (l .place) (l .inv .0) (c .before .before .before .before .before .before .before .before .loop-test .taken) (a .w) _ _ again
           (add-one (a .first + l .c)),
       refl,
     )
@@ -114,52 +108,42 @@ first-line-requires : tie.Need-first-line-requires Inv-loop μ-loop
 first-line-requires c κs = search needs
 
 add-c : tie.Need-add-c Inv-loop μ-loop
-add-c c = omega (arith, few (c .before .before .before .before .before .before .before .before .before .before .before .before .before .before .before .before .before .before .before), c .before .before .before .before .before .before .before .before .before .before .before .before .before .before .before .before .before .before .loop-test .taken)
+add-c c = omega (arith, few (c .before .before .before .before .before .before .before .before .before .before), c .before .before .before .before .before .before .before .before .before .loop-test .taken)
 
 loop-less : tie.Need-loop-less Inv-loop μ-loop
-loop-less c = omega (arith, c .before .before .before .before .before .before .before .before .before .before .before .before .before .before .before .before .before .before .loop-test .taken)
+loop-less c = omega (arith, c .before .before .before .before .before .before .before .before .before .loop-test .taken)
 
 loop-again : tie.Need-loop-again Inv-loop μ-loop
 loop-again c =
-    let a = c .before .before .before .before .before .before .before .before .before .before .before .before .before .before .before .before .before .before .before .before .before .before .before .before .before .before .before .before .args in
-    let l = c .before .before .before .before .before .before .before .before .before .before .before .before .before .before .before .before .before .before .before .loop in
+    let a = c .before .before .before .before .before .before .before .before .before .before .before .before .before .args in
+    let l = c .before .before .before .before .before .before .before .before .before .before .loop in
     let t = a .text .now in
     let b = sheetBoard t in
-    let h = c .before .before .before .before .before .before .before .before .before .before .before .before .before .before .before .before .before .before .loop-test .taken in
-    let p = c .before .before .before .before .before .before .before .before .before .before .before .before .before .before .before .before .before .before .before .before .before .before .before .before .before .before .before .before .pre in
-    let e = c .before .before .before .before .before .before .before .before .enter-id in
-    let here = chip-here (c .before .before .before .before .before .before .before .before .before .before .before .before .before .before .before .before .before) in
-    let row = c .before .before .before .before .before .before .before .before .before .before .before .before .before .before .before .before .before .row-at .result .row in
+    let h = c .before .before .before .before .before .before .before .before .before .loop-test .taken in
+    let p = c .before .before .before .before .before .before .before .before .before .before .before .before .before .pre in
+    let e = c .before .before .before .enter-id in
+    let here = chip-here (c .before .before .before .before .before .before .before .before) in
+    let row = c .before .before .before .before .before .before .before .before .row-at .result .row in
     let fresh : e .result ≡ false = c .before .if1 .left in
     let once : chipTwice b (l .c) ≡ false = sym (sym fresh ∙ e .ensures .answer ∙ chip-repeats b (l .c) row (here .0) (l .inv .0 .entered)) in
-    let room : l .c < length (l .ids) = omega (arith, h, p .1 .1 .room, l .inv .1 .ids-kept) in
-    let gone : c .before .before .before .before .before .before .before .before .before .before .before .before .parent-missing .result ≡ parentMissing b (l .c) =
-    c .before .before .before .before .before .before .before .before .before .before .before .before .parent-missing .ensures
+    let room : l .c < length (l .index) = omega (arith, h, p .1 .1 .room, l .inv .1) in
+    let gone : c .before .before .before .before .before .parent-missing .result ≡ parentMissing b (l .c) =
+    c .before .before .before .before .before .parent-missing .ensures
     ∙ chip-gone b (l .c) row (here .0) (a .kinds .now) (a .nodes) (p .1 .0 .bodies) (l .inv .0 .entered) (p .1 .0 .body) (p .1 .0 .kindsAre) in
     let line : a .first + l .c + 1 ≡ lineFrom (a .first) (l .c) = add-one (a .first + l .c) in
     rw (add-one (l .c)) (
       walking-more t (a .first) (a .n) _ _ _ (a .w .missing) (l .c) (l .missing) (l .place) (l .inv .0) h _ _ once (here .1)
           (ids-more (getD row 1 0) (l .inv .0 .entered) room (e .ensures) fresh (chip-field b (l .c) row (here .0) 1))
           (c .first-line .ensures ∙ (λ w. earlier (l .missing) (lineIf (gone w) (line w)))),
-      record {
-        ids-kept = e .kept .0 ∙ l .inv .1 .ids-kept;
-        nexts-kept = e .kept .1 .0 ∙ l .inv .1 .nexts-kept;
-        heads-kept = e .kept .1 .1 .0 ∙ l .inv .1 .heads-kept;
-      },
+      e .kept .0 ∙ l .inv .1,
     )
 
-same-length-4 : tie.Need-same-length-4 Inv-loop μ-loop
-same-length-4 c = c .before .loop .inv .1 .ids-kept
-
-same-length-5 : tie.Need-same-length-5 Inv-loop μ-loop
-same-length-5 c = c .before .loop .inv .1 .nexts-kept
-
-same-length-6 : tie.Need-same-length-6 Inv-loop μ-loop
-same-length-6 c = c .before .loop .inv .1 .heads-kept
+same-length-2 : tie.Need-same-length-2 Inv-loop μ-loop
+same-length-2 c = c .before .loop .inv .1
 
 returns-2 : tie.Need-returns-2 Inv-loop μ-loop
 returns-2 c =
-    let a = c .before .before .before .before .before .before .before .before .before .before .args in
+    let a = c .before .before .before .before .args in
     let l = c .before .loop in
     let end : l .c ≡ a .n = omega (arith, l .inv .0 .within, c .loop-test .left) in
     (walking-end (a .text .now) (a .first) (a .n) _ _ _ (a .w .missing) (l .c) (l .missing) (l .place) (a .w) _ (l .inv .0) end refl refl refl refl, refl)
@@ -175,17 +159,13 @@ walk-chips-spec =
     add-line
     add-line-2
     parent-missing-requires
-    array-read-t38
+    array-read-t26
     enter-id-requires
     same-length
-    same-length-2
-    same-length-3
     returns
     first-line-requires
     add-c
     loop-less
     loop-again
-    same-length-4
-    same-length-5
-    same-length-6
+    same-length-2
     returns-2)

@@ -13,7 +13,7 @@ use Rattle.board.specs.Board.{Board, idOf, kindOf}
 use Rattle.board.specs.Refusals.{firstLine, nodeTwice, pageMissing, rowUnplaced}
 use Rattle.board.specs.Walk.{lineOr, lineIf, earlier, lineFrom, sheetBoard, Ready, Ids}
 use Rattle.board.proofs.Sections.{Part, inOrder}
-use Rattle.board.proofs.Faults.{Kept, Walking, walking-start, walking-more, walking-twice, walking-end, walk-row, walk-next, walk-sections, ids-more, set-same, first-step, earlier-zero, node-field, node-repeats, node-gone, node-unplaced}
+use Rattle.board.proofs.Faults.{Walking, walking-start, walking-more, walking-twice, walking-end, walk-row, walk-next, walk-sections, ids-more, set-same, first-step, earlier-zero, node-field, node-repeats, node-gone, node-unplaced}
 use Rattle.board.proofs.refusals.walk_nodes.Statement.{statement}
 use Rattle.board.proofs.refusals.walk_nodes.Tie as tie
 use Rattle.board.proofs.refusals.walk_nodes.Reads as reads
@@ -26,34 +26,34 @@ use Rattle.sheet.proofs.row_at.Reads as row-at-reads
 
 -- The first i nodes are behind.
 abbrev Inv-loop : tie.InvT-loop
-Inv-loop text first n ids₀ nexts₀ heads₀ kinds₀ place₀ missing₀ unplaced₀ i₀ ids nexts heads kinds place missing unplaced i =
+Inv-loop text first n ids₀ kinds₀ place₀ missing₀ unplaced₀ i₀ ids kinds place missing unplaced i =
     let b = sheetBoard text in
-    Walking text first n i (idOf b) (nodeTwice b) (pageMissing b) missing₀ missing place ids nexts heads
+    Walking text first n i (idOf b) (nodeTwice b) (pageMissing b) missing₀ missing place ids
     × (unplaced ≡ earlier unplaced₀ (lineOr (firstLine b (lineFrom first) (rowUnplaced b) i)))
     × ((j : ℕ) → j < i → getD kinds j 0 ≡ kindOf b j)
     × (length kinds ≡ length kinds₀)
-    × Kept ids₀ nexts₀ heads₀ ids nexts heads
+    × (length ids ≡ length ids₀)
 
 abbrev μ-loop : tie.MeasureT-loop
-μ-loop text first n ids₀ nexts₀ heads₀ kinds₀ place₀ missing₀ unplaced₀ i₀ ids nexts heads kinds place missing unplaced i = n - i
+μ-loop text first n ids₀ kinds₀ place₀ missing₀ unplaced₀ i₀ ids kinds place missing unplaced i = n - i
 
 -- The counts are small.
-few : (c : tie.At-loop Inv-loop μ-loop) → (c .before .before .before .before .before .before .args .first ≤ 64) × (c .before .before .before .before .before .before .args .n ≤ 4096)
+few : (c : tie.At-loop Inv-loop μ-loop) → (c .before .before .before .args .first ≤ 64) × (c .before .before .before .args .n ≤ 4096)
 few c =
-    let p = c .before .before .before .before .before .before .pre in
+    let p = c .before .before .before .pre in
     let sec = walk-sections _ (p .0) in
     (omega (arith, p .1 .0, sec .few-pages), omega (arith, p .1 .0, sec .few-nodes))
 
 -- The line at hand is the i-th node's, and the next one follows.
 node-here : (c : tie.After-row-at Inv-loop μ-loop)
-    → (c .row-at .result .row ≡ getD (sheetBoard (c .before .before .before .before .before .before .before .before .args .text .now) .nodes) (c .before .before .loop .i) [])
-    × Ready (c .before .before .before .before .before .before .before .before .args .text .now) (suc (c .before .before .before .before .before .before .before .before .args .first + c .before .before .loop .i)) (c .row-at .result .next)
+    → (c .row-at .result .row ≡ getD (sheetBoard (c .before .before .before .before .before .args .text .now) .nodes) (c .before .before .loop .i) [])
+    × Ready (c .before .before .before .before .before .args .text .now) (suc (c .before .before .before .before .before .args .first + c .before .before .loop .i)) (c .row-at .result .next)
 node-here c =
-    let t = c .before .before .before .before .before .before .before .before .args .text .now in
-    let p = c .before .before .before .before .before .before .before .before .pre in
+    let t = c .before .before .before .before .before .args .text .now in
+    let p = c .before .before .before .before .before .pre in
     let i = c .before .before .loop .i in
     let w = c .before .before .loop .inv .0 in
-    let part : Part (rowsFrom t) (c .before .before .before .before .before .before .before .before .args .first) (sheetBoard t .nodes) (inOrder 2 4 (rowsFrom t)) = rw (p .1 .0 .0) (walk-sections t (p .0) .nodes) in
+    let part : Part (rowsFrom t) (c .before .before .before .before .before .args .first) (sheetBoard t .nodes) (inOrder 2 4 (rowsFrom t)) = rw (p .1 .0 .0) (walk-sections t (p .0) .nodes) in
     let h : i < length (sheetBoard t .nodes) = omega (arith, c .before .loop-test .taken, p .1 .0 .1) in (
       ap (λ (r : RowAt). r .row) (c .row-at .ensures) ∙ walk-row t part i (w .ready) h,
       rw (c .row-at .ensures) (walk-next t part i (w .ready) h),
@@ -61,13 +61,13 @@ node-here c =
 
 loop-holds : tie.Need-loop-holds Inv-loop μ-loop
 loop-holds c =
-    let a = c .before .before .before .before .before .args in
-    let p = c .before .before .before .before .before .pre in (
+    let a = c .before .before .args in
+    let p = c .before .before .pre in (
       walking-start (a .text .now) (a .first) (a .n) _ _ _ (a .w .missing) (a .w .place) (p .0) (p .1 .1 .1),
       sym (earlier-zero (a .w .unplaced)),
       (λ j h. absurd (omega arith)),
       refl,
-      record { ids-kept = refl; nexts-kept = refl; heads-kept = refl },
+      refl,
     )
 
 row-at-requires : tie.Need-row-at-requires Inv-loop μ-loop
@@ -84,35 +84,29 @@ array-read-kinds c = search needs
 
 enter-id-requires : tie.Need-enter-id-requires Inv-loop μ-loop
 enter-id-requires c κs =
-    let inv = c .before .before .before .before .before .before .loop .inv in
-    let f = c .before .before .before .before .before .before .before .before .before .before .before .before .pre .1 .1 .1 in
+    let inv = c .before .before .before .before .loop .inv in
+    let f = c .before .before .before .before .before .before .before .pre .1 .1 .1 in
     let k = inv .4 in
-    let h = c .before .before .before .before .before .loop-test .taken in (
+    let h = c .before .before .before .loop-test .taken in (
       inv .0 .entered .index,
-      (omega (arith, h, f .room, k .ids-kept), omega (arith, h, f .links, k .nexts-kept), omega (arith, h, few (c .before .before .before .before .before .before))),
+      (omega (arith, h, f .room, k), omega (arith, h, few (c .before .before .before .before))),
     )
 
 same-length : tie.Need-same-length Inv-loop μ-loop
-same-length c = c .before .before .before .before .before .before .before .enter-id .kept .0 ∙ c .before .before .before .before .before .before .before .before .before .before .before .before .before .before .loop .inv .4 .ids-kept
+same-length c = c .before .before .enter-id .kept .0 ∙ c .before .before .before .before .before .before .before .loop .inv .4
 
 same-length-2 : tie.Need-same-length-2 Inv-loop μ-loop
-same-length-2 c = c .before .before .before .before .before .before .before .enter-id .kept .1 .0 ∙ c .before .before .before .before .before .before .before .before .before .before .before .before .before .before .loop .inv .4 .nexts-kept
-
-same-length-3 : tie.Need-same-length-3 Inv-loop μ-loop
-same-length-3 c = c .before .before .before .before .before .before .before .enter-id .kept .1 .1 .0 ∙ c .before .before .before .before .before .before .before .before .before .before .before .before .before .before .loop .inv .4 .heads-kept
-
-same-length-4 : tie.Need-same-length-4 Inv-loop μ-loop
-same-length-4 c = c .before .before .before .before .before .before .before .before .before .before .before .before .before .before .loop .inv .3
+same-length-2 c = c .before .before .before .before .before .before .before .loop .inv .3
 
 returns : tie.Need-returns Inv-loop μ-loop
 returns c =
-    let a = c .before .before .before .before .before .before .before .before .before .before .before .before .before .before .before .before .before .before .before .before .args in
-    let l = c .before .before .before .before .before .before .before .before .before .before .before .before .before .before .loop in
+    let a = c .before .before .before .before .before .before .before .before .before .before .args in
+    let l = c .before .before .before .before .before .before .before .loop in
     let b = sheetBoard (a .text .now) in
-    let h = c .before .before .before .before .before .before .before .before .before .before .before .before .before .loop-test .taken in
-    let e = c .before .before .before .before .before .before .before .enter-id .ensures in
-    let again : nodeTwice b (l .i) ≡ true = sym (sym (c .if1 .taken) ∙ e .answer ∙ node-repeats b (l .i) _ (node-here (c .before .before .before .before .before .before .before .before .before .before .before .before) .0) (l .inv .0 .entered)) in (
-      walking-twice (a .text .now) (a .first) (a .n) _ _ _ (a .w .missing) (l .i) (l .missing) (l .place) (l .inv .0) h (a .w) _ _ _ _ again (add-one (a .first + l .i)),
+    let h = c .before .before .before .before .before .before .loop-test .taken in
+    let e = c .before .before .enter-id .ensures in
+    let again : nodeTwice b (l .i) ≡ true = sym (sym (c .if1 .taken) ∙ e .answer ∙ node-repeats b (l .i) _ (node-here (c .before .before .before .before .before) .0) (l .inv .0 .entered)) in (
+      walking-twice (a .text .now) (a .first) (a .n) _ _ _ (a .w .missing) (l .i) (l .missing) (l .place) (l .inv .0) h (a .w) _ _ again (add-one (a .first + l .i)),
       record { kinds = λ z. absurd (omega arith); unplaced = λ z. absurd (omega arith) },
     )
 
@@ -120,10 +114,10 @@ array-read-kinds-2 : tie.Need-array-read-kinds-2 Inv-loop μ-loop
 array-read-kinds-2 c = search needs
 
 mul-kinds : tie.Need-mul-kinds Inv-loop μ-loop
-mul-kinds c = omega (arith, few (c .before .before .before .before .before .before .before .before .before .before .before .before .before .before), c .before .before .before .before .before .before .before .before .before .before .before .before .before .loop-test .taken)
+mul-kinds c = omega (arith, few (c .before .before .before .before .before .before .before), c .before .before .before .before .before .before .loop-test .taken)
 
 slice-write-kinds : tie.Need-slice-write-kinds Inv-loop μ-loop
-slice-write-kinds c = omega (arith, c .before .before .before .before .before .before .before .before .before .before .before .before .before .loop-test .taken, c .before .before .before .before .before .before .before .before .before .before .before .before .before .before .before .before .before .before .before .before .pre .1 .1 .0, c .before .before .before .before .before .before .before .before .before .before .before .before .before .before .loop .inv .3)
+slice-write-kinds c = omega (arith, c .before .before .before .before .before .before .loop-test .taken, c .before .before .before .before .before .before .before .before .before .before .pre .1 .1 .0, c .before .before .before .before .before .before .before .loop .inv .3)
 
 page-missing-requires : tie.Need-page-missing-requires Inv-loop μ-loop
 page-missing-requires c κs = search needs
@@ -138,25 +132,25 @@ first-line-requires-2 : tie.Need-first-line-requires-2 Inv-loop μ-loop
 first-line-requires-2 c κs = search needs
 
 add-i : tie.Need-add-i Inv-loop μ-loop
-add-i c = omega (arith, few (c .before .before .before .before .before .before .before .before .before .before .before .before .before .before .before .before .before .before), c .before .before .before .before .before .before .before .before .before .before .before .before .before .before .before .before .before .loop-test .taken)
+add-i c = omega (arith, few (c .before .before .before .before .before .before .before .before .before .before .before), c .before .before .before .before .before .before .before .before .before .before .loop-test .taken)
 
 loop-less : tie.Need-loop-less Inv-loop μ-loop
-loop-less c = omega (arith, c .before .before .before .before .before .before .before .before .before .before .before .before .before .before .before .before .before .loop-test .taken)
+loop-less c = omega (arith, c .before .before .before .before .before .before .before .before .before .before .loop-test .taken)
 
 loop-again : tie.Need-loop-again Inv-loop μ-loop
 loop-again c =
-    let a = c .before .before .before .before .before .before .before .before .before .before .before .before .before .before .before .before .before .before .before .before .before .before .before .before .args in
-    let l = c .before .before .before .before .before .before .before .before .before .before .before .before .before .before .before .before .before .before .loop in
+    let a = c .before .before .before .before .before .before .before .before .before .before .before .before .before .before .args in
+    let l = c .before .before .before .before .before .before .before .before .before .before .before .loop in
     let t = a .text .now in
     let b = sheetBoard t in
-    let h = c .before .before .before .before .before .before .before .before .before .before .before .before .before .before .before .before .before .loop-test .taken in
-    let p = c .before .before .before .before .before .before .before .before .before .before .before .before .before .before .before .before .before .before .before .before .before .before .before .before .pre in
-    let e = c .before .before .before .before .before .before .before .before .before .before .before .enter-id in
-    let here = node-here (c .before .before .before .before .before .before .before .before .before .before .before .before .before .before .before .before) in
-    let row = c .before .before .before .before .before .before .before .before .before .before .before .before .before .before .before .before .row-at .result .row in
+    let h = c .before .before .before .before .before .before .before .before .before .before .loop-test .taken in
+    let p = c .before .before .before .before .before .before .before .before .before .before .before .before .before .before .pre in
+    let e = c .before .before .before .before .before .before .enter-id in
+    let here = node-here (c .before .before .before .before .before .before .before .before .before) in
+    let row = c .before .before .before .before .before .before .before .before .before .row-at .result .row in
     let fresh : e .result ≡ false = c .before .before .before .before .if1 .left in
     let once : nodeTwice b (l .i) ≡ false = sym (sym fresh ∙ e .ensures .answer ∙ node-repeats b (l .i) row (here .0) (l .inv .0 .entered)) in
-    let room : l .i < length (l .ids) = omega (arith, h, p .1 .1 .1 .room, l .inv .4 .ids-kept) in
+    let room : l .i < length (l .index) = omega (arith, h, p .1 .1 .1 .room, l .inv .4) in
     let gone : c .before .before .before .page-missing .result ≡ pageMissing b (l .i) = c .before .before .before .page-missing .ensures ∙ node-gone b (l .i) row (here .0) (a .first) (p .1 .0 .0) in
     let loose : c .before .row-unplaced .result ≡ rowUnplaced b (l .i) = c .before .row-unplaced .ensures ∙ node-unplaced b (l .i) row (here .0) in
     let line : a .first + l .i + 1 ≡ lineFrom (a .first) (l .i) = add-one (a .first + l .i) in
@@ -167,28 +161,18 @@ loop-again c =
       first-step b (a .first) (rowUnplaced b) (l .i) (a .w .unplaced) (l .unplaced) _ (c .first-line2 .ensures ∙ (λ w. earlier (l .unplaced) (lineIf (loose w) (line w)))) (l .inv .1),
       set-same (l .kinds) (kindOf b) (l .i) (getD row 2 0) (l .inv .2) (omega (arith, h, p .1 .1 .0, l .inv .3)) (node-field b (l .i) row (here .0) 2),
       (length-set (l .kinds) (l .i) (getD row 2 0) ∙ l .inv .3),
-      record {
-        ids-kept = e .kept .0 ∙ l .inv .4 .ids-kept;
-        nexts-kept = e .kept .1 .0 ∙ l .inv .4 .nexts-kept;
-        heads-kept = e .kept .1 .1 .0 ∙ l .inv .4 .heads-kept;
-      },
+      e .kept .0 ∙ l .inv .4,
     )
 
-same-length-5 : tie.Need-same-length-5 Inv-loop μ-loop
-same-length-5 c = c .before .loop .inv .4 .ids-kept
+same-length-3 : tie.Need-same-length-3 Inv-loop μ-loop
+same-length-3 c = c .before .loop .inv .4
 
-same-length-6 : tie.Need-same-length-6 Inv-loop μ-loop
-same-length-6 c = c .before .loop .inv .4 .nexts-kept
-
-same-length-7 : tie.Need-same-length-7 Inv-loop μ-loop
-same-length-7 c = c .before .loop .inv .4 .heads-kept
-
-same-length-8 : tie.Need-same-length-8 Inv-loop μ-loop
-same-length-8 c = c .before .loop .inv .3
+same-length-4 : tie.Need-same-length-4 Inv-loop μ-loop
+same-length-4 c = c .before .loop .inv .3
 
 returns-2 : tie.Need-returns-2 Inv-loop μ-loop
 returns-2 c =
-    let a = c .before .before .before .before .before .before .before .args in
+    let a = c .before .before .before .before .args in
     let l = c .before .loop in
     let end : l .i ≡ a .n = omega (arith, l .inv .0 .within, c .loop-test .left) in (
       walking-end (a .text .now) (a .first) (a .n) _ _ _ (a .w .missing) (l .i) (l .missing) (l .place) (a .w) _ (l .inv .0) end refl refl refl refl,
@@ -209,8 +193,6 @@ walk-nodes-spec =
     enter-id-requires
     same-length
     same-length-2
-    same-length-3
-    same-length-4
     returns
     array-read-kinds-2
     mul-kinds
@@ -222,8 +204,6 @@ walk-nodes-spec =
     add-i
     loop-less
     loop-again
-    same-length-5
-    same-length-6
-    same-length-7
-    same-length-8
+    same-length-3
+    same-length-4
     returns-2)

@@ -71,7 +71,7 @@ returns c =
 returns-2 : tie.Need-returns-2
 returns-2 c =
     let s = c .before .before .before .before .args in
-    cell-missing (columnIn (s .t1)) (s .before) (s .n) _ (c .before .before .enum-told2 .given .1) (sym (c .before .allowed .ensures) ∙ c .if1 .taken)
+    cell-missing (columnIn (s .t1)) (s .before) (s .n) (c .before .before .enum-told2 .given .1) (sym (c .before .allowed .ensures) ∙ c .if1 .taken)
 
 returns-3 : tie.Need-returns-3
 returns-3 c =
@@ -81,7 +81,7 @@ returns-3 c =
 returns-4 : tie.Need-returns-4
 returns-4 c =
     let s = c .before .before .before .before .before .before .args in
-    c .plus-cell .ensures ∙ cell-plus (columnIn (s .t1)) (s .before) (s .n) _ _ (c .before .before .before .before .n .given .1) (sym (c .before .before .allowed2 .ensures) ∙ c .before .if2 .taken)
+    c .plus-cell .ensures ∙ cell-plus (columnIn (s .t1)) (s .before) (s .n) _ (c .before .before .before .before .n .given .1) (sym (c .before .before .allowed2 .ensures) ∙ c .before .if2 .taken)
 
 returns-5 : tie.Need-returns-5
 returns-5 c =
@@ -91,7 +91,7 @@ returns-5 c =
 returns-6 : tie.Need-returns-6
 returns-6 c =
     let s = c .before .before .before .before .before .before .args in
-    c .minus-cell .ensures ∙ cell-minus (columnIn (s .t1)) (s .before) (s .n) _ _ (c .before .before .before .before .n2 .given .1) (sym (c .before .before .allowed3 .ensures) ∙ c .before .if3 .taken)
+    c .minus-cell .ensures ∙ cell-minus (columnIn (s .t1)) (s .before) (s .n) _ (c .before .before .before .before .n2 .given .1) (sym (c .before .before .allowed3 .ensures) ∙ c .before .if3 .taken)
 
 returns-7 : tie.Need-returns-7
 returns-7 c =

@@ -1,0 +1,191 @@
+-- What an id names, and the anchor of a wire's end.
+use Prim.Native.Nat.{ℕ, zero, suc, _-_, _≤_, _<_}
+use native.Mathlib.Omega.{arith}
+use mathlib.Core.Path.{_≡_, refl, sym, ap, _∙_, subst}
+use mathlib.Core.Bool.{Bool, true, false, not, _&&_, _||_}
+use mathlib.Core.List.{List, [], _∷_}
+use lib.Dec.{eqb}
+use lib.ListN.{length, replicate, length-replicate, getD-replicate}
+use borrow.Author.Tests.{eq-eqb, ne-eqb, eqb-true}
+use mir.Val.{boolByte}
+use Rattle.sheet.specs.Table.{MISSING}
+use Rattle.base.specs.Lists.{Found, none, at, found, any, upto, newest}
+use Rattle.board.specs.Board.{Board, field, idOf, classOf, classInline, innerId, innerChip, innerClass}
+use Rattle.board.specs.Refusals.{bodyOf, innerOf}
+use Rattle.board.specs.Groups.{anchorOf, isBussable, topChip}
+use Rattle.board.specs.Index.{Ids, Chained, BUCKETS, bucketOf, column, entryOf, foundOf, link}
+use Rattle.board.specs.declared.ids.Found.{Found as FoundId}
+use Rattle.board.specs.declared.ids.Found.the-variants.{At, Nothing}
+use Rattle.board.specs.Tables.{held, flag}
+use Rattle.board_groups.specs.Collecting.{Indexes}
+use Rattle.board.proofs.Newest.{newest-same, link-below, Implies, Following, follow-found, follow-end, chained-same, chain-start, chain-next, column-at, index-falls}
+
+pub found-below : (p : ℕ → Bool) (n i : ℕ) → newest p n ≡ at i → i < n
+found-below p n i e = let h = link-below p n in let l : link (newest p n) ≡ suc i = ap link e in omega arith
+
+-- An index as one number: below the count where there is one, at least the count where there is none.
+pub held-there : (f : Found) (n i : ℕ) → n ≤ MISSING → held f ≡ i → i < n → f ≡ at i
+held-there none n i m e h = absurd (omega arith)
+held-there (at j) n i m e h = ap at e
+
+pub held-gone : (p : ℕ → Bool) (n i : ℕ) → held (newest p n) ≡ i → n ≤ i → newest p n ≡ none
+held-gone p n i e h = go (newest p n) refl
+  where
+    go : (f : Found) → newest p n ≡ f → f ≡ none
+    go none q = refl
+    go (at j) q = absurd (let l = found-below p n j q in let k : j ≡ i = sym (ap held q) ∙ e in omega arith)
+
+pub any-newest : (p : ℕ → Bool) (n : ℕ) → any p (upto n) ≡ found (newest p n)
+any-newest p zero = refl
+any-newest p (suc n) = go (p n) (any-newest p n)
+  where
+    go : (t : Bool) → any p (upto n) ≡ found (newest p n) → (t || any p (upto n)) ≡ found (elim t [ true ↦ at n | false ↦ newest p n ])
+    go true ih = refl
+    go false ih = ih
+
+pub entry-is : (ids : List (List ℕ)) (n id : ℕ) (idAt : ℕ → ℕ) → ((j : ℕ) → j < n → field ids j 0 ≡ idAt j) → entryOf ids n id ≡ newest (λ i. eqb (idAt i) id) n
+unfolding entryOf
+entry-is ids n id idAt same = newest-same _ _ n (λ i h. ap (λ (x : ℕ). eqb x id) (same i h))
+
+module _ (b : Board) (id : ℕ) where
+  module _ (i : ℕ) (e : bodyOf b id ≡ at i) where
+    pub anchor-body : anchorOf b id ≡ at i
+    unfolding anchorOf
+    anchor-body = rw (e, anchorOf)
+
+    pub bussable-body : isBussable b id ≡ not (eqb (classOf b i) classInline)
+    unfolding isBussable
+    bussable-body = rw (e, isBussable)
+
+  module _ (e : bodyOf b id ≡ none) where
+    pub anchor-inner : (f : ℕ) → innerOf b id ≡ at f → anchorOf b id ≡ bodyOf b (topChip b (length (b .chips)) (innerChip b f))
+    unfolding anchorOf
+    anchor-inner f g = rw (e, g, anchorOf)
+
+    pub bussable-inner : (f : ℕ) → innerOf b id ≡ at f → isBussable b id ≡ not (eqb (innerClass b f) classInline)
+    unfolding isBussable
+    bussable-inner f g = rw (e, g, isBussable)
+
+    pub anchor-none : innerOf b id ≡ none → anchorOf b id ≡ none
+    unfolding anchorOf
+    anchor-none g = rw (e, g, anchorOf)
+
+    pub bussable-none : innerOf b id ≡ none → isBussable b id ≡ false
+    unfolding isBussable
+    bussable-none g = rw (e, g, isBussable)
+
+-- The body node and the node inside a chip that an id names, by their indexes.
+module _ (rows ids : List (List ℕ)) (known : Ids ids (length rows) (λ i. field rows i 1)) (id : ℕ) where
+  pub body-entry : (b : Board) → b .nodes ≡ rows → entryOf ids (length rows) id ≡ bodyOf b id
+  unfolding bodyOf
+  body-entry b e = entry-is ids (length rows) id (λ i. field rows i 1) (known .same) ∙ (λ z. newest (λ i. eqb (field (sym e z) i 1) id) (length (sym e z)))
+
+  pub inner-entry : (b : Board) → b .inner ≡ rows → entryOf ids (length rows) id ≡ innerOf b id
+  unfolding innerOf
+  inner-entry b e = entry-is ids (length rows) id (λ i. field rows i 1) (known .same) ∙ (λ z. newest (λ i. eqb (field (sym e z) i 1) id) (length (sym e z)))
+
+  module _ (count : length rows ≤ 4096) (i : ℕ) (e : held (entryOf ids (length rows) id) ≡ i) where
+    pub entry-there : i < length rows → entryOf ids (length rows) id ≡ at i
+    entry-there h = held-there (entryOf ids (length rows) id) (length rows) i (omega arith) e h
+
+    pub entry-gone : length rows ≤ i → entryOf ids (length rows) id ≡ none
+    unfolding entryOf
+    entry-gone h = held-gone (λ j. eqb (field ids j 0) id) (length rows) i e h
+
+-- What a search answered.
+pub found-at : (f : Found) (r : FoundId) (i : ℕ) → r ≡ foundOf f → r ≡ At i → f ≡ at i
+found-at none r i e g = let z : _≡_ {A = ℕ} 0 1 = cc in absurd (omega arith)
+found-at (at j) r i e g = let z : j ≡ i = cc in ap at z
+
+pub found-nothing : (f : Found) (r : FoundId) → r ≡ foundOf f → r ≡ Nothing → f ≡ none
+found-nothing none r e g = refl
+found-nothing (at j) r e g = let z : _≡_ {A = ℕ} 0 1 = cc in absurd (omega arith)
+
+pub entry-below : (ids : List (List ℕ)) (n id i : ℕ) → entryOf ids n id ≡ at i → i < n
+unfolding entryOf
+entry-below ids n id i e = found-below (λ j. eqb (field ids j 0) id) n i e
+
+-- The end at a node: what `find_end` finds of a board whose body nodes and nodes inside chips are indexed.
+module _ (nodes chips inner bi ii : List (List ℕ)) (known : Indexes nodes inner bi ii) (id i : ℕ) (is : i ≡ held (entryOf bi (length nodes) id))
+    (b : Board) (n : b .nodes ≡ nodes) (c : b .chips ≡ chips) (f : b .inner ≡ inner) where
+  module _ (h : i < length nodes) where
+    at-body : bodyOf b id ≡ at i
+    at-body = sym (body-entry nodes bi (known .body) id b n) ∙ entry-there nodes bi (known .body) id (known .few) i (sym is) h
+
+    pub end-body : (i ≡ held (anchorOf b id)) × (not (eqb (field nodes i 3) 2) ≡ isBussable b id)
+    end-body = (
+      sym (ap held (anchor-body b id i at-body)),
+      (λ z. not (eqb (field (sym n z) i 3) 2)) ∙ sym (bussable-body b id i at-body),
+    )
+
+  module _ (h : length nodes ≤ i) (j : ℕ) (is-inner : j ≡ held (entryOf ii (length inner) id)) where
+    no-body : bodyOf b id ≡ none
+    no-body = sym (body-entry nodes bi (known .body) id b n) ∙ entry-gone nodes bi (known .body) id (known .few) i (sym is) h
+
+    module _ (k : j < length inner) where
+      at-inner : innerOf b id ≡ at j
+      at-inner = sym (inner-entry inner ii (known .inside) id b f) ∙ entry-there inner ii (known .inside) id (known .fewInner) j (sym is-inner) k
+
+      pub end-inner : (top r : ℕ) → ((b : Board) → b .chips ≡ chips → top ≡ topChip b (length chips) (field inner j 2)) → r ≡ held (entryOf bi (length nodes) top)
+          → (r ≡ held (anchorOf b id)) × (not (eqb (field inner j 3) 2) ≡ isBussable b id)
+      end-inner top r t e = (
+        e ∙ ap held (body-entry nodes bi (known .body) top b n ∙ ap (bodyOf b) (t b c ∙ (λ z. topChip b (length (sym c z)) (field (sym f z) j 2))) ∙ sym (anchor-inner b id no-body j at-inner)),
+        (λ z. not (eqb (field (sym f z) j 3) 2)) ∙ sym (bussable-inner b id no-body j at-inner),
+      )
+
+    pub end-none : length inner ≤ j → (MISSING ≡ held (anchorOf b id)) × (false ≡ isBussable b id)
+    end-none k =
+        let gone : innerOf b id ≡ none = sym (inner-entry inner ii (known .inside) id b f) ∙ entry-gone inner ii (known .inside) id (known .fewInner) j (sym is-inner) k in
+        (sym (ap held (anchor-none b id no-body gone)), sym (bussable-none b id no-body gone))
+
+-- X records chained by node.
+abbrev pub Exec : List (List ℕ) → ℕ → ℕ → ℕ → Bool
+Exec execs node port e = eqb (field execs e 1) node && eqb (field execs e 2) port
+
+abbrev pub ExecChain : List (List ℕ) → ℕ → ℕ → ℕ → Type 0
+ExecChain execs node port l = Following (Exec execs node port) (λ e. eqb (bucketOf (field execs e 1)) (bucketOf node)) (length execs) l
+
+module _ (execs ids : List (List ℕ)) (known : Ids ids (length execs) (λ e. field execs e 1)) (node port : ℕ) where
+  exec-implies : Implies (Exec execs node port) (λ e. eqb (bucketOf (field execs e 1)) (bucketOf node))
+  exec-implies e h = eq-eqb _ _ (ap bucketOf (eqb-true (field execs e 1) node (left (eqb (field execs e 1) node) _ h)))
+    where
+      left : (s t : Bool) → (s && t) ≡ true → s ≡ true
+      left true t h = refl
+      left false t h = h
+
+  by-node : Chained BUCKETS (λ e. bucketOf (field execs e 1)) (column 1 ids) (column 2 ids) (length execs)
+  by-node = chained-same BUCKETS _ (column 1 ids) (column 2 ids) (length execs) (known .index .chained) (λ e. bucketOf (field execs e 1)) (λ e h. ap bucketOf (known .same e h))
+
+  pub exec-start : ExecChain execs node port (field ids (bucketOf node) 2)
+  exec-start =
+      subst (ExecChain execs node port) (column-at 2 ids (bucketOf node))
+      (chain-start BUCKETS _ (column 1 ids) (column 2 ids) (length execs) by-node (Exec execs node port) (bucketOf node) exec-implies (omega arith))
+
+  pub exec-next : (l : ℕ) → 0 < l → ExecChain execs node port l → Exec execs node port (l - 1) ≡ false → ExecChain execs node port (field ids (l - 1) 1)
+  exec-next l h f not′ =
+      subst (ExecChain execs node port) (column-at 1 ids (l - 1))
+      (chain-next BUCKETS _ (column 1 ids) (column 2 ids) (length execs) by-node (Exec execs node port) (bucketOf node) exec-implies l (l - 1) (omega arith) f not′)
+
+  pub exec-falls : (l : ℕ) → 0 < l → l ≤ length execs → field ids (l - 1) 1 < l
+  exec-falls l h k = let z = index-falls ids (length execs) (known .index) node (l - 1) (omega arith) in omega arith
+
+  pub exec-found : (l : ℕ) → 0 < l → ExecChain execs node port l → Exec execs node port (l - 1) ≡ true → true ≡ any (Exec execs node port) (upto (length execs))
+  exec-found l h f has = sym (any-newest (Exec execs node port) (length execs) ∙ ap found (follow-found _ _ (length execs) l (l - 1) f (omega arith) has))
+
+  pub exec-none : (l : ℕ) → l ≡ 0 → ExecChain execs node port l → false ≡ any (Exec execs node port) (upto (length execs))
+  exec-none l e f = sym (any-newest (Exec execs node port) (length execs) ∙ ap found (follow-end _ _ (length execs) l 0 f e))
+
+-- Chains without an entry, over fresh tables.
+pub fresh-chains : (buckets : ℕ) (bucket : ℕ → ℕ) (n m : ℕ) → buckets ≤ m → Chained buckets bucket (replicate n 0) (replicate m 0) 0
+fresh-chains buckets bucket n m h =
+    record {
+      entries = omega arith;
+      width = simp length-replicate h;
+      head = λ k l. getD-replicate m k 0 0 (omega arith);
+      next = λ i l. absurd (omega arith);
+    }
+
+-- A bool cast to a number.
+pub byte-flag : (r : Bool) → boolByte r ≡ flag r
+byte-flag true = refl
+byte-flag false = refl

@@ -1,0 +1,394 @@
+-- Which wires become taps, what their facts hold, and how the taps are chained by their key.
+use Prim.Native.Nat.{ℕ, zero, suc, _+_, _-_, _≤_, _<_}
+use native.Mathlib.Omega.{arith}
+use native.Mathlib.Numerals.{add-one}
+use mathlib.Core.Path.{_≡_, refl, sym, ap, _∙_, subst}
+use mathlib.Core.Bool.{Bool, true, false, not, _&&_, _||_}
+use mathlib.Core.List.{List, [], _∷_}
+use lib.Dec.{eqb}
+use lib.ListN.{length, getD, set, replicate, length-set}
+use lib.Seq.{getD-set-same, getD-set-other}
+use borrow.Author.Tests.{eq-eqb, ne-eqb, eqb-true}
+use Rattle.sheet.specs.Table.{MISSING}
+use Rattle.base.proofs.SortLaws.{clash}
+use Rattle.base.specs.Lists.{Found, none, at, any, fold, upto, newest}
+use Rattle.board.specs.Board.{Board, field, given, hasRow, pageOf, xOf, yOf, sourceNode, sourcePort, targetNode, targetPort, classOf, kindOf, classInline, classStorage, kindChip, kindInput, kindCoerce}
+use Rattle.board.specs.Refusals.{bodyOf, innerOf}
+use Rattle.board.specs.Rows.{rowOf}
+use Rattle.board.specs.Groups.{Tap, anchorOf, topChip, isBussable, wireOpen, anchorsOpen, crossesAt, isBusWorthy, targetsExec, groupFor, tapFor, addWire, tapsOf}
+use Rattle.board.specs.Index.{Chained}
+use Rattle.base.specs.Views.{view}
+use Rattle.board.specs.Tables.{held, flag, tapIn, tapRow, tapTarget, NodeFacts, WireFacts, TapTargets}
+use Rattle.board_groups.specs.Collecting.{tapBucket, bucketIn, TAP_BUCKETS, Tapped}
+use Rattle.board.proofs.Newest.{Implies, Following, newest-same, follow-found, follow-end, chained-same, chained-more, chain-start, chain-next, chain-falls}
+use Rattle.board_groups.proofs.Ends.{found-below, held-there, held-gone, fresh-chains}
+use Rattle.board_groups.proofs.Facts.{same-nodes, same-wires, column-kept, column-more}
+
+pub and-false : (x : Bool) → (x && false) ≡ false
+and-false true = refl
+and-false false = refl
+
+last-of : (x h : Bool) → (x && h) ≡ true → h ≡ true
+last-of true h e = e
+last-of false h e = clash false e refl
+
+module _ (b : Board) where
+  pub anchor-below : (id i : ℕ) → anchorOf b id ≡ at i → i < length (b .nodes)
+  unfolding anchorOf bodyOf
+  anchor-below id i e = go (bodyOf b id) (innerOf b id) refl e
+    where
+      inside : (d : ℕ) → bodyOf b d ≡ at i → i < length (b .nodes)
+      inside d h = found-below (λ j. eqb (field (b .nodes) j 1) d) (length (b .nodes)) i h
+
+      go : (f g : Found) → bodyOf b id ≡ f
+          → _≡_ {A = Found} (elim f [ at j ↦ at j | none ↦ elim g [ at k ↦ bodyOf b (topChip b (length (b .chips)) (field (b .inner) k 2)) | none ↦ none ] ]) (at i) → i < length (b .nodes)
+      go (at j) g q h = inside id (q ∙ h)
+      go none (at k) q h = inside _ h
+      go none none q h = let z : _≡_ {A = ℕ} 0 1 = cc in absurd (omega arith)
+
+  module _ (w : ℕ) where
+    pub target-closed : wireOpen b w ≡ false → tapTarget b w ≡ none
+    unfolding tapTarget
+    target-closed h = rw (h, tapTarget)
+
+    module _ (o : wireOpen b w ≡ true) where
+      pub target-sourceless : anchorOf b (sourceNode b w) ≡ none → tapTarget b w ≡ none
+      unfolding tapTarget
+      target-sourceless h = rw (o, h, tapTarget)
+
+      module _ (s : ℕ) (e : anchorOf b (sourceNode b w) ≡ at s) where
+        pub target-targetless : anchorOf b (targetNode b w) ≡ none → tapTarget b w ≡ none
+        unfolding tapTarget
+        target-targetless h = rw (o, e, h, tapTarget)
+
+        module _ (t : ℕ) (f : anchorOf b (targetNode b w) ≡ at t) where
+          pub target-open : anchorsOpen b w s t ≡ true → tapTarget b w ≡ at t
+          unfolding tapTarget
+          target-open h = rw (o, e, f, h, tapTarget)
+
+          pub target-shut : anchorsOpen b w s t ≡ false → tapTarget b w ≡ none
+          unfolding tapTarget
+          target-shut h = rw (o, e, f, h, tapTarget)
+
+    -- A wire with a target has both anchors, and its target anchor a row.
+    pub record Carried (t : ℕ) : Type 0 where
+      pub source : ℕ
+      pub open′ : wireOpen b w ≡ true
+      pub from : anchorOf b (sourceNode b w) ≡ at source
+      pub to : anchorOf b (targetNode b w) ≡ at t
+      pub tests : anchorsOpen b w source t ≡ true
+
+    pub carried : (t : ℕ) → tapTarget b w ≡ at t → Carried t
+    unfolding tapTarget
+    carried t e = go (wireOpen b w) refl (anchorOf b (sourceNode b w)) refl (anchorOf b (targetNode b w)) refl e
+      where
+        lost : {C : Type 0} → none ≡ at t → C
+        lost h = let z : _≡_ {A = ℕ} 0 1 = cc in absurd (omega arith)
+
+        test : (s u : ℕ) (a : Bool) → anchorsOpen b w s u ≡ a → wireOpen b w ≡ true → anchorOf b (sourceNode b w) ≡ at s → anchorOf b (targetNode b w) ≡ at u
+            → _≡_ {A = Found} (elim a [ true ↦ at u | false ↦ none ]) (at t) → Carried t
+        test s u true q o f g h = let same : u ≡ t = cc in record { source = s; open′ = o; from = f; to = g ∙ h; tests = subst (λ (v : ℕ). anchorsOpen b w s v ≡ true) same q }
+        test s u false q o f g h = lost h
+
+        go : (o : Bool) → wireOpen b w ≡ o → (s : Found) → anchorOf b (sourceNode b w) ≡ s → (u : Found) → anchorOf b (targetNode b w) ≡ u
+            → _≡_ {A = Found} (elim o [ false ↦ none | true ↦ elim s [ none ↦ none | at x ↦ elim u [ none ↦ none | at y ↦ elim (anchorsOpen b w x y) [ true ↦ at y | false ↦ none ] ] ] ]) (at t) → Carried t
+        go false p s f u g h = lost h
+        go true p none f u g h = lost h
+        go true p (at s) f none g h = lost h
+        go true p (at s) f (at u) g h = test s u (anchorsOpen b w s u) refl p f g h
+
+    pub carried-row : (t : ℕ) → tapTarget b w ≡ at t → hasRow b t ≡ true
+    unfolding anchorsOpen
+    carried-row t e =
+        let c = carried t e in
+        last-of
+        ((crossesAt b t (targetNode b w) || isBusWorthy b (c .source) || not (targetsExec b w))
+        && not (eqb (classOf b (c .source)) classInline) && not (eqb (classOf b t) classInline) && not (eqb (kindOf b (c .source)) kindCoerce))
+        (hasRow b t) (c .tests)
+
+    pub carried-below : (t : ℕ) → tapTarget b w ≡ at t → t < length (b .nodes)
+    carried-below t e = anchor-below (targetNode b w) t (carried t e .to)
+
+    module _ (ts : List Tap) where
+      add-as : addWire b ts w ≡ elim (tapTarget b w) [ none ↦ ts | at t ↦ tapFor b ts w t ∷ ts ]
+      unfolding addWire tapTarget
+      add-as = go (wireOpen b w) (anchorOf b (sourceNode b w)) (anchorOf b (targetNode b w))
+        where
+          test : (y : ℕ) (a : Bool) → _≡_ {A = List Tap} (elim a [ true ↦ tapFor b ts w y ∷ ts | false ↦ ts ]) (elim (elim a as (λ z. Found) [ true ↦ at y | false ↦ none ]) [ none ↦ ts | at t ↦ tapFor b ts w t ∷ ts ])
+          test y true = refl
+          test y false = refl
+
+          go : (o : Bool) (s u : Found)
+              → _≡_ {A = List Tap} (elim o [ false ↦ ts | true ↦ elim s [ none ↦ ts | at x ↦ elim u [ none ↦ ts | at y ↦ elim (anchorsOpen b w x y) [ true ↦ tapFor b ts w y ∷ ts | false ↦ ts ] ] ] ])
+              (elim (elim o as (λ z. Found) [ false ↦ none | true ↦ elim s as (λ z. Found) [ none ↦ none | at x ↦ elim u as (λ z. Found) [ none ↦ none | at y ↦ elim (anchorsOpen b w x y) as (λ z. Found) [ true ↦ at y | false ↦ none ] ] ] ])
+              [ none ↦ ts | at t ↦ tapFor b ts w t ∷ ts ])
+          go false s u = refl
+          go true none u = refl
+          go true (at x) none = refl
+          go true (at x) (at y) = test y (anchorsOpen b w x y)
+
+      pub add-none : tapTarget b w ≡ none → addWire b ts w ≡ ts
+      add-none e = add-as ∙ (λ z. elim (e z) [ none ↦ ts | at t ↦ tapFor b ts w t ∷ ts ])
+
+      pub add-some : (t : ℕ) → tapTarget b w ≡ at t → addWire b ts w ≡ tapFor b ts w t ∷ ts
+      add-some t e = add-as ∙ (λ z. elim (e z) [ none ↦ ts | at u ↦ tapFor b ts w u ∷ ts ])
+
+-- What `tap_target` answers, from a wire's facts.
+flag-shut : (t : Bool) (v : ℕ) → v ≡ flag t → v ≡ 0 → t ≡ false
+flag-shut true v e h = absurd (omega arith)
+flag-shut false v e h = refl
+
+flag-open : (t : Bool) (v : ℕ) → v ≡ flag t → (v ≡ 0 → ⊥) → t ≡ true
+flag-open true v e h = refl
+flag-open false v e h = absurd (h e)
+
+module _ (b : Board) (w : ℕ) (nodes : List (List ℕ)) (is : b .nodes ≡ nodes) (few : length nodes ≤ 4096) (s t v : ℕ)
+    (source : s ≡ held (anchorOf b (sourceNode b w))) (target : t ≡ held (anchorOf b (targetNode b w))) (opens : v ≡ flag (wireOpen b w)) where
+  same-count : length (b .nodes) ≡ length nodes
+  same-count = ap length is
+
+  gone : (id i : ℕ) → i ≡ held (anchorOf b id) → length nodes ≤ i → anchorOf b id ≡ none
+  gone id i e h = go (anchorOf b id) refl
+    where
+      go : (f : Found) → anchorOf b id ≡ f → f ≡ none
+      go none q = refl
+      go (at j) q = absurd (let l = anchor-below b id j q in let k : j ≡ i = sym (ap held q) ∙ sym e in let c = same-count in omega arith)
+
+  there : (id i : ℕ) → i ≡ held (anchorOf b id) → i < length nodes → anchorOf b id ≡ at i
+  there id i e h = held-there (anchorOf b id) (length nodes) i (omega arith) (sym e) h
+
+  pub answer-closed : v ≡ 0 → MISSING ≡ held (tapTarget b w)
+  answer-closed h = sym (ap held (target-closed b w (flag-shut (wireOpen b w) v opens h)))
+
+  module _ (n : v ≡ 0 → ⊥) where
+    pub answer-sourceless : length nodes ≤ s → MISSING ≡ held (tapTarget b w)
+    answer-sourceless h = sym (ap held (target-sourceless b w (flag-open (wireOpen b w) v opens n) (gone (sourceNode b w) s source h)))
+
+    module _ (hs : s < length nodes) where
+      pub answer-targetless : length nodes ≤ t → MISSING ≡ held (tapTarget b w)
+      answer-targetless h =
+          sym (ap held (target-targetless b w (flag-open (wireOpen b w) v opens n) s (there (sourceNode b w) s source hs) (gone (targetNode b w) t target h)))
+
+      module _ (ht : t < length nodes) (r : Bool) (tests : r ≡ anchorsOpen b w s t) where
+        pub answer-open : r ≡ true → t ≡ held (tapTarget b w)
+        answer-open h =
+            sym (ap held (target-open b w (flag-open (wireOpen b w) v opens n) s (there (sourceNode b w) s source hs) t (there (targetNode b w) t target ht) (sym tests ∙ h)))
+
+        pub answer-shut : r ≡ false → MISSING ≡ held (tapTarget b w)
+        answer-shut h =
+            sym (ap held (target-shut b w (flag-open (wireOpen b w) v opens n) s (there (sourceNode b w) s source hs) t (there (targetNode b w) t target ht) (sym tests ∙ h)))
+
+-- A view of a table that was stored to.
+module _ {A : Type 0} (read : List ℕ → A) (s : List (List ℕ)) (v : List ℕ) where
+  pub view-kept : (n i : ℕ) → n ≤ i → view read (set s i v) n ≡ view read s n
+  view-kept zero i h = refl
+  view-kept (suc n) i h =
+      let rest : view read (set s i v) n ≡ view read s n = view-kept n i (omega arith) in
+      let top : getD (set s i v) n [] ≡ getD s n [] = getD-set-other s i n v [] (λ e. omega arith) in
+      λ z. read (top z) ∷ rest z
+
+  pub view-more : (m : ℕ) → m < length s → view read (set s m v) (m + 1) ≡ read v ∷ view read s m
+  view-more m h =
+      ap (view read (set s m v)) (add-one m)
+      ∙ (λ z. read (getD-set-same s m v [] h z) ∷ view-kept m m (omega arith) z)
+
+-- Taps by their key.
+abbrev pub SameKey : List (List ℕ) → List (List ℕ) → ℕ → ℕ → ℕ → Bool
+SameKey wires taps p w k =
+    eqb (field taps k 0) p && eqb (field wires (field taps k 7) 1) (field wires w 1) && eqb (field wires (field taps k 7) 2) (field wires w 2)
+
+abbrev pub groupAt : List (List ℕ) → ℕ → Found → ℕ
+groupAt taps w none = w
+groupAt taps w (at k) = field taps k 1
+
+group-newest : (b : Board) (taps : List (List ℕ)) (p w m : ℕ) → groupFor b (view tapIn taps m) p w ≡ groupAt taps w (newest (SameKey (b .wires) taps p w) m)
+unfolding groupFor
+group-newest b taps p w zero = refl
+group-newest b taps p w (suc m) = go (SameKey (b .wires) taps p w m) (group-newest b taps p w m)
+  where
+    go : (t : Bool) → groupFor b (view tapIn taps m) p w ≡ groupAt taps w (newest (SameKey (b .wires) taps p w) m)
+        → _≡_ {A = ℕ} (elim t [ true ↦ field taps m 1 | false ↦ groupFor b (view tapIn taps m) p w ]) (groupAt taps w (elim t [ true ↦ at m | false ↦ newest (SameKey (b .wires) taps p w) m ]))
+    go true ih = refl
+    go false ih = ih
+
+abbrev pub KeyChain : List (List ℕ) → List (List ℕ) → ℕ → ℕ → ℕ → ℕ → Type 0
+KeyChain wires taps p w m l =
+    Following (SameKey wires taps p w) (λ k. eqb (bucketIn wires (getD taps k [])) (tapBucket p (field wires w 1) (field wires w 2))) m l
+
+module _ (wires taps : List (List ℕ)) (nexts heads : List ℕ) (m : ℕ) (tapped : Tapped wires taps nexts heads m) (p w : ℕ) where
+  key-implies : Implies (SameKey wires taps p w) (λ k. eqb (bucketIn wires (getD taps k [])) (tapBucket p (field wires w 1) (field wires w 2)))
+  key-implies k h = go (eqb (field taps k 0) p) refl (eqb (field wires (field taps k 7) 1) (field wires w 1)) refl (eqb (field wires (field taps k 7) 2) (field wires w 2)) refl h
+    where
+      go : (s : Bool) → eqb (field taps k 0) p ≡ s → (t : Bool) → eqb (field wires (field taps k 7) 1) (field wires w 1) ≡ t → (u : Bool) → eqb (field wires (field taps k 7) 2) (field wires w 2) ≡ u
+          → (s && t && u) ≡ true → eqb (bucketIn wires (getD taps k [])) (tapBucket p (field wires w 1) (field wires w 2)) ≡ true
+      go true e true f true g z =
+          eq-eqb _ _ (λ i. tapBucket (eqb-true (field taps k 0) p e i) (eqb-true (field wires (field taps k 7) 1) (field wires w 1) f i) (eqb-true (field wires (field taps k 7) 2) (field wires w 2) g i))
+      go true e true f false g z = clash false z refl
+      go true e false f u g z = clash false z refl
+      go false e t f u g z = clash false z refl
+
+  pub key-start : KeyChain wires taps p w m (getD heads (tapBucket p (field wires w 1) (field wires w 2)) 0)
+  key-start = chain-start TAP_BUCKETS _ nexts heads m (tapped .chained) (SameKey wires taps p w) _ key-implies (omega arith)
+
+  pub key-next : (l : ℕ) → 0 < l → KeyChain wires taps p w m l → SameKey wires taps p w (l - 1) ≡ false → KeyChain wires taps p w m (getD nexts (l - 1) 0)
+  key-next l h f not′ = chain-next TAP_BUCKETS _ nexts heads m (tapped .chained) (SameKey wires taps p w) _ key-implies l (l - 1) (omega arith) f not′
+
+  pub key-falls : (l : ℕ) → 0 < l → l ≤ m → getD nexts (l - 1) 0 < l
+  key-falls l h k = let z = chain-falls TAP_BUCKETS _ nexts heads m (tapped .chained) (l - 1) (omega arith) in omega arith
+
+  module _ (b : Board) (is : b .wires ≡ wires) where
+    newest-group : (f : Found) → newest (SameKey wires taps p w) m ≡ f → groupAt taps w f ≡ groupFor b (view tapIn taps m) p w
+    newest-group f e = sym (group-newest b taps p w m ∙ (λ z. groupAt taps w (newest (SameKey (is z) taps p w) m)) ∙ ap (groupAt taps w) e)
+
+    pub key-found : (l : ℕ) → 0 < l → KeyChain wires taps p w m l → SameKey wires taps p w (l - 1) ≡ true → field taps (l - 1) 1 ≡ groupFor b (view tapIn taps m) p w
+    key-found l h f has = newest-group (at (l - 1)) (follow-found _ _ m l (l - 1) f (omega arith) has)
+
+    pub key-none : (l : ℕ) → l ≡ 0 → KeyChain wires taps p w m l → w ≡ groupFor b (view tapIn taps m) p w
+    key-none l e f = newest-group none (follow-end _ _ m l 0 f e)
+
+  pub tapped-more : (tap : List ℕ) (k : ℕ) → m < length taps → m < length nexts → getD tap 7 0 < length wires → k ≡ bucketIn wires tap
+      → Tapped wires (set taps m tap) (set nexts m (getD heads k 0)) (set heads k (m + 1)) (m + 1)
+  tapped-more tap k room room′ inside e =
+      rw (add-one m)
+      (record {
+        room = simp length-set (omega arith);
+        below = λ j h. below′ j h (eqb j m) refl;
+        chained =
+            chained-more TAP_BUCKETS (λ j. bucketIn wires (getD (set taps m tap) j [])) nexts heads m
+            (chained-same TAP_BUCKETS _ nexts heads m (tapped .chained) (λ j. bucketIn wires (getD (set taps m tap) j []))
+            (λ j l. ap (bucketIn wires) (sym (getD-set-other taps m j tap [] (λ z. omega arith)))))
+            k room′ (ap (bucketIn wires) (getD-set-same taps m tap [] room) ∙ sym e) (omega arith);
+      })
+    where
+      below′ : (j : ℕ) → j < suc m → (t : Bool) → eqb j m ≡ t → field (set taps m tap) j 7 < length wires
+      below′ j h true q =
+          let same : field (set taps m tap) j 7 ≡ getD tap 7 0 = (λ z. field (set taps m tap) (eqb-true j m q z) 7) ∙ ap (λ (r : List ℕ). getD r 7 0) (getD-set-same taps m tap [] room) in
+          omega arith
+      below′ j h false q =
+          let other : field (set taps m tap) j 7 ≡ field taps j 7 = ap (λ (r : List ℕ). getD r 7 0) (getD-set-other taps m j tap [] (borrow.Author.Tests.eqb-false j m q)) in
+          let old = tapped .below j (omega (arith, borrow.Author.Tests.eqb-false j m q)) in
+          omega arith
+
+-- The tap of a wire with target t, as `add_tap` writes it.
+pub tap-for : (b : Board) (nodes wires facts : List (List ℕ)) (ts : List Tap) (w t g : ℕ) → b .nodes ≡ nodes → b .wires ≡ wires → NodeFacts b facts → tapTarget b w ≡ at t
+    → g ≡ groupFor b ts (field nodes t 10) w
+    → tapIn (field nodes t 10 ∷ g ∷ field facts t 0 ∷ field nodes t 9 ∷ field nodes t 8 ∷ field wires w 3 ∷ field wires w 4 ∷ w ∷ []) ≡ tapFor b ts w t
+unfolding tapFor
+tap-for b nodes wires facts ts w t g n ws known e h =
+    let row : field facts t 0 ≡ rowOf b t = known .rows t (carried-below b w t e) (carried-row b w t e) in
+    let group : g ≡ groupFor b ts (pageOf b t) w = h ∙ (λ z. groupFor b ts (field (sym n z) t 10) w) in
+    λ z. record { page = field (sym n z) t 10; group = group z; row = row z; y = field (sym n z) t 9; x = field (sym n z) t 8; node = field (sym ws z) w 3; port = field (sym ws z) w 4; wire = w }
+
+-- The facts of the ends of the first n wires.
+pub record EndsUpto (b : Board) (facts : List (List ℕ)) (n : ℕ) : Type 0 where
+  pub sources : (w : ℕ) → w < n → field facts w 2 ≡ held (anchorOf b (sourceNode b w))
+  pub targets : (w : ℕ) → w < n → field facts w 3 ≡ held (anchorOf b (targetNode b w))
+  pub opens : (w : ℕ) → w < n → field facts w 4 ≡ flag (wireOpen b w)
+
+pub ends-none : (b : Board) (facts : List (List ℕ)) → EndsUpto b facts 0
+ends-none b facts =
+    record { sources = λ w h. absurd (omega arith); targets = λ w h. absurd (omega arith); opens = λ w h. absurd (omega arith) }
+
+pub ends-all : (b : Board) (facts : List (List ℕ)) (n : ℕ) → length (b .wires) ≤ n → EndsUpto b facts n → WireFacts b facts
+ends-all b facts n all known =
+    record {
+      sources = λ w h. known .sources w (omega arith);
+      targets = λ w h. known .targets w (omega arith);
+      opens = λ w h. known .opens w (omega arith);
+    }
+
+-- A wire's row with its ends, as `find_ends` writes it.
+abbrev pub endsRow : List (List ℕ) → ℕ → ℕ → ℕ → ℕ → List ℕ
+endsRow facts w s t f = field facts w 0 ∷ field facts w 1 ∷ s ∷ t ∷ f ∷ 0 ∷ 0 ∷ 0 ∷ []
+
+module _ (b : Board) (facts : List (List ℕ)) (w s t f : ℕ) (room : w < length facts) where
+  pub ends-nodes : NodeFacts b facts → NodeFacts b (set facts w (endsRow facts w s t f))
+  ends-nodes = same-nodes b facts (set facts w (endsRow facts w s t f)) (column-kept facts w _ room 0 refl) (column-kept facts w _ room 1 refl)
+
+  module _ (wires : List (List ℕ)) (is : b .wires ≡ wires) (so to r : Bool) where
+    pub ends-more : (s ≡ held (anchorOf b (field wires w 1))) × (so ≡ isBussable b (field wires w 1)) → (t ≡ held (anchorOf b (field wires w 3))) × (to ≡ isBussable b (field wires w 3))
+        → r ≡ (not (eqb (field wires w 2) 0) && not (eqb (field wires w 4) 0) && not (eqb (field wires w 1) (field wires w 3)) && so && to) → f ≡ flag r
+        → EndsUpto b facts w → EndsUpto b (set facts w (endsRow facts w s t f)) (w + 1)
+    unfolding wireOpen
+    ends-more p q e g known =
+        let source : s ≡ held (anchorOf b (sourceNode b w)) = p .0 ∙ (λ z. held (anchorOf b (field (sym is z) w 1))) in
+        let target : t ≡ held (anchorOf b (targetNode b w)) = q .0 ∙ (λ z. held (anchorOf b (field (sym is z) w 3))) in
+        let sourceOpen : so ≡ isBussable b (sourceNode b w) = p .1 ∙ (λ z. isBussable b (field (sym is z) w 1)) in
+        let targetOpen : to ≡ isBussable b (targetNode b w) = q .1 ∙ (λ z. isBussable b (field (sym is z) w 3)) in
+        let opens : r ≡ wireOpen b w =
+        e ∙ (λ z. not (eqb (field (sym is z) w 2) 0) && not (eqb (field (sym is z) w 4) 0) && not (eqb (field (sym is z) w 1) (field (sym is z) w 3)) && sourceOpen z && targetOpen z) in
+        record {
+          sources = column-more facts w _ room 2 (λ k. held (anchorOf b (sourceNode b k))) source (known .sources);
+          targets = column-more facts w _ room 3 (λ k. held (anchorOf b (targetNode b k))) target (known .targets);
+          opens = column-more facts w _ room 4 (λ k. flag (wireOpen b k)) (g ∙ ap flag opens) (known .opens);
+        }
+
+-- A wire's row with its target beside its ends, as `mark_wires` writes it.
+abbrev pub targetRow : List (List ℕ) → ℕ → ℕ → List ℕ
+targetRow facts w v = field facts w 0 ∷ field facts w 1 ∷ field facts w 2 ∷ field facts w 3 ∷ field facts w 4 ∷ v ∷ 0 ∷ 0 ∷ []
+
+-- What is known once the first n wires have their targets.
+pub record TargetsUpto (b : Board) (facts : List (List ℕ)) (n : ℕ) : Type 0 where
+  pub nodes : NodeFacts b facts
+  pub wires : WireFacts b facts
+  pub targets : (k : ℕ) → k < n → field facts k 5 ≡ held (tapTarget b k)
+
+pub targets-more : (b : Board) (facts : List (List ℕ)) (w v : ℕ) → w < length facts → v ≡ held (tapTarget b w) → TargetsUpto b facts w → TargetsUpto b (set facts w (targetRow facts w v)) (w + 1)
+targets-more b facts w v room new known =
+    record {
+      nodes = same-nodes b facts (set facts w (targetRow facts w v)) (column-kept facts w _ room 0 refl) (column-kept facts w _ room 1 refl) (known .nodes);
+      wires = same-wires b facts (set facts w (targetRow facts w v)) (column-kept facts w _ room 2 refl) (column-kept facts w _ room 3 refl) (column-kept facts w _ room 4 refl) (known .wires);
+      targets = column-more facts w _ room 5 (λ k. held (tapTarget b k)) new (known .targets);
+    }
+
+-- The tests on a wire's anchors are on their rows, the wire's and the X records.
+pub anchors-same : (b : Board) (w : ℕ) (nodes execs : List (List ℕ)) (wire : List ℕ) → b .nodes ≡ nodes → b .execs ≡ execs → getD (b .wires) w [] ≡ wire → (s t : ℕ)
+    → (((not (eqb (field nodes t 1) (getD wire 3 0)) || eqb (field nodes t 2) kindChip)
+    || (eqb (field nodes s 2) kindInput || eqb (field nodes s 4) 1 || eqb (field nodes s 3) classStorage)
+    || not (any (λ e. eqb (field execs e 1) (getD wire 3 0) && eqb (field execs e 2) (getD wire 4 0)) (upto (length execs))))
+    && not (eqb (field nodes s 3) classInline) && not (eqb (field nodes t 3) classInline)
+    && not (eqb (field nodes s 2) kindCoerce)
+    && given (field nodes t 10))
+    ≡ anchorsOpen b w s t
+unfolding anchorsOpen crossesAt isBusWorthy targetsExec
+anchors-same b w nodes execs wire n x v s t =
+    λ z. (((not (eqb (field (sym n z) t 1) (getD (sym v z) 3 0)) || eqb (field (sym n z) t 2) kindChip)
+    || (eqb (field (sym n z) s 2) kindInput || eqb (field (sym n z) s 4) 1 || eqb (field (sym n z) s 3) classStorage)
+    || not (any (λ e. eqb (field (sym x z) e 1) (getD (sym v z) 3 0) && eqb (field (sym x z) e 2) (getD (sym v z) 4 0)) (upto (length (sym x z)))))
+    && not (eqb (field (sym n z) s 3) classInline) && not (eqb (field (sym n z) t 3) classInline)
+    && not (eqb (field (sym n z) s 2) kindCoerce)
+    && given (field (sym n z) t 10))
+
+-- One more wire, as `add_tap` goes by its target.
+module _ (b : Board) (w t : ℕ) (nodes : List (List ℕ)) (is : b .nodes ≡ nodes) (e : t ≡ held (tapTarget b w)) where
+  pub target-gone : length nodes ≤ t → tapTarget b w ≡ none
+  target-gone h = go (tapTarget b w) refl
+    where
+      go : (f : Found) → tapTarget b w ≡ f → f ≡ none
+      go none q = refl
+      go (at j) q = absurd (let l = carried-below b w j q in let k : j ≡ t = sym (ap held q) ∙ sym e in let c = ap length is in omega arith)
+
+  pub target-there : length nodes ≤ 4096 → t < length nodes → tapTarget b w ≡ at t
+  target-there few h = held-there (tapTarget b w) (length nodes) t (omega arith) (sym e) h
+
+pub taps-none : (b : Board) → fold (addWire b) [] (upto 0) ≡ []
+taps-none b = refl
+
+pub taps-more : (b : Board) (w : ℕ) (ts ts′ : List Tap) → ts ≡ fold (addWire b) [] (upto w) → ts′ ≡ addWire b ts w → ts′ ≡ fold (addWire b) [] (upto (w + 1))
+taps-more b w ts ts′ e f = f ∙ ap (λ (l : List Tap). addWire b l w) e ∙ ap (λ (n : ℕ). fold (addWire b) [] (upto n)) (sym (add-one w))
+
+pub taps-all : (b : Board) (wires : List (List ℕ)) (w : ℕ) (ts : List Tap) → b .wires ≡ wires → w ≡ length wires → ts ≡ fold (addWire b) [] (upto w) → ts ≡ tapsOf b
+unfolding tapsOf
+taps-all b wires w ts e f g = g ∙ ap (λ (n : ℕ). fold (addWire b) [] (upto n)) (f ∙ ap length (sym e))
+
+pub fresh-taps : (wires taps : List (List ℕ)) (n m : ℕ) → TAP_BUCKETS ≤ m → Tapped wires taps (replicate n 0) (replicate m 0) 0
+fresh-taps wires taps n m h = record { room = omega arith; below = λ k l. absurd (omega arith); chained = fresh-chains TAP_BUCKETS _ n m h }
+
+-- One more wire with a target, as `add_tap` writes its tap.
+pub taps-with : (b : Board) (w t : ℕ) (nodes wires facts : List (List ℕ)) (g : ℕ) (ts ts′ : List Tap) → b .nodes ≡ nodes → b .wires ≡ wires → NodeFacts b facts
+    → t ≡ held (tapTarget b w) → length nodes ≤ 4096 → t < length nodes → ((c : Board) → c .wires ≡ wires → g ≡ groupFor c ts (field nodes t 10) w)
+    → ts′ ≡ tapIn (field nodes t 10 ∷ g ∷ field facts t 0 ∷ field nodes t 9 ∷ field nodes t 8 ∷ field wires w 3 ∷ field wires w 4 ∷ w ∷ []) ∷ ts
+    → ts′ ≡ addWire b ts w
+taps-with b w t nodes wires facts g ts ts′ n e known h few inside group new =
+    let target = target-there b w t nodes n h few inside in
+    new ∙ ap (λ (x : Tap). x ∷ ts) (tap-for b nodes wires facts ts w t g n e known target (group b e)) ∙ sym (add-some b w ts t target)

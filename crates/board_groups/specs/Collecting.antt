@@ -1,0 +1,92 @@
+-- How the code that collects taps, groups and demands holds them on its way. No rule stands here.
+use Prim.Native.Nat.{ℕ, _+_, _-_, _*_, _%_, _≤_, _<_}
+use mathlib.Core.Path.{_≡_}
+use mathlib.Core.Bool.{true, false, _&&_}
+use mathlib.Core.List.{List, [], _∷_}
+use lib.Dec.{eqb}
+use lib.ListN.{length, getD}
+use Rattle.sheet.specs.Table.{MISSING, libraryMost}
+use Rattle.base.specs.Sort.{lexLess}
+use Rattle.lanes.specs.LaneCall.{rowMost, countMost}
+use Rattle.board_groups.specs.declared.rows.Run.{Run}
+use Rattle.base.specs.Lists.{Found, none, at}
+use Rattle.board.specs.Board.{Board, field, hasRow, pageOf, downOf}
+use Rattle.board.specs.Index.{Ids, Chained}
+use Rattle.board.specs.Rows.{brickCell}
+use Rattle.board.specs.Groups.{Tap}
+use Rattle.board.specs.Demands.{needsLane}
+use Rattle.board.specs.Tables.{groupRow}
+
+-- Above the x end of every brick: the rank of an x end counts down from it.
+abbrev pub END_MOST : ℕ
+END_MOST = 4000000
+
+-- The row by which a node is sorted: its page, its down, then the highest x end first; behind them its index and its x end.
+unfoldable pub rowKey : Board → ℕ → List ℕ
+rowKey b i =
+    elim (hasRow b i) [
+      | true ↦ pageOf b i ∷ downOf b i ∷ (END_MOST - brickCell b i .x1) ∷ i ∷ brickCell b i .x1 ∷ 0 ∷ 0 ∷ 0 ∷ []
+      | false ↦ MISSING ∷ 0 ∷ 0 ∷ i ∷ 0 ∷ 0 ∷ 0 ∷ 0 ∷ []
+    ]
+
+-- The keys of all nodes, in order.
+pub record Ranked (b : Board) (keys : List (List ℕ)) : Type 0 where
+  pub each : (k : ℕ) → k < length keys → (i : ℕ) × (i < length (b .nodes)) × (getD keys k [] ≡ rowKey b i)
+  pub all : (i : ℕ) → i < length (b .nodes) → (k : ℕ) × (k < length keys) × (getD keys k [] ≡ rowKey b i)
+  pub rising : (j k : ℕ) → j < k → k < length keys → lexLess (getD keys k []) (getD keys j []) ≡ false
+  pub ends : (i : ℕ) → i < length (b .nodes) → hasRow b i ≡ true → brickCell b i .x1 ≤ END_MOST
+
+-- The row that a key stands in, after that of the key before it.
+unfoldable pub runAfter : Run → List ℕ → Run
+runAfter run key =
+    elim (eqb (getD key 0 0) (run .page)) [
+      | false ↦ record { page = getD key 0 0; down = getD key 1 0; row = 0; top = getD key 4 0 }
+      | true ↦
+          elim (eqb (getD key 1 0) (run .down))
+          [ false ↦ record { page = getD key 0 0; down = getD key 1 0; row = run .row + 1; top = getD key 4 0 } | true ↦ run ]
+    ]
+
+-- The ids of the body nodes and of the nodes inside chips, indexed.
+pub record Indexes (nodes inner bodyIds innerIds : List (List ℕ)) : Type 0 where
+  pub few : length nodes ≤ libraryMost .nodes
+  pub fewInner : length inner ≤ libraryMost .inner
+  pub body : Ids bodyIds (length nodes) (λ i. field nodes i 1)
+  pub inside : Ids innerIds (length inner) (λ f. field inner f 1)
+
+-- How many chains the taps stand in, by page, source node and source port.
+abbrev pub TAP_BUCKETS : ℕ
+TAP_BUCKETS = 8192
+
+abbrev pub tapBucket : ℕ → ℕ → ℕ → ℕ
+tapBucket page node port = (node % 8192 + port % 8192 * 1021 + page % 64 * 127) % TAP_BUCKETS
+
+-- The bucket of a tap in a row: the source is that of its wire.
+abbrev pub bucketIn : List (List ℕ) → List ℕ → ℕ
+bucketIn wires tap = tapBucket (getD tap 0 0) (field wires (getD tap 7 0) 1) (field wires (getD tap 7 0) 2)
+
+-- The first m rows are taps of the wires, chained.
+pub record Tapped (wires taps : List (List ℕ)) (nexts heads : List ℕ) (m : ℕ) : Type 0 where
+  pub room : m ≤ length taps
+  pub below : (k : ℕ) → k < m → field taps k 7 < length wires
+  pub chained : Chained TAP_BUCKETS (λ k. bucketIn wires (getD taps k [])) nexts heads m
+
+-- A group's row with another lane.
+abbrev pub relaned : Found → List ℕ → List ℕ
+relaned none r = r
+relaned (at l) r = getD r 0 0 ∷ getD r 1 0 ∷ getD r 2 0 ∷ getD r 3 0 ∷ l ∷ getD r 5 0 ∷ getD r 6 0 ∷ 0 ∷ []
+
+-- The groups before any lane is given.
+abbrev pub GroupSums : Board → List Tap → List (List ℕ) → Type 0
+GroupSums b ts table = (g : ℕ) → g < length (b .wires) → getD table g [] ≡ groupRow b ts g MISSING
+
+-- The page of a group's first tap where the group needs a lane.
+unfoldable pub headPage : Board → List Tap → Tap → ℕ
+headPage b ts t = elim (eqb (t .group) (t .wire) && needsLane b ts (t .group)) [ true ↦ t .page | false ↦ MISSING ]
+
+-- The groups' rows as lane packing takes them.
+pub record Packable (taps : List (List ℕ)) (m : ℕ) (groups : List (List ℕ)) : Type 0 where
+  pub group : (k : ℕ) → k < m → field taps k 1 < length groups
+  pub order : (k : ℕ) → k < m → field taps k 1 ≤ countMost
+  pub first : (k : ℕ) → k < m → field groups (field taps k 1) 0 ≤ field groups (field taps k 1) 1
+  pub last : (k : ℕ) → k < m → field groups (field taps k 1) 1 ≤ rowMost
+  pub consumers : (k : ℕ) → k < m → field groups (field taps k 1) 2 ≤ countMost

@@ -1,0 +1,440 @@
+// `plan_bus`, its planning: what each group asks of the bus, and the lanes of each page.
+use base::numbers::MISSING;
+use base::rows::IdRow;
+use base::rows::Record;
+use base::rows::WorkRow;
+use board_groups::groups::collect_bus_groups;
+use board_groups::groups::crosses_at;
+use board_groups::groups::is_bus_worthy_source;
+use board_groups::rows::number_rows;
+use lanes::pack::Packing;
+use lanes::rows::pack_rows;
+ghost use mathlib.Core.Path.{_≡_};
+ghost use mathlib.Core.Bool.{_||_};
+ghost use mathlib.Core.List.{List, [], _∷_, map};
+ghost use Prim.Native.Nat.{ℕ, _+_, _≤_, _<_, min, max};
+ghost use lib.ListN.{length, getD};
+ghost use Rattle.sheet.specs.Table.{MISSING as GONE, libraryMost};
+ghost use Rattle.lanes.specs.Keys.{laneColumn};
+ghost use Rattle.base.specs.Lists.{at};
+ghost use Rattle.board.specs.Board.{Board, field, sourceNode, targetNode};
+ghost use Rattle.board.specs.Groups.{Tap, anchorOf, crosses, crossesAt, sourceAnchor, targetAnchor, tapsOf};
+ghost use Rattle.board.specs.Demands.{laneIn, firstRow, lastRow, needsLane};
+ghost use Rattle.base.specs.Views.{view};
+ghost use Rattle.board.specs.Tables.{held, tapIn, tapTarget, flag, NodeFacts, WireFacts};
+ghost use Rattle.board_groups.specs.Collecting.{Indexes, relaned, headPage, GroupSums, Packable};
+ghost use Rattle.board_lanes.specs.PagePlan.{PlanHeld};
+ghost use Rattle.board_lanes.specs.PagePlan.{orderColumn, AddedDemand, PageDemands, PagePacked, GutterPacked, Surveyed, Collected, Room, BoardPlanned};
+ghost use Rattle.board.specs.Accepted.{AcceptedNodes};
+
+// The first page that opens one lane too many, or that every group which needs a lane has one.
+pub enum Plan {
+    Crowded(usize),
+    Laned,
+}
+
+// A board's plan, and how many taps it has.
+pub struct BoardPlan {
+    pub plan: Plan,
+    pub taps: usize,
+}
+
+// Whether a wire that became a tap enters a chip or leaves one.
+fn wire_crosses(nodes: &[Record], wire: [u32; 16], fact: [u32; 8]) -> bool
+    requires { ⌜ length (now nodes) ≤ libraryMost .nodes ⌝ }
+    ensures { λ r. ⌜ ((b : Board) (w t : ℕ) → b .nodes ≡ now (nodes .entry) → getD (b .wires) w [] ≡ wire
+        → getD fact 2 0 ≡ held (anchorOf b (sourceNode b w)) → getD fact 3 0 ≡ held (anchorOf b (targetNode b w)) → tapTarget b w ≡ at t
+        → r ≡ (crossesAt b (sourceAnchor b w) (sourceNode b w) || crossesAt b (targetAnchor b w) (targetNode b w))) ⌝ }
+{
+    let s = fact[2] as usize;
+    if nodes.len() <= s {
+        return false;
+    }
+    let t = fact[3] as usize;
+    if nodes.len() <= t {
+        return false;
+    }
+    if crosses_at(nodes[s], wire[1]) {
+        return true;
+    }
+    crosses_at(nodes[t], wire[3])
+}
+
+fn lesser(a: u32, b: u32) -> u32
+    ensures { λ r. ⌜ (r ≡ min a b) × (a ≤ GONE) ⌝ }
+{
+    if a < b { a } else { b }
+}
+
+fn greater(a: u32, b: u32) -> u32
+    ensures { λ r. ⌜ r ≡ max a b ⌝ }
+{
+    if a < b { b } else { a }
+}
+
+// A group's row with one more tap.
+fn with_tap(row: [u32; 8], tap: [u32; 8], crosses: bool) -> [u32; 8]
+    requires { ⌜ getD row 2 0 < libraryMost .wires ⌝ }
+    ensures { λ r. ⌜ r ≡ min (getD tap 2 0) (getD row 0 0) ∷ max (getD tap 2 0) (getD row 1 0) ∷ (getD row 2 0 + 1) ∷ max (flag crosses) (getD row 3 0) ∷ getD row 4 0
+        ∷ min (getD tap 4 0) (getD row 5 0) ∷ max (getD tap 4 0) (getD row 6 0) ∷ 0 ∷ [] ⌝ }
+    ensures { λ _. ⌜ (getD tap 2 0 ≤ GONE) × (getD tap 4 0 ≤ GONE) ⌝ }
+{
+    [
+        lesser(tap[2], row[0]),
+        greater(tap[2], row[1]),
+        row[2] + 1,
+        greater(crosses as u32, row[3]),
+        row[4],
+        lesser(tap[4], row[5]),
+        greater(tap[4], row[6]),
+        0,
+    ]
+}
+
+// The rows of groups without a tap.
+fn clear_groups(n: usize, groups: &mut [WorkRow])
+    requires { ⌜ n ≤ length (now groups) ⌝ }
+    ensures { λ _. ⌜ ((g : ℕ) → g < n → getD (now (groups .exit)) g [] ≡ GONE ∷ 0 ∷ 0 ∷ 0 ∷ GONE ∷ GONE ∷ 0 ∷ 0 ∷ []) ⌝ }
+{
+    let mut g: usize = 0;
+    while g < n {
+        groups[g] = [MISSING, 0, 0, 0, MISSING, MISSING, 0, 0];
+        g += 1;
+    }
+}
+
+// Adds each tap to its group's row.
+fn sum_taps(
+    nodes: &[Record],
+    wires: &[Record],
+    facts: &[WorkRow],
+    taps: &[WorkRow],
+    m: usize,
+    groups: &mut [WorkRow],
+)
+    requires { ⌜ (m ≤ length (now taps)) × (m ≤ libraryMost .wires) × (length (now nodes) ≤ libraryMost .nodes) × (length (now wires) ≤ length (now facts)) × (length (now wires) ≤ length (now groups)) ⌝ }
+    requires { ⌜ ((k : ℕ) → k < m → (field (now taps) k 1 < length (now wires)) × (field (now taps) k 7 < length (now wires))) ⌝ }
+    requires { ⌜ ((g : ℕ) → g < length (now wires) → getD (now groups) g [] ≡ GONE ∷ 0 ∷ 0 ∷ 0 ∷ GONE ∷ GONE ∷ 0 ∷ 0 ∷ []) ⌝ }
+    ensures { λ _. ⌜ ((b : Board) → b .nodes ≡ now (nodes .entry) → b .wires ≡ now (wires .entry) → WireFacts b (now (facts .entry))
+        → view tapIn (now (taps .entry)) m ≡ tapsOf b → GroupSums b (tapsOf b) (now (groups .exit))) ⌝ }
+{
+    let mut k: usize = 0;
+    while k < m {
+        let tap = taps[k];
+        let g = tap[1] as usize;
+        let w = tap[7] as usize;
+        let crosses = wire_crosses(nodes, wires[w], facts[w]);
+        groups[g] = with_tap(groups[g], tap, crosses);
+        k += 1;
+    }
+}
+
+// D1: taps on several rows, a wire that crosses, or a bus-worthy source.
+fn needs_lane(nodes: &[Record], source: u32, row: [u32; 8]) -> bool
+    ensures { λ r. ⌜ ((b : Board) (g : ℕ) → b .nodes ≡ now (nodes .entry) → source ≡ sourceAnchor b g → source < length (now (nodes .entry))
+        → ((ts : List Tap) → getD row 0 0 ≡ firstRow b ts g → getD row 1 0 ≡ lastRow b ts g
+        → getD row 3 0 ≡ flag (crosses b ts g) → r ≡ needsLane b ts g)) ⌝ }
+{
+    if row[0] < row[1] {
+        return true;
+    }
+    if row[3] != 0 {
+        return true;
+    }
+    let s = source as usize;
+    if nodes.len() <= s {
+        return false;
+    }
+    is_bus_worthy_source(nodes[s])
+}
+
+// The page of a tap that is its group's first, where the group needs a lane; else MISSING.
+fn head_page(nodes: &[Record], source: u32, tap: [u32; 8], row: [u32; 8]) -> u32
+    ensures { λ r. ⌜ ((b : Board) (ts : List Tap) → b .nodes ≡ now (nodes .entry) → source ≡ sourceAnchor b (getD tap 1 0) → source < length (now (nodes .entry))
+        → getD row 0 0 ≡ firstRow b ts (getD tap 1 0) → getD row 1 0 ≡ lastRow b ts (getD tap 1 0)
+        → getD row 3 0 ≡ flag (crosses b ts (getD tap 1 0)) → r ≡ headPage b ts (tapIn tap)) ⌝ }
+{
+    if tap[1] != tap[7] {
+        return MISSING;
+    }
+    if needs_lane(nodes, source, row) {
+        tap[0]
+    } else {
+        MISSING
+    }
+}
+
+// Marks each tap with the page on which it asks for a lane.
+fn mark_heads(
+    nodes: &[Record],
+    wires: &[Record],
+    facts: &[WorkRow],
+    taps: &[WorkRow],
+    m: usize,
+    groups: &[WorkRow],
+    marks: &mut [u32],
+)
+    requires { ⌜ (m ≤ length (now taps)) × (m ≤ length (now marks)) × (length (now wires) ≤ length (now facts)) × (length (now wires) ≤ length (now groups)) ⌝ }
+    requires { ⌜ ((k : ℕ) → k < m → field (now taps) k 1 < length (now wires)) ⌝ }
+    ensures { λ _. ⌜ ((b : Board) → b .nodes ≡ now (nodes .entry) → b .wires ≡ now (wires .entry) → WireFacts b (now (facts .entry))
+        → view tapIn (now (taps .entry)) m ≡ tapsOf b → GroupSums b (tapsOf b) (now (groups .entry))
+        → (k : ℕ) → k < m → getD (now (marks .exit)) k 0 ≡ headPage b (tapsOf b) (tapIn (getD (now (taps .entry)) k []))) ⌝ }
+{
+    let mut k: usize = 0;
+    while k < m {
+        let tap = taps[k];
+        let g = tap[1] as usize;
+        let fact = facts[g];
+        marks[k] = head_page(nodes, fact[2], tap, groups[g]);
+        k += 1;
+    }
+}
+
+// The demand of a group's row.
+fn demand_row(row: [u32; 8], group: u32) -> [u32; 8]
+    ensures { λ r. ⌜ r ≡ getD row 0 0 ∷ getD row 1 0 ∷ getD row 2 0 ∷ group ∷ 0 ∷ 0 ∷ 0 ∷ 0 ∷ [] ⌝ }
+{
+    [row[0], row[1], row[2], group, 0, 0, 0, 0]
+}
+
+// The demand of a tap's group, where the tap asks for a lane on the page. The count of demands comes back.
+fn add_demand(
+    tap: [u32; 8],
+    mark: u32,
+    groups: &[WorkRow],
+    p: u32,
+    demands: &mut [WorkRow],
+    n: usize,
+) -> usize
+    requires { ⌜ (n < length (now demands)) × (getD tap 1 0 < length (now groups)) ⌝ }
+    ensures { λ r. ⌜ AddedDemand (now (groups .entry)) tap mark p (now (demands .entry)) n (now (demands .exit)) r ⌝ }
+{
+    if mark != p {
+        return n;
+    }
+    let group = tap[1];
+    let g = group as usize;
+    demands[n] = demand_row(groups[g], group);
+    n + 1
+}
+
+// The demands of a page's groups, by rising first wire. Their count comes back.
+fn page_demands(
+    taps: &[WorkRow],
+    marks: &[u32],
+    m: usize,
+    groups: &[WorkRow],
+    p: u32,
+    demands: &mut [WorkRow],
+) -> usize
+    requires { ⌜ (m ≤ length (now taps)) × (m ≤ length (now marks)) × (m ≤ length (now demands)) ⌝ }
+    requires { ⌜ Packable (now taps) m (now groups) ⌝ }
+    ensures { λ r. ⌜ r ≤ m ⌝ }
+    ensures { λ r. ⌜ PageDemands (now (taps .entry)) (now (marks .entry)) m (now (groups .entry)) p (now (demands .exit)) r ⌝ }
+{
+    let mut n: usize = 0;
+    let mut k: usize = 0;
+    while k < m {
+        n = add_demand(taps[k], marks[k], groups, p, demands, n);
+        k += 1;
+    }
+    n
+}
+
+// A group's row with its lane.
+fn with_lane(row: [u32; 8], lane: u32) -> [u32; 8]
+    ensures { λ r. ⌜ r ≡ relaned (at lane) row ⌝ }
+{
+    [row[0], row[1], row[2], row[3], lane, row[5], row[6], 0]
+}
+
+// Writes the lane of each demand to its group's row.
+fn place_lanes(demands: &[WorkRow], groups: &mut [WorkRow])
+    requires { ⌜ ((j : ℕ) → j < length (now demands) → field (now demands) j 3 < length (now groups)) ⌝ }
+    ensures { λ _. ⌜ ((g : ℕ) → g < length (now (groups .entry))
+        → getD (now (groups .exit)) g [] ≡ relaned (laneIn (map orderColumn (now (demands .entry))) (map laneColumn (now (demands .entry))) g) (getD (now (groups .entry)) g [])) ⌝ }
+{
+    let mut j: usize = demands.len();
+    while 0 < j {
+        j -= 1;
+        let demand = demands[j];
+        let g = demand[3] as usize;
+        groups[g] = with_lane(groups[g], demand[4]);
+    }
+}
+
+// Packs the demands of a page and gives its groups their lanes.
+fn plan_page(
+    taps: &[WorkRow],
+    marks: &[u32],
+    m: usize,
+    groups: &mut [WorkRow],
+    p: u32,
+    demands: &mut [WorkRow],
+    keys: &mut [WorkRow],
+    spare: &mut [WorkRow],
+) -> Packing
+    requires { ⌜ (m ≤ libraryMost .wires) × (m ≤ length (now taps)) × (m ≤ length (now marks)) × (m ≤ length (now demands)) × (m ≤ length (now keys)) × (m ≤ length (now spare)) ⌝ }
+    requires { ⌜ Packable (now taps) m (now groups) ⌝ }
+    ensures { λ r. ⌜ PagePacked (now (taps .entry)) (now (marks .entry)) m p (now (groups .entry)) (now (groups .exit)) r ⌝ }
+{
+    let n = page_demands(taps, marks, m, groups, p, demands);
+    match pack_rows(&mut demands[..n], keys, spare) {
+        Packing::Lanes(count) => {
+            place_lanes(&demands[..n], groups);
+            Packing::Lanes(count)
+        }
+        Packing::Full(index) => Packing::Full(index),
+    }
+}
+
+// The same, but a page without min_y gets no lanes.
+fn plan_gutter(
+    page: [u32; 16],
+    taps: &[WorkRow],
+    marks: &[u32],
+    m: usize,
+    groups: &mut [WorkRow],
+    p: u32,
+    demands: &mut [WorkRow],
+    keys: &mut [WorkRow],
+    spare: &mut [WorkRow],
+) -> Packing
+    requires { ⌜ (m ≤ libraryMost .wires) × (m ≤ length (now taps)) × (m ≤ length (now marks)) × (m ≤ length (now demands)) × (m ≤ length (now keys)) × (m ≤ length (now spare)) ⌝ }
+    requires { ⌜ Packable (now taps) m (now groups) ⌝ }
+    ensures { λ r. ⌜ GutterPacked (getD page 1 0) (now (taps .entry)) (now (marks .entry)) m p (now (groups .entry)) (now (groups .exit)) r ⌝ }
+{
+    if page[1] == MISSING {
+        return Packing::Lanes(0);
+    }
+    plan_page(taps, marks, m, groups, p, demands, keys, spare)
+}
+
+// Plans the pages in turn, up to the first that is crowded. What is known of nodes and wires stays.
+fn plan_pages(
+    pages: &[Record],
+    taps: &[WorkRow],
+    marks: &[u32],
+    m: usize,
+    groups: &mut [WorkRow],
+    facts: &mut [WorkRow],
+    demands: &mut [WorkRow],
+    keys: &mut [WorkRow],
+    spare: &mut [WorkRow],
+) -> Plan
+    requires { ⌜ (m ≤ libraryMost .wires) × (m ≤ length (now taps)) × (m ≤ length (now marks)) × (m ≤ length (now demands)) × (m ≤ length (now keys)) × (m ≤ length (now spare))
+        × (length (now pages) ≤ libraryMost .pages) × (length (now pages) ≤ length (now facts)) ⌝ }
+    requires { ⌜ Packable (now taps) m (now groups) ⌝ }
+    ensures { λ r. ⌜ ((b : Board) → b .pages ≡ now (pages .entry) → Surveyed b (now (taps .entry)) m (now (groups .entry)) (now (marks .entry)) → length (b .wires) ≤ length (now (groups .entry))
+        → PlanHeld b (now (groups .exit)) (now (facts .exit)) r) ⌝ }
+    ensures { λ _. ⌜ ((b : Board) → NodeFacts b (now (facts .entry)) → WireFacts b (now (facts .entry)) → NodeFacts b (now (facts .exit)) × WireFacts b (now (facts .exit))) ⌝ }
+{
+    let mut p: usize = 0;
+    while p < pages.len() {
+        let packing = plan_gutter(
+            pages[p],
+            taps,
+            marks,
+            m,
+            groups,
+            p as u32,
+            demands,
+            keys,
+            spare,
+        );
+        let Packing::Lanes(count) = packing else {
+            return Plan::Crowded(p);
+        };
+        let row = facts[p];
+        facts[p] = [
+            row[0],
+            row[1],
+            row[2],
+            row[3],
+            row[4],
+            row[5],
+            count as u32,
+            0,
+        ];
+        p += 1;
+    }
+    Plan::Laned
+}
+
+// The lanes of all groups: what each group's taps add up to, which of them ask for a lane, and then page by page.
+fn plan_lanes(
+    pages: &[Record],
+    nodes: &[Record],
+    wires: &[Record],
+    facts: &mut [WorkRow],
+    taps: &[WorkRow],
+    m: usize,
+    groups: &mut [WorkRow],
+    demands: &mut [WorkRow],
+    keys: &mut [WorkRow],
+    spare: &mut [WorkRow],
+) -> Plan
+    requires { ⌜ ((b : Board) × Collected b (now pages) (now nodes) (now wires) (now facts) (now taps) m) ⌝ }
+    requires { ⌜ (length (now pages) ≤ libraryMost .pages) × (length (now nodes) ≤ libraryMost .nodes) × (length (now wires) ≤ libraryMost .wires) × (m ≤ length (now wires)) × (m ≤ length (now taps))
+        × (length (now wires) ≤ length (now facts)) × (length (now wires) ≤ length (now groups)) × (length (now pages) ≤ length (now facts))
+        × (m ≤ length (now demands)) × (m ≤ length (now keys)) × (m ≤ length (now spare)) ⌝ }
+    ensures { λ r. ⌜ ((b : Board) → Collected b (now (pages .entry)) (now (nodes .entry)) (now (wires .entry)) (now (facts .entry)) (now (taps .entry)) m
+        → NodeFacts b (now (facts .exit)) × WireFacts b (now (facts .exit)) × PlanHeld b (now (groups .exit)) (now (facts .exit)) r) ⌝ }
+{
+    clear_groups(wires.len(), groups);
+    sum_taps(nodes, wires, facts, taps, m, groups);
+    let mut marks = [0u32; 8192];
+    mark_heads(nodes, wires, facts, taps, m, groups, &mut marks);
+    plan_pages(pages, taps, &marks, m, groups, facts, demands, keys, spare)
+}
+
+// Plans a board: its rows, its groups and its lanes.
+pub fn plan_board(
+    pages: &[Record],
+    nodes: &[Record],
+    chips: &[Record],
+    inner: &[Record],
+    execs: &[Record],
+    wires: &[Record],
+    body_index: &[IdRow],
+    inner_index: &[IdRow],
+    facts: &mut [WorkRow],
+    taps: &mut [WorkRow],
+    groups: &mut [WorkRow],
+    demands: &mut [WorkRow],
+    keys: &mut [WorkRow],
+    spare: &mut [WorkRow],
+) -> BoardPlan
+    requires { ⌜ AcceptedNodes (now nodes) ⌝ }
+    requires { ⌜ Indexes (now nodes) (now inner) (now «body_index») (now «inner_index») ⌝ }
+    requires { ⌜ Room (now pages) (now nodes) (now execs) (now wires) (now facts) (now taps) (now groups) (now demands) (now keys) (now spare) ⌝ }
+    ensures { λ r. ⌜ BoardPlanned
+        (record { pages = now (pages .entry); nodes = now (nodes .entry); chips = now (chips .entry); inner = now (inner .entry); execs = now (execs .entry); wires = now (wires .entry) })
+        (now (facts .exit)) (now (taps .exit)) (now (groups .exit)) r ⌝ }
+{
+    number_rows(nodes, keys, spare, facts);
+    let m = collect_bus_groups(
+        nodes,
+        chips,
+        inner,
+        execs,
+        wires,
+        body_index,
+        inner_index,
+        facts,
+        taps,
+    );
+    let plan = plan_lanes(
+        pages,
+        nodes,
+        wires,
+        facts,
+        taps,
+        m,
+        groups,
+        demands,
+        keys,
+        spare,
+    );
+    BoardPlan { plan, taps: m }
+}

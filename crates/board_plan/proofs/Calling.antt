@@ -1,0 +1,150 @@
+-- From planning a text to `plan_bus`.
+use Prim.Native.Nat.{ℕ, zero, suc, _+_, _*_, _≤_, _<_, min}
+use native.Mathlib.Omega.{arith}
+use mathlib.Core.Path.{_≡_, refl, sym, ap, _∙_, subst}
+use mathlib.Core.Bool.{Bool, true, false, _&&_}
+use mathlib.Core.List.{List, [], _∷_, _++_, map}
+use lib.Dec.{leb}
+use lib.ListN.{length, getD, drop}
+use borrow.Author.Tests.{le-leb}
+use Rattle.sheet.specs.declared.Counts.{Counts}
+use Rattle.sheet.specs.Table.{libraryMost}
+use Rattle.board.specs.Board.{Board, field}
+use Rattle.board.specs.Refusals
+use Rattle.board.specs.Refusals.{Judged, board, judged}
+use Rattle.board.specs.Demands
+use Rattle.board.specs.Demands.{PageLanes, planLanes, noLanes}
+use Rattle.board.specs.Planning.{Planning, refused, lanesFor, planning, fitsPages, crowding, records, pageRow, pagesAfter, fitted}
+use Rattle.board.specs.Walk.{WithinLibrary, countsIn}
+use Rattle.lanes.specs.Lanes.{laneMost}
+use Rattle.base.proofs.Lists.{never}
+use Rattle.board_plan.specs.declared.Lent.{Lent}
+use Rattle.board_plan.specs.declared.TextPlan
+use Rattle.board_plan.specs.declared.TextPlan.the-variants as answers
+use Rattle.board_plan.specs.declared.PagesPlan.the-variants.{Refused, Planned}
+use Rattle.board_plan.specs.TextPlan.{LINE_MOST, hasRoom, fitsCounts, fitsLent, shortest, WorkLent, TablesHold, TextPlanned, workRows}
+use Rattle.board_plan.specs.PagesPlan.{planCall, pagesPlan, PagesPlanned}
+use Rattle.board.proofs.Accepting.{sheet-accepted}
+use Rattle.board_plan.proofs.Planned.{planned-counts}
+use Rattle.board_plan.proofs.Fitting.{fits-all}
+use Rattle.board.proofs.Planning.{planning-refused, planning-fine, lanes-from}
+
+pub within-library : WithinLibrary libraryMost
+within-library s = omega arith
+
+-- No slice is shorter than the shortest.
+shortest-at : (l : List ℕ) (k : ℕ) → k < length l → shortest l ≤ getD l k 0
+unfolding shortest
+shortest-at [] k h = absurd (omega arith)
+shortest-at (n ∷ []) zero h = omega arith
+shortest-at (n ∷ []) (suc k) h = absurd (omega arith)
+shortest-at (n ∷ m ∷ l) zero h = omega arith
+shortest-at (n ∷ m ∷ l) (suc k) h = let r = shortest-at (m ∷ l) k (omega arith) in omega arith
+
+-- Work space in which there is room for so many records: as many rows stand in each slice, and twice as many in the marks.
+pub record WorkRoom (work : ℕ) (records facts taps groups demands keys marks : List (List ℕ)) : Type 0 where
+  pub lent : WorkLent work (length records) facts taps groups demands keys marks
+  pub twice : 2 * work ≤ length marks
+
+pub work-room : (work : ℕ) (records facts taps groups demands keys marks : List (List ℕ)) → work ≡ shortest (workRows records facts taps groups demands keys marks)
+    → WorkRoom work records facts taps groups demands keys marks
+work-room work records facts taps groups demands keys marks e =
+    let l : List ℕ = workRows records facts taps groups demands keys marks in
+    record {
+      lent =
+          record {
+            records-lent = omega (arith, e, shortest-at l 0 (omega arith));
+            facts-lent = omega (arith, e, shortest-at l 1 (omega arith));
+            taps-lent = omega (arith, e, shortest-at l 2 (omega arith));
+            groups-lent = omega (arith, e, shortest-at l 3 (omega arith));
+            demands-lent = omega (arith, e, shortest-at l 4 (omega arith));
+            keys-lent = omega (arith, e, shortest-at l 5 (omega arith));
+            spare-lent = omega (arith, e, shortest-at l 6 (omega arith));
+          };
+      twice = omega (arith, e, shortest-at l 6 (omega arith));
+    }
+
+-- `plan_bus` asks for no rerouters, bus wires or ports: it plans as if the most were lent.
+abbrev pub pagesLent : ℕ → ℕ → Lent
+pagesLent answers work = record { rerouters = 40960; «bus_wires» = 49152; ports = 8192; answers = answers; work = work; out = 12591232 }
+
+pages-fit : (answers work : ℕ) (b : Board) → length (b .wires) ≤ libraryMost .wires → length (b .pages) ≤ libraryMost .pages → fitsLent (pagesLent answers work) b ≡ fitsPages answers work b
+unfolding fitsLent fitsCounts hasRoom fitsPages records
+pages-fit answers work b h g =
+    let w : ℕ = length (b .wires) in
+    rw (le-leb (5 * w) 40960 (omega arith), le-leb (6 * w) 49152 (omega arith), le-leb w 8192 (omega arith), le-leb (LINE_MOST * (length (b .pages) + 12 * w + 1)) 12591232 (omega arith)) refl
+
+-- Two tests of what is lent that agree on every board within the limits plan alike.
+pub planning-same : (text : List ℕ) (f g : Board → Bool) → ((b : Board) → length (b .wires) ≤ libraryMost .wires → length (b .pages) ≤ libraryMost .pages → f b ≡ g b)
+    → planning libraryMost f text ≡ planning libraryMost g text
+planning-same text f g same = go (judged libraryMost text) refl
+  where
+    go : (j : Judged) → judged libraryMost text ≡ j → planning libraryMost f text ≡ planning libraryMost g text
+    go (Refusals.turnedAway n l) e = planning-refused libraryMost text f n l e ∙ sym (planning-refused libraryMost text g n l e)
+    go (board b) e =
+        planning-fine libraryMost text f b e
+        ∙ ap (λ (t : Bool). elim t as (λ _. Planning) [ true ↦ crowding b (planLanes b) | false ↦ refused 7 0 ]) (let h = sheet-accepted libraryMost text b within-library e in same b (h .fewWires) (h .fewPages))
+        ∙ sym (planning-fine libraryMost text g b e)
+
+pub pages-planning : (text : List ℕ) (answers work : ℕ) → planning libraryMost (fitsLent (pagesLent answers work)) text ≡ planning libraryMost (fitsPages answers work) text
+pages-planning text answers work = planning-same text (fitsLent (pagesLent answers work)) (fitsPages answers work) (pages-fit answers work)
+
+-- What an answer says of the planning.
+module _ (rows facts taps groups : List (List ℕ)) where
+  pub text-refusal : (p : Planning) (r : TextPlan.TextPlan) (n l : ℕ) → TextPlanned p rows facts taps groups r → r ≡ answers.Refused n l → p ≡ refused n l
+  text-refusal (refused n′ l′) r n l e d = cc
+  text-refusal (lanesFor b ps) r n l (m, e, h) d = never cc
+
+  pub record LanesTold (p : Planning) (c : Counts) (m : ℕ) : Type 0 where
+    pub onBoard : Board
+    pub lanes : List PageLanes
+    pub is : p ≡ lanesFor onBoard lanes
+    pub counted : c ≡ countsIn onBoard
+    pub tables : TablesHold onBoard lanes rows facts taps groups m
+
+  pub text-lanes : (p : Planning) (r : TextPlan.TextPlan) (c : Counts) (m : ℕ) → TextPlanned p rows facts taps groups r → r ≡ answers.Laned c m → LanesTold p c m
+  text-lanes (refused n l) r c m e d = never cc
+  text-lanes (lanesFor b ps) r c m (k, e, h) d =
+      let same : c ≡ countsIn b = cc in
+      let taps-same : k ≡ m = cc in
+      record { onBoard = b; lanes = ps; is = refl; counted = same; tables = subst (λ (j : ℕ). TablesHold b ps rows facts taps groups j) taps-same h }
+
+  -- The page answers can be written.
+  pub pages-ready : (most : Counts) (text : List ℕ) (lent : Lent) (c : Counts) (m k : ℕ) → LanesTold (planning most (fitsLent lent) text) c m → lent .work ≤ length facts → lent .answers ≡ k
+      → ((c .pages ≤ length facts) × (c .pages ≤ k)) × ((p : ℕ) → p < c .pages → field facts p 6 ≤ laneMost)
+  unfolding records
+  pages-ready most text lent c m k t work answers =
+      let b = t .onBoard in
+      let from = lanes-from most text (fitsLent lent) b (t .lanes) (t .is) in
+      let fit = fits-all lent b (from .fitting) in
+      let counts = planned-counts b (t .lanes) (from .lanes) in
+      let pages : c .pages ≡ length (b .pages) = ap (λ (d : Counts). d .pages) (t .counted) in
+      let fw = fit .work in
+      let fa = fit .answers in
+      ((omega arith, omega arith), λ p h. let inside : p < length (t .lanes) = omega (arith, counts .0) in omega (arith, t .tables .pages-known p inside, counts .1 p))
+
+-- The call's answers.
+module _ (text : List ℕ) (work : List ℕ) (before after : List (List ℕ)) where
+  call : Planning
+  call = planCall text (length before) work
+
+  told : (n : ℕ) → n ≡ shortest work → planning libraryMost (fitsLent (pagesLent (length before) n)) text ≡ call
+  unfolding planCall call
+  told n e = ap (λ (k : ℕ). planning libraryMost (fitsLent (pagesLent (length before) k)) text) e ∙ pages-planning text (length before) (shortest work)
+
+  pub pages-refused : (w : ℕ) → w ≡ shortest work → (n l : ℕ) → planning libraryMost (fitsLent (pagesLent (length before) w)) text ≡ refused n l
+      → PagesPlanned (planCall text (length before) work) before before (Refused n l)
+  unfolding call pagesAfter
+  pages-refused w e n l is =
+      let same : planCall text (length before) work ≡ refused n l = sym (told w e) ∙ is in
+      record { answer = ap pagesPlan (sym same); answers = ap (λ (p : Planning). pagesAfter p before) (sym same) }
+
+  pub pages-laned : (w : ℕ) → w ≡ shortest work → (b : Board) (ps : List PageLanes) → planning libraryMost (fitsLent (pagesLent (length before) w)) text ≡ lanesFor b ps → planLanes b ≡ Demands.planned ps
+      → after ≡ map pageRow ps ++ drop (length (b .pages)) before → PagesPlanned (planCall text (length before) work) before after (Planned (length (b .pages)))
+  unfolding call pagesAfter
+  pages-laned w e b ps is lanes written =
+      let same : planCall text (length before) work ≡ lanesFor b ps = sym (told w e) ∙ is in
+      record {
+        answer = ap pagesPlan (sym same);
+        answers = written ∙ ap (λ (k : ℕ). map pageRow ps ++ drop k before) (sym (planned-counts b ps lanes .0)) ∙ ap (λ (p : Planning). pagesAfter p before) (sym same);
+      }

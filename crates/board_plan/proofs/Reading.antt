@@ -1,0 +1,162 @@
+-- A text that is checked, fitted and read.
+use Prim.Native.Nat.{ℕ, zero, suc, _+_, _*_, _≤_, _<_}
+use native.Mathlib.Omega.{arith}
+use mathlib.Core.Path.{_≡_, refl, sym, ap, _∙_, subst}
+use mathlib.Core.Bool.{Bool, true, false, _&&_}
+use mathlib.Core.List.{List, [], _∷_, _++_}
+use lib.Dec.{ltb}
+use lib.ListN.{length, drop, length-map}
+use Rattle.sheet.specs.declared.Counts.{Counts}
+use Rattle.sheet.specs.declared.Checked.{Checked}
+use Rattle.sheet.specs.declared.Checked.the-variants.{Refused as NotTaken, Fine as Taken}
+use Rattle.sheet.specs.Table.{libraryMost}
+use Rattle.sheet.specs.Reading
+use Rattle.sheet.specs.Reading.{Reading, rows, reading, rowOf, rowsFrom, sheetLines}
+use Rattle.sheet.specs.Walk.{allRead}
+use Rattle.sheet.proofs.Walks.{accepted-read}
+use Rattle.board.specs.Board.{Board}
+use Rattle.board.specs.Refusals
+use Rattle.board.specs.Refusals.{Judged, board, judged}
+use Rattle.board.specs.Demands.{PageLanes, Planned, crowded, planned, planLanes}
+use Rattle.board.specs.Planning.{Planning, refused, lanesFor, planning, crowding, records, fitted, judgedFor}
+use Rattle.board_groups.specs.Collecting.{Indexes}
+use Rattle.board_lanes.specs.PagePlan.{Room}
+use Rattle.board.specs.Walk.{WithinLibrary, countsIn, boardChecked, Indexed, IndexedIf}
+use Rattle.base.proofs.Lists.{never}
+use Rattle.board.proofs.Planning.{planning-refused, planning-fine}
+use Rattle.board_plan.specs.declared.Lent.{Lent}
+use Rattle.board_plan.specs.TextPlan.{fitsCounts, fitsLent, lentFor, fitting, WorkLent, BoardRead, BoardChecked}
+use Rattle.board.specs.Accepted.{Accepted}
+use Rattle.board.proofs.Accepting.{FromSheet, from-sheet, sheet-accepted}
+use Rattle.board_plan.proofs.Slices.{sections-in, rows-count}
+use Rattle.board_plan.proofs.Fitting.{fits-all}
+
+-- The counts of an accepted board are at most the library's.
+pub counts-few : (b : Board) (c : Counts) → c ≡ countsIn b → Accepted b
+    → (c .pages ≤ libraryMost .pages) × (c .nodes ≤ libraryMost .nodes) × (c .chips ≤ libraryMost .chips) × (c .inner ≤ libraryMost .inner) × (c .execs ≤ libraryMost .execs) × (c .wires ≤ libraryMost .wires)
+counts-few b c e a =
+    subst (λ (d : Counts). (d .pages ≤ libraryMost .pages) × (d .nodes ≤ libraryMost .nodes) × (d .chips ≤ libraryMost .chips) × (d .inner ≤ libraryMost .inner) × (d .execs ≤ libraryMost .execs) × (d .wires ≤ libraryMost .wires)) (sym e)
+    (a .fewPages, a .fewNodes, a .fewChips, a .fewInner, a .fewExecs, a .fewWires)
+
+-- What fits by its counts fits as a board.
+pub fits-counted : (lent : Lent) (b : Board) (c : Counts) (t : Bool) → c ≡ countsIn b → fitsCounts lent c ≡ t → fitsLent lent b ≡ t
+unfolding fitsLent
+fits-counted lent b c t e f = ap (fitsCounts lent) (sym e) ∙ f
+
+module _ (most : Counts) (text : List ℕ) (fits : Board → Bool) where
+  -- Refusals 1 to 7.
+  pub fitting-refused : (n l : ℕ) → judged most text ≡ Refusals.turnedAway n l → fitting most fits text ≡ Refusals.turnedAway n l
+  unfolding fitting
+  fitting-refused n l e = ap (lentFor fits) e
+
+  fitting-fine : (b : Board) → judged most text ≡ board b → (t : Bool) → fits b ≡ t → fitting most fits text ≡ elim t as (λ _. Judged) [ true ↦ board b | false ↦ Refusals.turnedAway 7 0 ]
+  unfolding fitting
+  fitting-fine b e t f = ap (lentFor fits) e ∙ ap (λ (v : Bool). elim v as (λ _. Judged) [ true ↦ board b | false ↦ Refusals.turnedAway 7 0 ]) f
+
+  pub fitting-unfit : (b : Board) → judged most text ≡ board b → fits b ≡ false → fitting most fits text ≡ Refusals.turnedAway 7 0
+  fitting-unfit b e f = fitting-fine b e false f
+
+  pub fitting-fits : (b : Board) → judged most text ≡ board b → fits b ≡ true → fitting most fits text ≡ board b
+  fitting-fits b e f = fitting-fine b e true f
+
+  pub fitting-from : (b : Board) → fitting most fits text ≡ board b → (judged most text ≡ board b) × (fits b ≡ true)
+  fitting-from b e = go (judged most text) refl
+    where
+      go : (j : Judged) → judged most text ≡ j → (judged most text ≡ board b) × (fits b ≡ true)
+      go (Refusals.turnedAway n l) is = let d = sym (fitting-refused n l is) ∙ e in never cc
+      go (board c) is = fit (fits c) refl
+        where
+          fit : (t : Bool) → fits c ≡ t → (judged most text ≡ board b) × (fits b ≡ true)
+          fit true f = let d : board c ≡ board b = sym (fitting-fits c is f) ∙ e in let same : c ≡ b = cc in (is ∙ d, ap fits (sym same) ∙ f)
+          fit false f = let d = sym (fitting-unfit c is f) ∙ e in never cc
+
+-- A test in two steps: the second is tried of what the first leaves.
+pub planning-then : (most : Counts) (text : List ℕ) (whole first then : Board → Bool) → ((b : Board) → whole b ≡ (first b && then b)) → planning most whole text ≡ judgedFor then (fitting most first text)
+planning-then most text whole first then both = go (judged most text) refl
+  where
+    go : (j : Judged) → judged most text ≡ j → planning most whole text ≡ judgedFor then (fitting most first text)
+    go (Refusals.turnedAway n l) e = planning-refused most text whole n l e ∙ ap (judgedFor then) (sym (fitting-refused most text first n l e))
+    go (board b) e = fit (first b) refl
+      where
+        tried : (t : Bool) → first b ≡ t → planning most whole text ≡ elim (t && then b) as (λ _. Planning) [ true ↦ crowding b (planLanes b) | false ↦ refused 7 0 ]
+        tried t f = planning-fine most text whole b e ∙ ap (λ (v : Bool). elim v as (λ _. Planning) [ true ↦ crowding b (planLanes b) | false ↦ refused 7 0 ]) (both b ∙ ap (λ v. v && then b) f)
+
+        fit : (t : Bool) → first b ≡ t → planning most whole text ≡ judgedFor then (fitting most first text)
+        fit true f = tried true f ∙ ap (judgedFor then) (sym (fitting-fits most text first b e f))
+        fit false f = tried false f ∙ ap (judgedFor then) (sym (fitting-unfit most text first b e f))
+
+-- The rows that are read.
+module _ {most : Counts} {text : List ℕ} {b : Board} {counts : Counts} {bodyIds innerIds : List (List ℕ)}
+    (low : WithinLibrary most) (checked : BoardChecked b most text counts bodyIds innerIds) where
+  known : FromSheet most text b
+  known = from-sheet most text b (checked .fine)
+
+  pub checked-accepted : Accepted b
+  checked-accepted = sheet-accepted most text b low (checked .fine)
+
+  module _ (lent : Lent) (fits : fitsCounts lent counts ≡ true) (old : List (List ℕ)) {facts taps groups demands keys spare : List (List ℕ)}
+      (work : WorkLent (lent .work) (length old) facts taps groups demands keys spare) where
+    enough : records b ≤ lent .work
+    enough = fits-all lent b (fits-counted lent b counts true (checked .counted) fits) .work
+
+    -- What `fill_rows` asks: a line for each record, all read.
+    pub fill-asks : (n : ℕ) → n ≡ counts .pages + counts .nodes + counts .chips + counts .inner + counts .execs + counts .wires
+        → (n ≡ length (sheetLines text)) × (n ≤ length old) × (allRead (sheetLines text) ≡ true)
+    unfolding records rowsFrom
+    fill-asks n is =
+        let size = rows-count b (rowsFrom text) (known .known) in
+        let lines : length (rowsFrom text) ≡ length (sheetLines text) = length-map (sheetLines text) rowOf in
+        let all : n ≡ records b = is ∙ ap (λ (c : Counts). c .pages + c .nodes + c .chips + c .inner + c .execs + c .wires) (checked .counted) in
+        let w = work .records-lent in
+        let e = enough in
+        (omega arith, omega arith, accepted-read most text (rowsFrom text) (known .read))
+
+    room : Room (b .pages) (b .nodes) (b .execs) (b .wires) facts taps groups demands keys spare
+    unfolding records
+    room =
+        let n = enough in
+        let f = checked-accepted in
+        let fs = work .facts-lent in let ts = work .taps-lent in let gs = work .groups-lent in
+        let ds = work .demands-lent in let ks = work .keys-lent in let ss = work .spare-lent in
+        record {
+          fewPages = f .fewPages;
+          fewNodes = f .fewNodes;
+          fewExecs = f .fewExecs;
+          fewWires = f .fewWires;
+          nodeRoom = (omega arith, omega arith, omega arith);
+          wireRoom = (omega arith, omega arith, omega arith);
+          demandRoom = (omega arith, omega arith, omega arith);
+          pageRoom = omega arith;
+        }
+
+    pub board-read : (n : ℕ) (after : List (List ℕ)) → after ≡ rowsFrom text ++ drop n old → BoardRead b after counts bodyIds innerIds facts taps groups demands keys spare
+    board-read n after e =
+        record {
+          sections = rw e (sections-in b (rowsFrom text) (drop n old) (known .known));
+          counted = checked .counted;
+          accepted = checked-accepted;
+          indexes = checked .indexes;
+          room = room;
+        }
+
+-- What `check_board` answers.
+module _ (most : Counts) (text : List ℕ) where
+  pub board-refused : (n l : ℕ) → NotTaken n l ≡ boardChecked (judged most text) → judged most text ≡ Refusals.turnedAway n l
+  board-refused n l e = go (judged most text) e
+    where
+      go : (j : Judged) → NotTaken n l ≡ boardChecked j → j ≡ Refusals.turnedAway n l
+      go (Refusals.turnedAway n′ l′) q = cc
+      go (board b) q = never cc
+
+  pub board-fine : (bodyIds chipIds innerIds : List (List ℕ)) (c : Counts) → WithinLibrary most → Taken c ≡ boardChecked (judged most text)
+      → IndexedIf (judged most text) bodyIds chipIds innerIds
+      → (b : Board) × BoardChecked b most text c bodyIds innerIds
+  board-fine bodyIds chipIds innerIds c low = go (judged most text) refl
+    where
+      go : (j : Judged) → judged most text ≡ j → Taken c ≡ boardChecked j → IndexedIf j bodyIds chipIds innerIds
+          → (b : Board) × BoardChecked b most text c bodyIds innerIds
+      go (Refusals.turnedAway n l) is q x = never cc
+      go (board b) is q x =
+          let same : c ≡ countsIn b = cc in
+          let f = sheet-accepted most text b low is in
+          (b, record { fine = is; counted = same; indexes = record { few = f .fewNodes; fewInner = f .fewInner; body = x .body; inside = x .inner } })

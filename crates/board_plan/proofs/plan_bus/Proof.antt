@@ -1,0 +1,168 @@
+use Prim.Native.Nat.{ℕ}
+use native.Mathlib.Omega.{arith}
+use mathlib.Core.Path.{_≡_, refl, sym, ap, _∙_, subst}
+use mathlib.Core.List.{List, _++_, map}
+use lib.ListN.{length, drop}
+use borrow.Author.Needs.{needs}
+use Rattle.sheet.specs.declared.Counts.{Counts}
+use Rattle.sheet.specs.Table.{libraryMost}
+use Rattle.board.specs.Planning.{Planning, planning, pageRow}
+use Rattle.board.specs.Walk.{WithinLibrary}
+use Rattle.board_plan.specs.declared.TextPlan.{TextPlan}
+use Rattle.board_plan.specs.TextPlan.{TextPlanned, workRows, fitsLent}
+use Rattle.board_plan.proofs.Planned.{planned-counts}
+use Rattle.board_plan.proofs.Calling.{within-library, work-room, pagesLent, text-refusal, LanesTold, text-lanes, pages-ready, pages-refused, pages-laned}
+use Rattle.board_plan.specs.declared.PagesPlan.the-variants.{Planned}
+use Rattle.board_plan.specs.PagesPlan.{planCall, PagesPlanned}
+use Rattle.board.proofs.Planning.{lanes-from}
+use Rattle.board_plan.proofs.plan_bus.Statement.{statement}
+use Rattle.board_plan.proofs.plan_bus.Tie as tie
+use Rattle.board_plan.proofs.plan_bus.Reads as reads
+use Rattle.board_plan.proofs.plan_bus.Lts as lts
+use Rattle.board_plan.proofs.plan_text.Reads as plan-text-reads
+use Rattle.board_plan.proofs.shortest_of.Reads as shortest-of-reads
+use Rattle.board_plan.proofs.write_pages.Reads as write-pages-reads
+use Rattle.sheet.proofs.library_most.Reads as library-most-reads
+
+abbrev start : tie.After-plan-text → tie.Start
+start c = c .before .before .before .before .before .before .before .before .before .before .before
+
+abbrev least-of : tie.After-plan-text → ℕ
+least-of c = c .before .before .before .before .before .before .before .before .before .shortest-of .result
+
+abbrev plan-of : (c : tie.After-plan-text) → Planning
+plan-of c = planning libraryMost (fitsLent (pagesLent (length (start c .args .answers .now)) (least-of c))) (start c .args .text .now)
+
+abbrev work-of : (c : tie.After-plan-text) → List ℕ
+work-of c = let a = start c .args in workRows (a .records .now) (a .facts .now) (a .taps .now) (a .groups .now) (a .demands .now) (a .keys .now) (a .marks .now)
+
+planned : (c : tie.After-plan-text) → TextPlanned (plan-of c) (c .plan-text .last .1 .1 .0) (c .plan-text .last .1 .1 .1 .0) (c .plan-text .last .1 .1 .1 .1 .0) (c .plan-text .last .1 .1 .1 .1 .1 .0) (c .plan-text .result)
+planned c =
+    subst (λ (m : Counts). TextPlanned (planning m (fitsLent (pagesLent (length (start c .args .answers .now)) (least-of c))) (start c .args .text .now)) (c .plan-text .last .1 .1 .0) (c .plan-text .last .1 .1 .1 .0) (c .plan-text .last .1 .1 .1 .1 .0) (c .plan-text .last .1 .1 .1 .1 .1 .0) (c .plan-text .result)) (c .before .before .before .before .before .before .before .before .library-most .ensures) (c .plan-text .ensures)
+
+shortest-of-requires : tie.Need-shortest-of-requires
+shortest-of-requires c κs = search needs
+
+library-most-requires : tie.Need-library-most-requires
+library-most-requires c κs = search needs
+
+plan-text-requires : tie.Need-plan-text-requires
+plan-text-requires c κs =
+    let a = c .before .before .before .before .before .before .before .before .before .before .args in
+    let l = c .before .before .before .before .before .before .before .before .shortest-of in
+    (work-room (l .result) (a .records .now) (a .facts .now) (a .taps .now) (a .groups .now) (a .demands .now) (a .keys .now) (a .marks .now) (l .ensures) .lent, subst (λ (m : Counts). WithinLibrary m) (sym (c .before .before .before .before .before .before .before .library-most .ensures)) within-library)
+
+enum-known-number : tie.Need-enum-known-number
+enum-known-number c = search needs
+
+enum-known-counts : tie.Need-enum-known-counts
+enum-known-counts c = search needs
+
+abbrev text-planned : tie.After-write-pages-arg2 → tie.After-plan-text
+text-planned c = c .before .before .before .before .before .before .before .before .before .before .before .before
+
+told : (c : tie.After-write-pages-arg2) → LanesTold (text-planned c .plan-text .last .1 .1 .0) (text-planned c .plan-text .last .1 .1 .1 .0) (text-planned c .plan-text .last .1 .1 .1 .1 .0) (text-planned c .plan-text .last .1 .1 .1 .1 .1 .0) (plan-of (text-planned c)) (c .before .before .before .counts .given .0 .0) (c .before .before .before .counts .given .0 .1 .0)
+told c = let d = text-planned c in text-lanes (d .plan-text .last .1 .1 .0) (d .plan-text .last .1 .1 .1 .0) (d .plan-text .last .1 .1 .1 .1 .0) (d .plan-text .last .1 .1 .1 .1 .1 .0) (plan-of d) (d .plan-text .result) _ _ (planned d) (c .before .before .before .counts .given .1)
+
+write-pages-requires : tie.Need-write-pages-requires
+write-pages-requires c κs =
+    let d = text-planned c in
+    let a = start d .args in
+    let lent = work-room (least-of d) (a .records .now) (a .facts .now) (a .taps .now) (a .groups .now) (a .demands .now) (a .keys .now) (a .marks .now) (d .before .before .before .before .before .before .before .before .before .shortest-of .ensures) in
+    let long = lent .lent .facts-lent in
+    let kept = d .plan-text .kept .1 .1 .1 .0 in
+    pages-ready (d .plan-text .last .1 .1 .0) (d .plan-text .last .1 .1 .1 .0) (d .plan-text .last .1 .1 .1 .1 .0) (d .plan-text .last .1 .1 .1 .1 .1 .0) libraryMost (a .text .now) (pagesLent (length (a .answers .now)) (least-of d)) _ _ _ (told c) (omega arith) refl
+
+same-length : tie.Need-same-length
+same-length c = search needs
+
+same-length-2 : tie.Need-same-length-2
+same-length-2 c = search needs
+
+same-length-3 : tie.Need-same-length-3
+same-length-3 c = search needs
+
+same-length-4 : tie.Need-same-length-4
+same-length-4 c = search needs
+
+same-length-5 : tie.Need-same-length-5
+same-length-5 c = search needs
+
+same-length-6 : tie.Need-same-length-6
+same-length-6 c = search needs
+
+same-length-7 : tie.Need-same-length-7
+same-length-7 c = search needs
+
+returns : tie.Need-returns
+returns c =
+    let d = c .before .before .before .before .before .before .before .before .before .before in
+    let a = start d .args in
+    let is = text-refusal (d .plan-text .last .1 .1 .0) (d .plan-text .last .1 .1 .1 .0) (d .plan-text .last .1 .1 .1 .1 .0) (d .plan-text .last .1 .1 .1 .1 .1 .0) (plan-of d) (d .plan-text .result) _ _ (planned d) (c .before .number .given .1) in
+    pages-refused (a .text .now) (work-of d) (a .answers .now) (a .answers .now) (least-of d) (d .before .before .before .before .before .before .before .before .before .shortest-of .ensures) _ _ is
+
+same-length-8 : tie.Need-same-length-8
+same-length-8 c = search needs
+
+same-length-9 : tie.Need-same-length-9
+same-length-9 c = search needs
+
+same-length-10 : tie.Need-same-length-10
+same-length-10 c = search needs
+
+same-length-11 : tie.Need-same-length-11
+same-length-11 c = search needs
+
+same-length-12 : tie.Need-same-length-12
+same-length-12 c = search needs
+
+same-length-13 : tie.Need-same-length-13
+same-length-13 c = search needs
+
+same-length-14 : tie.Need-same-length-14
+same-length-14 c = search needs
+
+same-length-15 : tie.Need-same-length-15
+same-length-15 c = search needs
+
+returns-2 : tie.Need-returns-2
+returns-2 c =
+    let w = c .before .before in
+    let d = text-planned w in
+    let a = start d .args in
+    let t = told w in
+    let b = t .onBoard in
+    let from = lanes-from libraryMost (a .text .now) _ b (t .lanes) (t .is) in
+    let counts = planned-counts b (t .lanes) (from .lanes) in
+    let pages : w .before .before .before .counts .given .0 .0 .pages ≡ length (b .pages) = ap (λ (k : Counts). k .pages) (t .counted) in
+    let written = c .before .write-pages .ensures (t .lanes) (counts .0 ∙ sym pages) (t .tables .pages-known) in
+    subst (λ (k : ℕ). PagesPlanned (planCall (a .text .now) (length (a .answers .now)) (work-of d)) (a .answers .now) (c .before .write-pages .last .1 .1 .0) (Planned k)) (sym pages)
+    (pages-laned (a .text .now) (work-of d) (a .answers .now) (c .before .write-pages .last .1 .1 .0) (least-of d) (d .before .before .before .before .before .before .before .before .before .shortest-of .ensures) b (t .lanes) (t .is) (from .lanes) (written ∙ ap (λ (k : ℕ). map pageRow (t .lanes) ++ drop k (a .answers .now)) pages))
+
+pub plan-bus-spec : {M : Type 1} → statement M
+plan-bus-spec =
+    tie.close
+    (tie.spec
+    shortest-of-requires
+    library-most-requires
+    plan-text-requires
+    enum-known-number
+    enum-known-counts
+    write-pages-requires
+    same-length
+    same-length-2
+    same-length-3
+    same-length-4
+    same-length-5
+    same-length-6
+    same-length-7
+    returns
+    same-length-8
+    same-length-9
+    same-length-10
+    same-length-11
+    same-length-12
+    same-length-13
+    same-length-14
+    same-length-15
+    returns-2)

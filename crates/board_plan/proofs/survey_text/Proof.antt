@@ -1,0 +1,108 @@
+use native.Mathlib.Omega.{arith}
+use mathlib.Core.Path.{_≡_, refl, sym, ap, _∙_}
+use borrow.Author.Needs.{needs}
+use Prim.Native.Nat.{ℕ, _≤_}
+use lib.ListN.{replicate}
+use Rattle.board.specs.Board.{Board}
+use Rattle.board.specs.Walk.{Fresh}
+use Rattle.board.proofs.Faults.{fresh-zeros}
+use Rattle.board_plan.specs.TextPlan.{BoardChecked, fitsLent}
+use Rattle.board_plan.proofs.Reading.{fitting-refused, board-refused, board-fine}
+use Rattle.board_plan.proofs.survey_text.Statement.{statement}
+use Rattle.board_plan.proofs.survey_text.Tie as tie
+use Rattle.board_plan.proofs.survey_text.Reads as reads
+use Rattle.board_plan.proofs.survey_text.Lts as lts
+use Rattle.board.proofs.refusals.check_board.Reads as check-board-reads
+use Rattle.board_plan.proofs.survey_fitting.Reads as survey-fitting-reads
+
+abbrev start : tie.After-survey-fitting-arg7 → tie.Start
+start c = c .before .before .before .before .before .before .before .before .before .before .before .before .before .before .before .before .before .before .before .before .before
+
+abbrev checking : tie.After-survey-fitting-arg7 → tie.After-check-board
+checking c = c .before .before .before .before .before .before .before .before .before .before .before .before .before .before .before
+
+checked : (c : tie.After-survey-fitting-arg7) → let d = checking c .check-board in (b : Board) × BoardChecked b (start c .args .asked .most) (start c .args .text .now) (c .before .before .before .before .before .before .before .before .before .before .counts .given .0 .0) (d .last .1 .1 .0) (d .last .1 .1 .1 .1 .0)
+checked c =
+    let d = checking c .check-board in
+    board-fine (start c .args .asked .most) (start c .args .text .now) (d .last .1 .1 .0) (d .last .1 .1 .1 .0) (d .last .1 .1 .1 .1 .0) (c .before .before .before .before .before .before .before .before .before .before .counts .given .0 .0) (start c .pre .1) (sym (c .before .before .before .before .before .before .before .before .before .before .counts .given .1) ∙ d .ensures .0) (d .ensures .1)
+
+slice-aggregate-check-board : tie.Need-slice-aggregate-check-board
+slice-aggregate-check-board c = search needs
+
+slice-aggregate-check-board-2 : tie.Need-slice-aggregate-check-board-2
+slice-aggregate-check-board-2 c = search needs
+
+slice-aggregate-check-board-3 : tie.Need-slice-aggregate-check-board-3
+slice-aggregate-check-board-3 c = search needs
+
+check-board-requires : tie.Need-check-board-requires
+check-board-requires c κs =
+    let fresh : (most : ℕ) → most ≤ 4096 → Fresh (replicate 4096 (replicate {A = ℕ} 3 0)) most = λ most h. fresh-zeros 4096 3 most h (omega arith) in
+    (c .before .before .before .before .before .pre .1, (fresh 4096 (omega arith), (fresh 256 (omega arith), fresh 4096 (omega arith))))
+
+enum-known-number : tie.Need-enum-known-number
+enum-known-number c = search needs
+
+enum-known-counts : tie.Need-enum-known-counts
+enum-known-counts c = search needs
+
+slice-aggregate-survey-fitting : tie.Need-slice-aggregate-survey-fitting
+slice-aggregate-survey-fitting c = search needs
+
+slice-aggregate-survey-fitting-2 : tie.Need-slice-aggregate-survey-fitting-2
+slice-aggregate-survey-fitting-2 c = search needs
+
+survey-fitting-requires : tie.Need-survey-fitting-requires
+survey-fitting-requires c κs = (start c .pre .0, (start c .pre .1, checked c))
+
+returns : tie.Need-returns
+returns c =
+    let s = c .before .before .before .before .before .before .before .before .before .before .before .before in
+    rw (fitting-refused (s .args .asked .most) (s .args .text .now) (fitsLent (s .args .asked .lent)) _ _ (board-refused (s .args .asked .most) (s .args .text .now) _ _ (sym (c .before .number .given .1) ∙ c .before .before .before .before .before .before .check-board .ensures .0))) refl
+
+same-length : tie.Need-same-length
+same-length c = search needs
+
+same-length-2 : tie.Need-same-length-2
+same-length-2 c = c .before .before .before .before .before .before .before .survey-fitting .kept .1 .1 .1 .1 .1 .1 .0
+
+same-length-3 : tie.Need-same-length-3
+same-length-3 c = search needs
+
+same-length-4 : tie.Need-same-length-4
+same-length-4 c = search needs
+
+same-length-5 : tie.Need-same-length-5
+same-length-5 c = search needs
+
+same-length-6 : tie.Need-same-length-6
+same-length-6 c = search needs
+
+same-length-7 : tie.Need-same-length-7
+same-length-7 c = search needs
+
+returns-2 : tie.Need-returns-2
+returns-2 c = c .before .before .before .before .before .before .before .survey-fitting .ensures
+
+pub survey-text-spec : {M : Type 1} → statement M
+survey-text-spec =
+    tie.close
+    (tie.spec
+    slice-aggregate-check-board
+    slice-aggregate-check-board-2
+    slice-aggregate-check-board-3
+    check-board-requires
+    enum-known-number
+    enum-known-counts
+    slice-aggregate-survey-fitting
+    slice-aggregate-survey-fitting-2
+    survey-fitting-requires
+    returns
+    same-length
+    same-length-2
+    same-length-3
+    same-length-4
+    same-length-5
+    same-length-6
+    same-length-7
+    returns-2)

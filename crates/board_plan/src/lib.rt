@@ -1,0 +1,411 @@
+// `plan_bus`: from a sheet's text to the lanes of every page, with every refusal in its order. Each call of the router starts with `plan_text`, or with
+// `survey_text` where it has more to try before a crowded page is refused.
+use base::numbers::BUS_BAND_GUTTER;
+use base::numbers::LANE_PITCH;
+use base::rows::IdRow;
+use base::rows::PageRow;
+use base::rows::Record;
+use base::rows::WorkRow;
+use board::refusals::check_board;
+use board_lanes::demands::Plan;
+use board_lanes::demands::plan_board;
+use sheet::Checked;
+use sheet::Counts;
+use sheet::fill_rows;
+use sheet::library_most;
+ghost use mathlib.Core.Path.{_≡_};
+ghost use mathlib.Core.Bool.{true};
+ghost use mathlib.Core.List.{List, _++_, map};
+ghost use Prim.Native.Nat.{ℕ, _+_, _≤_, _<_, min};
+ghost use lib.ListN.{length, drop};
+ghost use Rattle.sheet.specs.Table.{libraryMost};
+ghost use Rattle.lanes.specs.Lanes.{laneMost};
+ghost use Rattle.board.specs.Board.{Board, field};
+ghost use Rattle.board.specs.Demands;
+ghost use Rattle.board.specs.Demands.{PageLanes, planLanes};
+ghost use Rattle.board.specs.Tables.{PageFacts};
+ghost use Rattle.board.specs.Planning.{planning, fitsPages, pageRow, pagesAfter};
+ghost use Rattle.board.specs.Walk.{WithinLibrary};
+ghost use Rattle.board_plan.specs.TextPlan.{fitsLent, shortest, workRows, hasRoom, fitsCounts, WorkLent, BoardRead, BoardChecked, fitting, TextPlanned, planOf, LanesSurveyed, TextSurveyed};
+ghost use Rattle.board_plan.specs.PagesPlan.{planCall, PagesPlanned};
+
+// The lengths of what is lent: rerouters, bus wires, suppressed ports, page answers, the rows of the shortest slice of work space, and bytes for the plan sheet's
+// text. A call that is not lent one of them says as much as the largest board asks for.
+pub struct Lent {
+    pub rerouters: usize,
+    pub bus_wires: usize,
+    pub ports: usize,
+    pub answers: usize,
+    pub work: usize,
+    pub out: usize,
+}
+
+// What is asked beside the sheet: the most records taken of each section, and the lengths lent.
+pub struct Asked {
+    pub most: Counts,
+    pub lent: Lent,
+}
+
+// What planning a sheet's text answers: a refusal and its place, or that the tables hold the board and its lanes.
+pub enum TextPlan {
+    Refused { number: usize, place: usize },
+    Laned { counts: Counts, taps: usize },
+}
+
+// The same before a crowded page is refused: what a call asks for beyond the lent lengths is a 7 too, and goes before its 8. `place` is the page's line.
+pub enum TextSurvey {
+    Refused { number: usize, place: usize },
+    Crowded { counts: Counts, place: usize },
+    Laned { counts: Counts, taps: usize },
+}
+
+// What `plan_bus` answers: a refusal and its place, or how many pages have their answer.
+pub enum PagesPlan {
+    Refused { number: usize, place: usize },
+    Planned(usize),
+}
+
+// What the largest board asks for.
+pub const REROUTERS_MOST: usize = 40_960;
+
+pub const BUS_WIRES_MOST: usize = 49_152;
+
+pub const PORTS_MOST: usize = 8_192;
+
+pub const ANSWERS_MOST: usize = 64;
+
+pub const OUT_MOST: usize = 12_591_232;
+
+// S16: so many rows of marks are lent for a record.
+pub const MARK_ROWS: usize = 5;
+
+pub fn lesser(a: usize, b: usize) -> usize
+    ensures { λ r. ⌜ r ≡ min a b ⌝ }
+{
+    if a < b { a } else { b }
+}
+
+// The rows of the shortest of seven slices.
+pub fn shortest_of(lengths: [usize; 7]) -> usize
+    ensures { λ r. ⌜ r ≡ shortest lengths ⌝ }
+{
+    let mut least = lengths[6];
+    let mut k: usize = 6;
+    while 0 < k {
+        k -= 1;
+        least = lesser(lengths[k], least);
+    }
+    least
+}
+
+// How many records there are.
+fn total(
+    pages: usize,
+    nodes: usize,
+    chips: usize,
+    inner: usize,
+    execs: usize,
+    wires: usize,
+) -> usize
+    requires { ⌜ (pages ≤ libraryMost .pages) × (nodes ≤ libraryMost .nodes) × (chips ≤ libraryMost .chips) × (inner ≤ libraryMost .inner) × (execs ≤ libraryMost .execs) × (wires ≤ libraryMost .wires) ⌝ }
+    ensures { λ r. ⌜ r ≡ pages + nodes + chips + inner + execs + wires ⌝ }
+{
+    pages + nodes + chips + inner + execs + wires
+}
+
+// S15, S16: whether enough is lent for so many wires, pages and records.
+fn has_room(lent: Lent, wires: usize, pages: usize, records: usize) -> bool
+    requires { ⌜ (wires ≤ libraryMost .wires) × (pages ≤ libraryMost .pages) ⌝ }
+    ensures { λ r. ⌜ r ≡ hasRoom lent wires pages records ⌝ }
+{
+    if lent.rerouters < 5 * wires {
+        return false;
+    }
+    if lent.bus_wires < 6 * wires {
+        return false;
+    }
+    if lent.ports < wires {
+        return false;
+    }
+    if lent.answers < pages {
+        return false;
+    }
+    if lent.out < 128 * (pages + 12 * wires + 1) {
+        return false;
+    }
+    records <= lent.work
+}
+
+fn fits(lent: Lent, c: Counts) -> bool
+    requires { ⌜ (c .pages ≤ libraryMost .pages) × (c .nodes ≤ libraryMost .nodes) × (c .chips ≤ libraryMost .chips) × (c .inner ≤ libraryMost .inner) × (c .execs ≤ libraryMost .execs) × (c .wires ≤ libraryMost .wires) ⌝ }
+    ensures { λ r. ⌜ r ≡ fitsCounts lent c ⌝ }
+{
+    let records = total(c.pages, c.nodes, c.chips, c.inner, c.execs, c.wires);
+    has_room(lent, c.wires, c.pages, records)
+}
+
+// The lanes of a board whose records stand in rows, one section after the other.
+fn survey_rows(
+    records: &[Record],
+    counts: Counts,
+    body_index: &[IdRow],
+    inner_index: &[IdRow],
+    facts: &mut [WorkRow],
+    taps: &mut [WorkRow],
+    groups: &mut [WorkRow],
+    demands: &mut [WorkRow],
+    keys: &mut [WorkRow],
+    spare: &mut [WorkRow],
+) -> TextSurvey
+    requires { ⌜ ((b : Board) × BoardRead b (now records) counts (now «body_index») (now «inner_index»)
+        (now facts) (now taps) (now groups) (now demands) (now keys) (now spare)) ⌝ }
+    ensures { λ r. ⌜ ((b : Board) → BoardRead b (now (records .entry)) counts (now («body_index» .entry)) (now («inner_index» .entry))
+        (now (facts .entry)) (now (taps .entry)) (now (groups .entry)) (now (demands .entry)) (now (keys .entry)) (now (spare .entry))
+        → LanesSurveyed b (planLanes b) (now (records .entry)) (now (facts .exit)) (now (taps .exit)) (now (groups .exit)) r) ⌝ }
+{
+    let nodes = counts.pages;
+    let chips = nodes + counts.nodes;
+    let inner = chips + counts.chips;
+    let execs = inner + counts.inner;
+    let wires = execs + counts.execs;
+    let end = wires + counts.wires;
+    let planned = plan_board(
+        &records[..nodes],
+        &records[nodes..chips],
+        &records[chips..inner],
+        &records[inner..execs],
+        &records[execs..wires],
+        &records[wires..end],
+        body_index,
+        inner_index,
+        facts,
+        taps,
+        groups,
+        demands,
+        keys,
+        spare,
+    );
+    let plan = planned.plan;
+    let found = planned.taps;
+    match plan {
+        Plan::Crowded(p) => TextSurvey::Crowded {
+            counts,
+            place: p + 1,
+        },
+        Plan::Laned => TextSurvey::Laned {
+            counts,
+            taps: found,
+        },
+    }
+}
+
+// The same of a sheet that refusals 1 to 6 leave: 7 where what is lent does not fit, else its records are read into rows.
+fn survey_fitting(
+    text: &[u8],
+    asked: Asked,
+    counts: Counts,
+    body_index: &[IdRow],
+    inner_index: &[IdRow],
+    records: &mut [Record],
+    facts: &mut [WorkRow],
+    taps: &mut [WorkRow],
+    groups: &mut [WorkRow],
+    demands: &mut [WorkRow],
+    keys: &mut [WorkRow],
+    spare: &mut [WorkRow],
+) -> TextSurvey
+    requires { ⌜ WorkLent (asked .lent .work) (length (now records)) (now facts) (now taps) (now groups) (now demands) (now keys) (now spare) ⌝ }
+    requires { ⌜ WithinLibrary (asked .most) × ((b : Board) × BoardChecked b (asked .most) (now text) counts (now «body_index») (now «inner_index»)) ⌝ }
+    ensures { λ r. ⌜ TextSurveyed (fitting (asked .most) (fitsLent (asked .lent)) (now (text .entry))) (now (records .exit)) (now (facts .exit)) (now (taps .exit)) (now (groups .exit)) r ⌝ }
+{
+    let lent = asked.lent;
+    if !fits(lent, counts) {
+        return TextSurvey::Refused {
+            number: 7,
+            place: 0,
+        };
+    }
+    let lines = total(
+        counts.pages,
+        counts.nodes,
+        counts.chips,
+        counts.inner,
+        counts.execs,
+        counts.wires,
+    );
+    fill_rows(text, records, lines);
+    survey_rows(
+        records,
+        counts,
+        body_index,
+        inner_index,
+        facts,
+        taps,
+        groups,
+        demands,
+        keys,
+        spare,
+    )
+}
+
+// Refusals 1 to 7 of a sheet in their order, or its board in the tables, with the first crowded page or the lanes of all. `asked.lent.work` rows at
+// least stand in every slice.
+pub fn survey_text(
+    text: &[u8],
+    asked: Asked,
+    records: &mut [Record],
+    facts: &mut [WorkRow],
+    taps: &mut [WorkRow],
+    groups: &mut [WorkRow],
+    demands: &mut [WorkRow],
+    keys: &mut [WorkRow],
+    spare: &mut [WorkRow],
+) -> TextSurvey
+    requires { ⌜ WorkLent (asked .lent .work) (length (now records)) (now facts) (now taps) (now groups) (now demands) (now keys) (now spare) ⌝ }
+    requires { ⌜ WithinLibrary (asked .most) ⌝ }
+    ensures { λ r. ⌜ TextSurveyed (fitting (asked .most) (fitsLent (asked .lent)) (now (text .entry))) (now (records .exit)) (now (facts .exit)) (now (taps .exit)) (now (groups .exit)) r ⌝ }
+{
+    let mut body = [[0u32; 3]; 4096];
+    let mut chips = [[0u32; 3]; 4096];
+    let mut inner = [[0u32; 3]; 4096];
+    let most = asked.most;
+    match check_board(text, most, &mut body, &mut chips, &mut inner) {
+        Checked::Refused { number, line } => TextSurvey::Refused {
+            number,
+            place: line,
+        },
+        Checked::Fine(counts) => survey_fitting(
+            text,
+            asked,
+            counts,
+            &body,
+            &inner,
+            records,
+            facts,
+            taps,
+            groups,
+            demands,
+            keys,
+            spare,
+        ),
+    }
+}
+
+// 8 where a page is crowded.
+fn refuse_crowded(survey: TextSurvey) -> TextPlan
+    ensures { λ r. ⌜ r ≡ planOf survey ⌝ }
+{
+    match survey {
+        TextSurvey::Refused { number, place } => TextPlan::Refused { number, place },
+        TextSurvey::Crowded { counts: _, place } => TextPlan::Refused { number: 8, place },
+        TextSurvey::Laned { counts, taps } => TextPlan::Laned { counts, taps },
+    }
+}
+
+// Every refusal of a sheet in its order, or its board in the tables, with the lanes of its pages. `asked.lent.work` rows at least stand in every slice.
+pub fn plan_text(
+    text: &[u8],
+    asked: Asked,
+    records: &mut [Record],
+    facts: &mut [WorkRow],
+    taps: &mut [WorkRow],
+    groups: &mut [WorkRow],
+    demands: &mut [WorkRow],
+    keys: &mut [WorkRow],
+    spare: &mut [WorkRow],
+) -> TextPlan
+    requires { ⌜ WorkLent (asked .lent .work) (length (now records)) (now facts) (now taps) (now groups) (now demands) (now keys) (now spare) ⌝ }
+    requires { ⌜ WithinLibrary (asked .most) ⌝ }
+    ensures { λ r. ⌜ TextPlanned (planning (asked .most) (fitsLent (asked .lent)) (now (text .entry))) (now (records .exit)) (now (facts .exit)) (now (taps .exit)) (now (groups .exit)) r ⌝ }
+{
+    refuse_crowded(survey_text(
+        text,
+        asked,
+        records,
+        facts,
+        taps,
+        groups,
+        demands,
+        keys,
+        spare,
+    ))
+}
+
+// D4: a page's band, by its count of lanes.
+fn band(lanes: u32) -> u32
+    requires { ⌜ lanes ≤ laneMost ⌝ }
+    ensures { λ r. ⌜ r ≡ Demands.band lanes ⌝ }
+{
+    if lanes == 0 {
+        0
+    } else {
+        LANE_PITCH * lanes + BUS_BAND_GUTTER
+    }
+}
+
+// The page answers: lanes and band of each page.
+pub fn write_pages(facts: &[WorkRow], n: usize, answers: &mut [PageRow])
+    requires { ⌜ (n ≤ length (now facts)) × (n ≤ length (now answers)) ⌝ }
+    requires { ⌜ ((p : ℕ) → p < n → field (now facts) p 6 ≤ laneMost) ⌝ }
+    ensures { λ _. ⌜ ((ps : List PageLanes) → length ps ≡ n → PageFacts ps (now (facts .entry)) → now (answers .exit) ≡ map pageRow ps ++ drop n (now (answers .entry))) ⌝ }
+{
+    let mut p: usize = 0;
+    while p < n {
+        let lanes = facts[p][6];
+        answers[p] = [lanes, band(lanes)];
+        p += 1;
+    }
+}
+
+// The lanes and the band of every page of a sheet's board. Each slice of work space has a row for each record, the marks five.
+pub fn plan_bus(
+    text: &[u8],
+    answers: &mut [PageRow],
+    records: &mut [Record],
+    facts: &mut [WorkRow],
+    taps: &mut [WorkRow],
+    groups: &mut [WorkRow],
+    demands: &mut [WorkRow],
+    keys: &mut [WorkRow],
+    marks: &mut [WorkRow],
+) -> PagesPlan
+    ensures { λ r. ⌜ PagesPlanned (planCall (now (text .entry)) (length (now (answers .entry))) (workRows (now (records .entry)) (now (facts .entry)) (now (taps .entry)) (now (groups .entry)) (now (demands .entry)) (now (keys .entry)) (now (marks .entry))))
+        (now (answers .entry)) (now (answers .exit)) r ⌝ }
+{
+    let lent = Lent {
+        rerouters: REROUTERS_MOST,
+        bus_wires: BUS_WIRES_MOST,
+        ports: PORTS_MOST,
+        answers: answers.len(),
+        work: shortest_of([
+            records.len(),
+            facts.len(),
+            taps.len(),
+            groups.len(),
+            demands.len(),
+            keys.len(),
+            marks.len() / MARK_ROWS,
+        ]),
+        out: OUT_MOST,
+    };
+    let most = library_most();
+    let asked = Asked { most, lent };
+    match plan_text(
+        text,
+        asked,
+        records,
+        facts,
+        taps,
+        groups,
+        demands,
+        keys,
+        marks,
+    ) {
+        TextPlan::Refused { number, place } => PagesPlan::Refused { number, place },
+        TextPlan::Laned { counts, taps: _ } => {
+            let pages = counts.pages;
+            write_pages(facts, pages, answers);
+            PagesPlan::Planned(pages)
+        }
+    }
+}

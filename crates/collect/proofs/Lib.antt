@@ -1,5 +1,0 @@
-pub mod Ends
-pub mod Filling
-pub mod KeyLaws
-pub mod RowLaws
-pub mod TapLaws

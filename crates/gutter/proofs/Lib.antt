@@ -1,6 +1,0 @@
-pub mod Planned
-pub mod Supply
-pub mod Heights
-pub mod Boards
-pub mod Loops
-pub mod Suppressing

@@ -1,0 +1,111 @@
+-- `book_nodes` meets its contract: each entry goes in front of its bucket's chain. Assumes nothing.
+use Rattle.routes_cells.specs.Chains.{BUCKETS, nodeBucket}
+use Rattle.routes_cells.proofs.Walks.{chained-none, chained-on}
+use Rattle.board.specs.Index.{Chained}
+use borrow.Author.Needs.{needs}
+use lib.ListN.{length}
+use native.Mathlib.Numerals.{add-one}
+use native.Mathlib.Omega.{arith}
+use mathlib.Core.Path.{_≡_, refl, subst, _∙_}
+use Prim.Native.Nat.{ℕ, _≤_, _<_, _-_}
+use Rattle.routes_cells.proofs.cells.book_nodes.Statement.{statement}
+use Rattle.routes_cells.proofs.cells.book_nodes.Tie as tie
+
+abbrev Inv-loop : tie.InvT-loop
+Inv-loop nodes facts nexts₀ heads₀ i₀ nexts heads i = (i ≤ length nodes) × (length nexts ≡ length nexts₀) × (length heads ≡ length heads₀) × Chained BUCKETS (nodeBucket nodes facts) nexts heads i
+
+abbrev μ-loop : tie.MeasureT-loop
+μ-loop nodes facts nexts₀ heads₀ i₀ nexts heads i = length nodes - i
+
+loop-holds : tie.Need-loop-holds Inv-loop μ-loop
+loop-holds c = let s = c .before .before in (omega arith, refl, refl, chained-none (nodeBucket (s .args .nodes .now) (s .args .facts .now)) (s .args .nexts .now) (s .args .heads .now) (s .pre .0))
+
+mul-bucket : tie.Need-mul-bucket Inv-loop μ-loop
+mul-bucket c = search needs
+
+index-1-bucket : tie.Need-index-1-bucket Inv-loop μ-loop
+index-1-bucket c = search needs
+
+index-2-bucket : tie.Need-index-2-bucket Inv-loop μ-loop
+index-2-bucket c = search needs
+
+mul-bucket-2 : tie.Need-mul-bucket-2 Inv-loop μ-loop
+mul-bucket-2 c = search needs
+
+index-1-bucket-2 : tie.Need-index-1-bucket-2 Inv-loop μ-loop
+index-1-bucket-2 c = search needs
+
+index-2-bucket-2 : tie.Need-index-2-bucket-2 Inv-loop μ-loop
+index-2-bucket-2 c = search needs
+
+bucket-requires : tie.Need-bucket-requires Inv-loop μ-loop
+bucket-requires c κs = search needs
+
+chain-requires : tie.Need-chain-requires Inv-loop μ-loop
+chain-requires c κs =
+    let l = c .before .before .before .before .before .before in
+    let s = l .before .before .before in
+    let a = s .args in
+    let small : nodeBucket (a .nodes .now) (a .facts .now) (l .loop .i) < BUCKETS = omega arith in
+    let wide = l .loop .inv .3 .width in
+    let e = c .before .before .bucket .ensures in
+    let t = c .before .before .before .before .before .loop-test .taken in
+    let p = s .pre .1 in
+    let i = l .loop .inv in
+    (omega arith, omega arith, omega arith)
+
+add-i : tie.Need-add-i Inv-loop μ-loop
+add-i c = omega arith
+
+loop-less : tie.Need-loop-less Inv-loop μ-loop
+loop-less c = omega arith
+
+loop-again : tie.Need-loop-again Inv-loop μ-loop
+loop-again c =
+    let h = c .before .before .before .before in
+    let l = h .before .before .before .before .before .before .before in
+    let a = l .before .before .before .args in
+    let t = h .before .before .before .before .before .before .loop-test .taken in
+    let p = l .before .before .before .pre .1 in
+    let i = l .loop .inv in (
+      omega arith,
+      h .chain .kept .0 ∙ i .1,
+      h .chain .kept .1 .0 ∙ i .2,
+      rw (add-one (l .loop .i))
+          (chained-on (nodeBucket (a .nodes .now) (a .facts .now)) (l .loop .nexts) (l .loop .heads) _ _ (l .loop .i) _ (i .3) (omega arith) (h .before .before .before .bucket .ensures) (omega arith) (h .chain .ensures)),
+    )
+
+same-length : tie.Need-same-length Inv-loop μ-loop
+same-length c = c .before .loop .inv .1
+
+same-length-2 : tie.Need-same-length-2 Inv-loop μ-loop
+same-length-2 c = c .before .loop .inv .2
+
+returns : tie.Need-returns Inv-loop μ-loop
+returns c =
+    let l = c .before in
+    let a = l .before .before .before .args in
+    let z : l .loop .i ≡ length (a .nodes .now) = let i = l .loop .inv .0 in let t = c .loop-test .left in omega arith in
+    record { room = let p = l .before .before .before .pre .1 in omega arith; chained = subst (λ (m : ℕ). Chained BUCKETS (nodeBucket (a .nodes .now) (a .facts .now)) (l .loop .nexts) (l .loop .heads) m) z (l .loop .inv .3) }
+
+pub book-nodes-spec : {M : Type 1} → statement M
+book-nodes-spec =
+    tie.close
+    (tie.spec
+    Inv-loop
+    μ-loop
+    loop-holds
+    mul-bucket
+    index-1-bucket
+    index-2-bucket
+    mul-bucket-2
+    index-1-bucket-2
+    index-2-bucket-2
+    bucket-requires
+    chain-requires
+    add-i
+    loop-less
+    loop-again
+    same-length
+    same-length-2
+    returns)

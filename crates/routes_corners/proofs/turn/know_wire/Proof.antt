@@ -1,0 +1,13 @@
+-- A row of six numbers by value.
+use borrow.Author.Needs.{needs}
+use lib.ListN.{getD}
+use mir.Val.{Fits}
+use mir.Syntax.{w32}
+use Rattle.routes_corners.proofs.turn.know_wire.Statement.{statement}
+use Rattle.routes_corners.proofs.turn.know_wire.Tie as tie
+
+returns : tie.Need-returns
+returns c = record { wide = search needs; fits = λ i h. let f : Fits w32 (getD (c .args .row) i 0) = search needs in f .fits }
+
+pub know-wire-spec : {M : Type 1} → statement M
+know-wire-spec = tie.close (tie.spec returns)

@@ -1,0 +1,6 @@
+pub mod Planned
+pub mod Supply
+pub mod Heights
+pub mod Boards
+pub mod Loops
+pub mod Settling

@@ -1,0 +1,40 @@
+-- Groups counted tap by tap, and local tables of zeros.
+use Prim.Native.Nat.{ℕ, suc, _+_, _-_, _*_, _≤_}
+use native.Mathlib.Omega.{arith}
+use native.Mathlib.Numerals.{add-one}
+use mathlib.Core.Path.{_≡_, sym, ap, _∙_}
+use mathlib.Core.Bool.{true, false, not}
+use mathlib.Core.List.{List, []}
+use lib.Dec.{eqb}
+use lib.ListN.{length, getD, replicate, length-replicate, getD-replicate}
+use Rattle.board.specs.Board.{field}
+use Rattle.base.specs.Views.{view}
+use Rattle.board.specs.Tables.{tapIn}
+use Rattle.board.proofs.Newest.{pick-true, pick-false}
+use Rattle.routes.specs.Stops.{newGroup}
+use Rattle.routes.specs.Plan.{groupCount}
+use Rattle.routes_levels.specs.Laying.{NoMarks}
+use Rattle.routes_cells.specs.Chains.{Empty}
+use Rattle.routes_emit.specs.Emitting.{RoomForTaps}
+
+-- A tap after the first begins a group where the one before it is of another.
+pub group-after : (laid : List (List ℕ)) (k : ℕ) → (k ≡ 0 → ⊥) → not (eqb (field laid (k - 1) 1) (field laid k 1)) ≡ newGroup (view tapIn laid k) (tapIn (getD laid k []))
+group-after laid k some = let e : k ≡ suc (k - 1) = omega arith in ap (λ j. newGroup (view tapIn laid j) (tapIn (getD laid k []))) (sym e)
+
+module _ (laid : List (List ℕ)) (k count : ℕ) (is : count ≡ groupCount (view tapIn laid k)) where
+  pub count-new : newGroup (view tapIn laid k) (tapIn (getD laid k [])) ≡ true → count + 1 ≡ groupCount (view tapIn laid (k + 1))
+  count-new e = add-one count ∙ ap suc is ∙ sym (pick-true (newGroup (view tapIn laid k) (tapIn (getD laid k []))) _ _ e) ∙ ap (λ j. groupCount (view tapIn laid j)) (sym (add-one k))
+
+  pub count-same : newGroup (view tapIn laid k) (tapIn (getD laid k [])) ≡ false → count ≡ groupCount (view tapIn laid (k + 1))
+  count-same e = is ∙ sym (pick-false (newGroup (view tapIn laid k) (tapIn (getD laid k []))) _ _ e) ∙ ap (λ j. groupCount (view tapIn laid j)) (sym (add-one k))
+
+-- Local tables of zeros are chains that hold nothing.
+pub zero-heads : (n : ℕ) → 8192 ≤ n → Empty (replicate n 0)
+zero-heads n h = (rw (length-replicate {A = ℕ} n 0) h, λ k l. getD-replicate n k 0 0 (omega arith))
+
+pub zero-marks : (n : ℕ) → 16384 ≤ n → NoMarks (replicate n 0)
+zero-marks n h = record { width = rw (length-replicate {A = ℕ} n 0) h; empty = λ k l. getD-replicate n k 0 0 (omega arith) }
+
+pub zero-room : (n k j : ℕ) (rerouters wires : List (List ℕ)) → n ≤ 8192 → 40960 ≤ k → 8192 ≤ j → 5 * n ≤ length rerouters → 6 * n ≤ length wires → RoomForTaps n rerouters wires (replicate k 0) (replicate j 0)
+zero-room n k j rerouters wires few h i rerouterRows wireRows =
+    record { rerouterRows = rerouterRows; links = rw (length-replicate {A = ℕ} k 0) (omega arith); wireRows = wireRows; buckets = rw (length-replicate {A = ℕ} j 0) i; numbers = omega arith }

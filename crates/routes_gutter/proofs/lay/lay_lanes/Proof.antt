@@ -1,0 +1,137 @@
+-- The lanes of a planned board: each step's needs are supplied by what is known of the board.
+use Prim.Native.Nat.{ℕ}
+use native.Mathlib.Omega.{arith}
+use mathlib.Core.Path.{_≡_, subst, _∙_}
+use mathlib.Core.List.{List}
+use Rattle.board.specs.Board.{Board}
+use Rattle.board.specs.Groups.{tapsOf}
+use Rattle.board.specs.Demands.{PageLanes}
+use Rattle.base.specs.Views.{view}
+use Rattle.board.specs.Tables.{tapIn}
+use Rattle.routes.specs.Stops.{laidTaps}
+use Rattle.routes.specs.Levels.{stopsOf}
+use Rattle.routes.specs.Tables.{stopIn}
+use Rattle.routes.specs.Bus.{Bus}
+use Rattle.routes.specs.Holding.{BusHeld}
+use Rattle.routes_gutter.specs.Lay.{LanesReady}
+use Rattle.routes_gutter.proofs.Supply.{few-nodes, few-wires, laid-are, taps-fit, tables, laid-fits, laid-known, laid-on, laid-range, bus-is, groups-laid}
+use borrow.Author.Needs.{needs}
+use Rattle.routes_gutter.proofs.lay.lay_lanes.Statement.{statement}
+use Rattle.routes_gutter.proofs.lay.lay_lanes.Tie as tie
+
+-- The board that the tables are of.
+abbrev Given : tie.Start → Board → List PageLanes → Type 0
+Given s b ps =
+    let a = s .args in
+    LanesReady b ps (a .pages .now) (a .nodes .now) (a .wires .now) (a .facts .now) (a .groups .now) (a .taps .now) (a .m) (a .laid .now) (a .stops .now) (a .marks .now) (a .rerouters .now) (a .bus-wires .now)
+
+abbrev start : tie.After-lay-taps → tie.Start
+start c = c .before .before .before
+
+abbrev tapped : tie.After-lay-levels → tie.After-lay-taps
+tapped c = c .before .before .before .before .before .before
+
+abbrev leveled : tie.After-emit-laid → tie.After-lay-levels
+leveled c = c .before .before .before .before .before .before .before
+
+abbrev rows : tie.After-lay-taps → List (List ℕ)
+rows c = c .lay-taps .last .1 .1 .1 .1 .1 .0
+
+abbrev levels : tie.After-lay-levels → List (List ℕ)
+levels c = c .lay-levels .last .1 .1 .1 .1 .0
+
+rows-are : (c : tie.After-lay-taps) (b : Board) (ps : List PageLanes) → Given (start c) b ps → view tapIn (rows c) (c .lay-taps .result) ≡ laidTaps b (tapsOf b) ps
+rows-are c b ps r = laid-are r (c .lay-taps .ensures .1 b ps)
+
+levels-are : (c : tie.After-lay-levels) (b : Board) (ps : List PageLanes) → Given (start (tapped c)) b ps → view stopIn (levels c) (c .lay-levels .result) ≡ stopsOf b ps (view tapIn (rows (tapped c)) (tapped c .lay-taps .result))
+levels-are c b ps r =
+    let t = tapped c in
+    c .lay-levels .ensures .1 b ps (laid-known r (rows t) (t .lay-taps .result) (t .lay-taps .ensures .0) (t .lay-taps .kept .1 .1 .1 .1 .1 .0) (rows-are t b ps r))
+
+lay-taps-requires : tie.Need-lay-taps-requires
+lay-taps-requires c κs =
+    let r = c .before .before .pre .2 in
+    let h = r .count in
+    let l = r .laidRoom in
+    let s = r .stopRoom .1 in
+    (taps-fit r, (omega arith, omega arith))
+
+lay-levels-requires : tie.Need-lay-levels-requires
+lay-levels-requires c κs =
+    let t = c .before .before .before .before .before in
+    let g = start t .pre in
+    let r = g .2 in
+    let few = t .lay-taps .ensures .0 in
+    let h = r .count in
+    let l = r .stopRoom in
+    let m = t .lay-taps .kept .1 .1 .1 .1 .1 .1 .0 in
+    (laid-fits r (rows t) (t .lay-taps .result) few (t .lay-taps .kept .1 .1 .1 .1 .1 .0) (rows-are t (g .0) (g .1) r), (omega (arith, l .0), omega (arith, l .1)))
+
+emit-laid-requires : tie.Need-emit-laid-requires
+emit-laid-requires c κs =
+    let v = c .before .before .before .before .before .before in
+    let t = tapped v in
+    let g = start t .pre in
+    let r = g .2 in
+    let few = t .lay-taps .ensures .0 in
+    let fewer = v .lay-levels .ensures .0 in
+    let h = r .count in
+    let w = few-wires r in
+    let l = r .busRoom in (
+      laid-range r (rows t) (t .lay-taps .result) few (t .lay-taps .kept .1 .1 .1 .1 .1 .0) (rows-are t (g .0) (g .1) r) (levels v) (v .lay-levels .result) fewer (v .lay-levels .kept .1 .1 .1 .1 .0) (levels-are v (g .0) (g .1) r),
+      (few-nodes r, r .nodeRoom, fewer, omega arith, omega (arith, l .0), omega (arith, l .1)),
+    )
+
+count-groups-requires : tie.Need-count-groups-requires
+count-groups-requires c κs =
+    let t = tapped (leveled (c .before .before .before)) in
+    let r = start t .pre .2 in
+    let few = t .lay-taps .ensures .0 in
+    let k = t .lay-taps .kept .1 .1 .1 .1 .1 .0 in
+    let h = r .count in
+    omega (arith, r .laidRoom)
+
+same-length : tie.Need-same-length
+same-length c = search needs
+
+same-length-2 : tie.Need-same-length-2
+same-length-2 c = search needs
+
+same-length-3 : tie.Need-same-length-3
+same-length-3 c = search needs
+
+same-length-4 : tie.Need-same-length-4
+same-length-4 c = search needs
+
+same-length-5 : tie.Need-same-length-5
+same-length-5 c = search needs
+
+returns : tie.Need-returns
+returns c =
+    let e = c .before .before .before .before in
+    let v = leveled e in
+    let t = tapped v in
+    λ b ps r.
+    let few = t .lay-taps .ensures .0 in
+    let long = t .lay-taps .kept .1 .1 .1 .1 .1 .0 in
+    let are = rows-are t b ps r in (
+      subst (λ (bus : Bus). BusHeld bus (start t .args .rerouters .now) (start t .args .bus-wires .now) (e .emit-laid .last .1 .1 .1 .1 .1 .1 .1 .1 .1 .0) (e .emit-laid .last .1 .1 .1 .1 .1 .1 .1 .1 .1 .1 .0) (e .emit-laid .result))
+          (bus-is r (rows t) (t .lay-taps .result) few long are (levels v) (v .lay-levels .result) (v .lay-levels .ensures .0) (v .lay-levels .kept .1 .1 .1 .1 .0) (levels-are v b ps r))
+          (e .emit-laid .ensures b (tapsOf b) ps (tables r) (laid-on r (rows t) (t .lay-taps .result) few long are)),
+      c .count-groups .ensures ∙ groups-laid r (rows t) (t .lay-taps .result) few long are,
+    )
+
+pub lay-lanes-spec : {M : Type 1} → statement M
+lay-lanes-spec =
+    tie.close
+    (tie.spec
+    lay-taps-requires
+    lay-levels-requires
+    emit-laid-requires
+    count-groups-requires
+    same-length
+    same-length-2
+    same-length-3
+    same-length-4
+    same-length-5
+    returns)

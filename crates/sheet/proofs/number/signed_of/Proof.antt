@@ -1,0 +1,25 @@
+-- `sheet::number::signed_of` meets its contract. Assumes nothing.
+use mathlib.Core.Path.{sym, _∙_, ap}
+use borrow.Author.Needs.{needs}
+use denote.Ref.{now}
+use Rattle.sheet.specs.Walk.{negated}
+use Rattle.sheet.proofs.Numbers.{signed-none, signed-some}
+use Rattle.sheet.proofs.number.signed_of.Statement.{statement}
+use Rattle.sheet.proofs.number.signed_of.Tie as tie
+
+returns : tie.Need-returns
+returns c = sym (signed-none (now (c .before .before .args .rest)) (c .if1 .taken))
+
+unsigned-of-requires : tie.Need-unsigned-of-requires
+unsigned-of-requires c κs = search needs
+
+negated-requires : tie.Need-negated-requires
+negated-requires c κs = search needs
+
+returns-2 : tie.Need-returns-2
+returns-2 c =
+    let e = c .before .before in
+    c .negated .ensures ∙ (ap negated (c .before .unsigned-of .ensures) ∙ sym (signed-some (now (e .before .before .args .rest)) (e .if1 .left)))
+
+pub signed-of-spec : {M : Type 1} → statement M
+signed-of-spec = tie.close (tie.spec returns unsigned-of-requires negated-requires returns-2)

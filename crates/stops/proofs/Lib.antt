@@ -1,7 +1,0 @@
-pub mod EndLaws
-pub mod LayLaws
-pub mod LevelLaws
-pub mod MarkLaws
-pub mod PickLaws
-pub mod StopLaws
-pub mod TapTables

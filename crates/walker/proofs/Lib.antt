@@ -1,4 +1,0 @@
--- Laws that belong to no one function.
-pub mod Ends
-pub mod Held
-pub mod Along
