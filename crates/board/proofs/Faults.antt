@@ -12,7 +12,7 @@ use borrow.Author.Tests.{eq-eqb, ne-eqb, eqb-true, eqb-false}
 use Rattle.sheet.specs.Table.{MISSING, libraryMost}
 use Rattle.sheet.specs.Reading.{rowsFrom}
 use Rattle.sheet.specs.Answer.{rowAt}
-use Rattle.sheet.proofs.Accepted.{zeros-at}
+use Rattle.sheet.proofs.Accepted.{Accepted, zeros-at, accepted, accepted-more}
 use Rattle.sheet.proofs.Along.{row-at-row, row-at-next}
 use Rattle.base.specs.Lists.{Found, none, at, found, orElse, newest, oldest}
 use Rattle.board.specs.Board.{Board, field, given, kindChip, idOf, kindOf, chipId, parentOf, innerId, innerChip}
@@ -244,21 +244,25 @@ module _ (text : List ℕ) (first n : ℕ) (idAt : ℕ → ℕ) (repeats gone : 
         entered = λ z. rw end at (w .entered);
       }
 
+-- What the sheet of a walk says of its rows.
+ready-accepted : (text : List ℕ) {k place : ℕ} → Ready text k place → Accepted libraryMost text (rowsFrom text)
+ready-accepted text r = accepted-more (r .most) libraryMost text (rowsFrom text) (r .within) (accepted (r .most) text (rowsFrom text) (r .accepted))
+
 -- The next line.
 pub ready-next : (text : List ℕ) {k place : ℕ} → Ready text k place → k < length (rowsFrom text) → Ready text (suc k) (rowAt text place .next)
 ready-next text {k} {place} r h =
-    record { accepted = r .accepted; line = row-at-next libraryMost text (rowsFrom text) (r .accepted) k place (r .line) h }
+    record { most = r .most; within = r .within; accepted = r .accepted; line = row-at-next libraryMost text (rowsFrom text) (ready-accepted text r) k place (r .line) h }
 
 -- The row of the record at hand.
 module _ (text : List ℕ) {first place : ℕ} {x rest : List (List ℕ)} (p : Part (rowsFrom text) first x rest) (i : ℕ) (r : Ready text (first + i) place) (h : i < length x) where
   pub walk-row : rowAt text place .row ≡ getD x i []
-  walk-row = row-at-row libraryMost text (rowsFrom text) (r .accepted) (first + i) place (r .line) (part-below p i h) ∙ part-at p i h
+  walk-row = row-at-row libraryMost text (rowsFrom text) (ready-accepted text r) (first + i) place (r .line) (part-below p i h) ∙ part-at p i h
 
   pub walk-next : Ready text (suc (first + i)) (rowAt text place .next)
   walk-next = ready-next text r (part-below p i h)
 
 pub walk-sections : (text : List ℕ) {k place : ℕ} → Ready text k place → Sections libraryMost (rowsFrom text) (sheetBoard text)
-walk-sections text r = sections libraryMost text (rowsFrom text) (r .accepted)
+walk-sections text r = sections libraryMost text (rowsFrom text) (ready-accepted text r)
 
 -- A node found is a Chip by the kinds held, or by the rules.
 chips-same : (b : Board) (kinds : List ℕ) (n : ℕ) → ((j : ℕ) → j < n → getD kinds j 0 ≡ kindOf b j) → (f : Found) → ((i : ℕ) → f ≡ at i → i < n) → isChip kinds f ≡ bodyChip b f

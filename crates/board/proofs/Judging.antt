@@ -9,7 +9,7 @@ use Rattle.sheet.specs.declared.Checked.the-variants.{Refused as NotTaken, Fine
 use Rattle.sheet.specs.Table.{libraryMost}
 use Rattle.sheet.specs.Reading.{Reading, refused, rows, reading, rowsFrom}
 use Rattle.sheet.specs.Answer.{countsOf, checkedOf}
-use Rattle.sheet.proofs.Accepted.{Accepted, accepted, accepted-more}
+use Rattle.sheet.proofs.Accepted.{accepted}
 use Rattle.sheet.proofs.Walks.{walk-start}
 use Rattle.board.specs.declared.refusals.Fault.the-variants.{Refused, Fine}
 use Rattle.base.specs.Lists.{Found, none, at}
@@ -46,7 +46,7 @@ module _ (most : Counts) (text : List ℕ) where
 
     pub sheet-ready : WithinLibrary most → Ready text 0 0
     sheet-ready low =
-        record { accepted = accepted-more most libraryMost text (rowsFrom text) low (accepted most text (rowsFrom text) (sheet-rows c e .0)); line = walk-start text }
+        record { most = most; within = low; accepted = sheet-rows c e .0; line = walk-start text }
 
     pub sheet-judged : judged most text ≡ judgedBoard (sheetBoard text)
     unfolding judged

@@ -9,9 +9,8 @@ use Rattle.sheet.specs.declared.Counts.{Counts}
 use Rattle.sheet.specs.declared.Checked.{Checked}
 use Rattle.sheet.specs.declared.Checked.the-variants.{Refused as NotTaken, Fine as Taken}
 use Rattle.sheet.specs.Table.{libraryMost}
-use Rattle.sheet.specs.Reading.{rowsFrom, listed}
+use Rattle.sheet.specs.Reading.{rowsFrom, listed, rows, reading}
 use Rattle.sheet.specs.Answer.{AtLine, countsOf}
-use Rattle.sheet.proofs.Accepted.{Accepted}
 use Rattle.board.specs.declared.refusals.Walk.{Walk}
 use Rattle.board.specs.declared.refusals.Fault.{Fault}
 use Rattle.board.specs.declared.refusals.Fault.the-variants.{Refused, Fine}
@@ -67,9 +66,15 @@ pub record Entered (ids : List (List ℕ)) (n id : ℕ) (was : Bool) (ids′ : L
   pub added : was ≡ false → column 0 ids′ ≡ set (column 0 ids) n id
   pub index : was ≡ false → Index ids′ (suc n)
 
+-- No more records of each section than the library takes.
+abbrev pub WithinLibrary : Counts → Type 0
+WithinLibrary most = (s : ℕ) → getD (listed most) s 0 ≤ getD (listed libraryMost) s 0
+
 -- Where a walk along an accepted sheet stands: so many lines are behind.
 pub record Ready (text : List ℕ) (first place : ℕ) : Type 0 where
-  pub accepted : Accepted libraryMost text (rowsFrom text)
+  pub most : Counts
+  pub within : WithinLibrary most
+  pub accepted : reading most text ≡ rows (rowsFrom text)
   pub line : AtLine text first place
 
 -- What the walk along the chips starts from: the counts, and the body nodes' ids and kinds.
@@ -140,10 +145,6 @@ countsIn b =
 abbrev pub boardChecked : Judged → Checked
 boardChecked (turnedAway number line) = NotTaken number line
 boardChecked (board b) = Taken (countsIn b)
-
--- No more records of each section than the library takes.
-abbrev pub WithinLibrary : Counts → Type 0
-WithinLibrary most = (s : ℕ) → getD (listed most) s 0 ≤ getD (listed libraryMost) s 0
 
 -- The three indexes of a board's ids.
 pub record Indexed (b : Board) (bodyIds chipIds innerIds : List (List ℕ)) : Type 0 where

@@ -19,12 +19,11 @@ use Rattle.board.specs.Walk.{WithinLibrary, countsIn}
 use Rattle.lanes.specs.Lanes.{laneMost}
 use Rattle.base.proofs.Lists.{never}
 use Rattle.board_plan.specs.declared.Lent.{Lent}
-use Rattle.board_plan.specs.declared.TextPlan
-use Rattle.board_plan.specs.declared.TextPlan.the-variants as answers
 use Rattle.board_plan.specs.declared.PagesPlan.the-variants.{Refused, Planned}
-use Rattle.board_plan.specs.TextPlan.{LINE_MOST, hasRoom, fitsCounts, fitsLent, shortest, WorkLent, TablesHold, TextPlanned, workRows}
+use Rattle.board_plan.specs.TextPlan.{LINE_MOST, hasRoom, fitsCounts, fitsLent, shortest, WorkLent, workRows}
 use Rattle.board_plan.specs.PagesPlan.{planCall, pagesPlan, PagesPlanned}
 use Rattle.board.proofs.Accepting.{sheet-accepted}
+use Rattle.board_plan.proofs.Surveying.{LanesTold}
 use Rattle.board_plan.proofs.Planned.{planned-counts}
 use Rattle.board_plan.proofs.Fitting.{fits-all}
 use Rattle.board.proofs.Planning.{planning-refused, planning-fine, lanes-from}
@@ -89,39 +88,19 @@ planning-same text f g same = go (judged libraryMost text) refl
 pub pages-planning : (text : List ℕ) (answers work : ℕ) → planning libraryMost (fitsLent (pagesLent answers work)) text ≡ planning libraryMost (fitsPages answers work) text
 pages-planning text answers work = planning-same text (fitsLent (pagesLent answers work)) (fitsPages answers work) (pages-fit answers work)
 
--- What an answer says of the planning.
-module _ (rows facts taps groups : List (List ℕ)) where
-  pub text-refusal : (p : Planning) (r : TextPlan.TextPlan) (n l : ℕ) → TextPlanned p rows facts taps groups r → r ≡ answers.Refused n l → p ≡ refused n l
-  text-refusal (refused n′ l′) r n l e d = cc
-  text-refusal (lanesFor b ps) r n l (m, e, h) d = never cc
-
-  pub record LanesTold (p : Planning) (c : Counts) (m : ℕ) : Type 0 where
-    pub onBoard : Board
-    pub lanes : List PageLanes
-    pub is : p ≡ lanesFor onBoard lanes
-    pub counted : c ≡ countsIn onBoard
-    pub tables : TablesHold onBoard lanes rows facts taps groups m
-
-  pub text-lanes : (p : Planning) (r : TextPlan.TextPlan) (c : Counts) (m : ℕ) → TextPlanned p rows facts taps groups r → r ≡ answers.Laned c m → LanesTold p c m
-  text-lanes (refused n l) r c m e d = never cc
-  text-lanes (lanesFor b ps) r c m (k, e, h) d =
-      let same : c ≡ countsIn b = cc in
-      let taps-same : k ≡ m = cc in
-      record { onBoard = b; lanes = ps; is = refl; counted = same; tables = subst (λ (j : ℕ). TablesHold b ps rows facts taps groups j) taps-same h }
-
-  -- The page answers can be written.
-  pub pages-ready : (most : Counts) (text : List ℕ) (lent : Lent) (c : Counts) (m k : ℕ) → LanesTold (planning most (fitsLent lent) text) c m → lent .work ≤ length facts → lent .answers ≡ k
-      → ((c .pages ≤ length facts) × (c .pages ≤ k)) × ((p : ℕ) → p < c .pages → field facts p 6 ≤ laneMost)
-  unfolding records
-  pages-ready most text lent c m k t work answers =
-      let b = t .onBoard in
-      let from = lanes-from most text (fitsLent lent) b (t .lanes) (t .is) in
-      let fit = fits-all lent b (from .fitting) in
-      let counts = planned-counts b (t .lanes) (from .lanes) in
-      let pages : c .pages ≡ length (b .pages) = ap (λ (d : Counts). d .pages) (t .counted) in
-      let fw = fit .work in
-      let fa = fit .answers in
-      ((omega arith, omega arith), λ p h. let inside : p < length (t .lanes) = omega (arith, counts .0) in omega (arith, t .tables .pages-known p inside, counts .1 p))
+-- The page answers can be written.
+pub pages-ready : (rows facts taps groups : List (List ℕ)) (most : Counts) (text : List ℕ) (lent : Lent) (c : Counts) (m k : ℕ) → LanesTold rows facts taps groups (planning most (fitsLent lent) text) c m → lent .work ≤ length facts → lent .answers ≡ k
+    → ((c .pages ≤ length facts) × (c .pages ≤ k)) × ((p : ℕ) → p < c .pages → field facts p 6 ≤ laneMost)
+unfolding records
+pages-ready rows facts taps groups most text lent c m k t work answers =
+    let b = t .onBoard in
+    let from = lanes-from most text (fitsLent lent) b (t .lanes) (t .is) in
+    let fit = fits-all lent b (from .fitting) in
+    let counts = planned-counts b (t .lanes) (from .lanes) in
+    let pages : c .pages ≡ length (b .pages) = ap (λ (d : Counts). d .pages) (t .counted) in
+    let fw = fit .work in
+    let fa = fit .answers in
+    ((omega arith, omega arith), λ p h. let inside : p < length (t .lanes) = omega (arith, counts .0) in omega (arith, t .tables .pages-known p inside, counts .1 p))
 
 -- The call's answers.
 module _ (text : List ℕ) (work : List ℕ) (before after : List (List ℕ)) where

@@ -21,8 +21,8 @@ use Rattle.board.specs.Walk.{countsIn}
 use Rattle.board_lanes.specs.PagePlan.{BoardPlanned}
 use Rattle.base.proofs.Lists.{never}
 use Rattle.board.proofs.LanesFit.{rising}
-use Rattle.board_plan.specs.declared.TextSurvey.the-variants as surveys
-use Rattle.board_plan.specs.TextPlan.{SectionsIn, FactsHold, LanesSurveyed}
+use Rattle.board_plan.specs.declared.TextPlan.the-variants as surveys
+use Rattle.board_plan.specs.TextPlan.{SectionsIn, FactsHold, LanesPlanned}
 use Rattle.board_plan.proofs.Slices.{Slices}
 
 -- A crowded page is one of the pages.
@@ -109,10 +109,10 @@ module _ {b : Board} {rows : List (List ℕ)} {c : Counts} (k : Slices b rows c)
     facts-hold s = record { sections = s; nodes-known = own .nodes-known; wires-known = own .wires-known }
 
     module _ (s : SectionsIn b rows) (same : c ≡ countsIn b) where
-      pub survey-crowded : (p : ℕ) → r .plan ≡ Crowded p → LanesSurveyed b (planLanes b) rows facts taps groups (surveys.Crowded c (p + 1))
+      pub survey-crowded : (p : ℕ) → r .plan ≡ Crowded p → LanesPlanned b (planLanes b) rows facts taps groups (surveys.Crowded c (p + 1))
       survey-crowded p e = rw (crowded-is p e) ((λ i. surveys.Crowded (same i) (add-one p i)), facts-hold s)
 
-      pub survey-laned : r .plan ≡ Laned → LanesSurveyed b (planLanes b) rows facts taps groups (surveys.Laned c (r .taps))
+      pub survey-laned : r .plan ≡ Laned → LanesPlanned b (planLanes b) rows facts taps groups (surveys.Laned c (r .taps))
       survey-laned e =
           let h = by Laned e in
           rw (h .1) (

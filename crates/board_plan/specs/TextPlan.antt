@@ -21,9 +21,7 @@ use Rattle.board.specs.Accepted.{Accepted}
 use Rattle.board_lanes.specs.PagePlan.{Room}
 use Rattle.board_plan.specs.declared.Lent.{Lent}
 use Rattle.board_plan.specs.declared.TextPlan.{TextPlan}
-use Rattle.board_plan.specs.declared.TextPlan.the-variants.{Refused, Laned}
-use Rattle.board_plan.specs.declared.TextSurvey.{TextSurvey}
-use Rattle.board_plan.specs.declared.TextSurvey.the-variants as surveys
+use Rattle.board_plan.specs.declared.TextPlan.the-variants.{Refused, Crowded, Laned}
 
 -- S16: no line of a plan sheet is longer; a plan has at most P + 12W + 1 lines.
 abbrev pub LINE_MOST : ℕ
@@ -118,24 +116,12 @@ pub record TablesHold (b : Board) (ps : List PageLanes) (rows facts taps groups 
   pub groups-known : GroupFacts b ps groups
   pub pages-known : PageFacts ps facts
 
--- What `plan_text` answers and leaves.
-abbrev pub TextPlanned : Planning → (rows facts taps groups : List (List ℕ)) → TextPlan → Type 0
-TextPlanned (refused n l) rows facts taps groups r = r ≡ Refused n l
-TextPlanned (lanesFor b ps) rows facts taps groups r =
+-- What `plan_text` answers and leaves: where a page is crowded, its line and the facts that do not wait for lanes.
+abbrev pub LanesPlanned : Board → Planned → (rows facts taps groups : List (List ℕ)) → TextPlan → Type 0
+LanesPlanned b (crowded p) rows facts taps groups r = (r ≡ Crowded (countsIn b) (suc p)) × FactsHold b rows facts
+LanesPlanned b (planned ps) rows facts taps groups r =
     (m : ℕ) × (r ≡ Laned (countsIn b) m) × TablesHold b ps rows facts taps groups m
 
--- The plan that a survey gives: a crowded page is refused.
-abbrev pub planOf : TextSurvey → TextPlan
-planOf (surveys.Refused n l) = Refused n l
-planOf (surveys.Crowded c l) = Refused 8 l
-planOf (surveys.Laned c m) = Laned c m
-
--- What `survey_text` answers and leaves: where a page is crowded, its line and the facts that do not wait for lanes.
-abbrev pub LanesSurveyed : Board → Planned → (rows facts taps groups : List (List ℕ)) → TextSurvey → Type 0
-LanesSurveyed b (crowded p) rows facts taps groups r = (r ≡ surveys.Crowded (countsIn b) (suc p)) × FactsHold b rows facts
-LanesSurveyed b (planned ps) rows facts taps groups r =
-    (m : ℕ) × (r ≡ surveys.Laned (countsIn b) m) × TablesHold b ps rows facts taps groups m
-
-abbrev pub TextSurveyed : Judged → (rows facts taps groups : List (List ℕ)) → TextSurvey → Type 0
-TextSurveyed (turnedAway n l) rows facts taps groups r = r ≡ surveys.Refused n l
-TextSurveyed (board b) rows facts taps groups r = LanesSurveyed b (planLanes b) rows facts taps groups r
+abbrev pub TextPlanned : Judged → (rows facts taps groups : List (List ℕ)) → TextPlan → Type 0
+TextPlanned (turnedAway n l) rows facts taps groups r = r ≡ Refused n l
+TextPlanned (board b) rows facts taps groups r = LanesPlanned b (planLanes b) rows facts taps groups r

@@ -1,5 +1,4 @@
-// `plan_bus`: from a sheet's text to the lanes of every page, with every refusal in its order. Each call of the router starts with `plan_text`, or with
-// `survey_text` where it has more to try before a crowded page is refused.
+// `plan_bus`: from a sheet's text to the lanes of every page, with every refusal in its order. Each call of the router starts with `plan_text`.
 use base::numbers::BUS_BAND_GUTTER;
 use base::numbers::LANE_PITCH;
 use base::rows::IdRow;
@@ -26,7 +25,7 @@ ghost use Rattle.board.specs.Demands.{PageLanes, planLanes};
 ghost use Rattle.board.specs.Tables.{PageFacts};
 ghost use Rattle.board.specs.Planning.{planning, fitsPages, pageRow, pagesAfter};
 ghost use Rattle.board.specs.Walk.{WithinLibrary};
-ghost use Rattle.board_plan.specs.TextPlan.{fitsLent, shortest, workRows, hasRoom, fitsCounts, WorkLent, BoardRead, BoardChecked, fitting, TextPlanned, planOf, LanesSurveyed, TextSurveyed};
+ghost use Rattle.board_plan.specs.TextPlan.{fitsLent, shortest, workRows, hasRoom, fitsCounts, WorkLent, BoardRead, BoardChecked, fitting, LanesPlanned, TextPlanned};
 ghost use Rattle.board_plan.specs.PagesPlan.{planCall, PagesPlanned};
 
 // The lengths of what is lent: rerouters, bus wires, suppressed ports, page answers, the rows of the shortest slice of work space, and bytes for the plan sheet's
@@ -46,14 +45,9 @@ pub struct Asked {
     pub lent: Lent,
 }
 
-// What planning a sheet's text answers: a refusal and its place, or that the tables hold the board and its lanes.
+// What planning a sheet's text answers: a refusal and its place, the line of the first crowded page, or that the tables hold the board and its lanes. A crowded
+// page is not refused here: what a call asks for beyond the lent lengths is a 7, and goes before the 8.
 pub enum TextPlan {
-    Refused { number: usize, place: usize },
-    Laned { counts: Counts, taps: usize },
-}
-
-// The same before a crowded page is refused: what a call asks for beyond the lent lengths is a 7 too, and goes before its 8. `place` is the page's line.
-pub enum TextSurvey {
     Refused { number: usize, place: usize },
     Crowded { counts: Counts, place: usize },
     Laned { counts: Counts, taps: usize },
@@ -145,7 +139,7 @@ fn fits(lent: Lent, c: Counts) -> bool
 }
 
 // The lanes of a board whose records stand in rows, one section after the other.
-fn survey_rows(
+fn plan_rows(
     records: &[Record],
     counts: Counts,
     body_index: &[IdRow],
@@ -156,12 +150,12 @@ fn survey_rows(
     demands: &mut [WorkRow],
     keys: &mut [WorkRow],
     spare: &mut [WorkRow],
-) -> TextSurvey
+) -> TextPlan
     requires { ⌜ ((b : Board) × BoardRead b (now records) counts (now «body_index») (now «inner_index»)
         (now facts) (now taps) (now groups) (now demands) (now keys) (now spare)) ⌝ }
     ensures { λ r. ⌜ ((b : Board) → BoardRead b (now (records .entry)) counts (now («body_index» .entry)) (now («inner_index» .entry))
         (now (facts .entry)) (now (taps .entry)) (now (groups .entry)) (now (demands .entry)) (now (keys .entry)) (now (spare .entry))
-        → LanesSurveyed b (planLanes b) (now (records .entry)) (now (facts .exit)) (now (taps .exit)) (now (groups .exit)) r) ⌝ }
+        → LanesPlanned b (planLanes b) (now (records .entry)) (now (facts .exit)) (now (taps .exit)) (now (groups .exit)) r) ⌝ }
 {
     let nodes = counts.pages;
     let chips = nodes + counts.nodes;
@@ -188,11 +182,11 @@ fn survey_rows(
     let plan = planned.plan;
     let found = planned.taps;
     match plan {
-        Plan::Crowded(p) => TextSurvey::Crowded {
+        Plan::Crowded(p) => TextPlan::Crowded {
             counts,
             place: p + 1,
         },
-        Plan::Laned => TextSurvey::Laned {
+        Plan::Laned => TextPlan::Laned {
             counts,
             taps: found,
         },
@@ -200,7 +194,7 @@ fn survey_rows(
 }
 
 // The same of a sheet that refusals 1 to 6 leave: 7 where what is lent does not fit, else its records are read into rows.
-fn survey_fitting(
+fn plan_fitting(
     text: &[u8],
     asked: Asked,
     counts: Counts,
@@ -213,14 +207,14 @@ fn survey_fitting(
     demands: &mut [WorkRow],
     keys: &mut [WorkRow],
     spare: &mut [WorkRow],
-) -> TextSurvey
+) -> TextPlan
     requires { ⌜ WorkLent (asked .lent .work) (length (now records)) (now facts) (now taps) (now groups) (now demands) (now keys) (now spare) ⌝ }
     requires { ⌜ WithinLibrary (asked .most) × ((b : Board) × BoardChecked b (asked .most) (now text) counts (now «body_index») (now «inner_index»)) ⌝ }
-    ensures { λ r. ⌜ TextSurveyed (fitting (asked .most) (fitsLent (asked .lent)) (now (text .entry))) (now (records .exit)) (now (facts .exit)) (now (taps .exit)) (now (groups .exit)) r ⌝ }
+    ensures { λ r. ⌜ TextPlanned (fitting (asked .most) (fitsLent (asked .lent)) (now (text .entry))) (now (records .exit)) (now (facts .exit)) (now (taps .exit)) (now (groups .exit)) r ⌝ }
 {
     let lent = asked.lent;
     if !fits(lent, counts) {
-        return TextSurvey::Refused {
+        return TextPlan::Refused {
             number: 7,
             place: 0,
         };
@@ -234,7 +228,7 @@ fn survey_fitting(
         counts.wires,
     );
     fill_rows(text, records, lines);
-    survey_rows(
+    plan_rows(
         records,
         counts,
         body_index,
@@ -250,7 +244,7 @@ fn survey_fitting(
 
 // Refusals 1 to 7 of a sheet in their order, or its board in the tables, with the first crowded page or the lanes of all. `asked.lent.work` rows at
 // least stand in every slice.
-pub fn survey_text(
+pub fn plan_text(
     text: &[u8],
     asked: Asked,
     records: &mut [Record],
@@ -260,21 +254,21 @@ pub fn survey_text(
     demands: &mut [WorkRow],
     keys: &mut [WorkRow],
     spare: &mut [WorkRow],
-) -> TextSurvey
+) -> TextPlan
     requires { ⌜ WorkLent (asked .lent .work) (length (now records)) (now facts) (now taps) (now groups) (now demands) (now keys) (now spare) ⌝ }
     requires { ⌜ WithinLibrary (asked .most) ⌝ }
-    ensures { λ r. ⌜ TextSurveyed (fitting (asked .most) (fitsLent (asked .lent)) (now (text .entry))) (now (records .exit)) (now (facts .exit)) (now (taps .exit)) (now (groups .exit)) r ⌝ }
+    ensures { λ r. ⌜ TextPlanned (fitting (asked .most) (fitsLent (asked .lent)) (now (text .entry))) (now (records .exit)) (now (facts .exit)) (now (taps .exit)) (now (groups .exit)) r ⌝ }
 {
     let mut body = [[0u32; 3]; 4096];
     let mut chips = [[0u32; 3]; 4096];
     let mut inner = [[0u32; 3]; 4096];
     let most = asked.most;
     match check_board(text, most, &mut body, &mut chips, &mut inner) {
-        Checked::Refused { number, line } => TextSurvey::Refused {
+        Checked::Refused { number, line } => TextPlan::Refused {
             number,
             place: line,
         },
-        Checked::Fine(counts) => survey_fitting(
+        Checked::Fine(counts) => plan_fitting(
             text,
             asked,
             counts,
@@ -289,46 +283,6 @@ pub fn survey_text(
             spare,
         ),
     }
-}
-
-// 8 where a page is crowded.
-fn refuse_crowded(survey: TextSurvey) -> TextPlan
-    ensures { λ r. ⌜ r ≡ planOf survey ⌝ }
-{
-    match survey {
-        TextSurvey::Refused { number, place } => TextPlan::Refused { number, place },
-        TextSurvey::Crowded { counts: _, place } => TextPlan::Refused { number: 8, place },
-        TextSurvey::Laned { counts, taps } => TextPlan::Laned { counts, taps },
-    }
-}
-
-// Every refusal of a sheet in its order, or its board in the tables, with the lanes of its pages. `asked.lent.work` rows at least stand in every slice.
-pub fn plan_text(
-    text: &[u8],
-    asked: Asked,
-    records: &mut [Record],
-    facts: &mut [WorkRow],
-    taps: &mut [WorkRow],
-    groups: &mut [WorkRow],
-    demands: &mut [WorkRow],
-    keys: &mut [WorkRow],
-    spare: &mut [WorkRow],
-) -> TextPlan
-    requires { ⌜ WorkLent (asked .lent .work) (length (now records)) (now facts) (now taps) (now groups) (now demands) (now keys) (now spare) ⌝ }
-    requires { ⌜ WithinLibrary (asked .most) ⌝ }
-    ensures { λ r. ⌜ TextPlanned (planning (asked .most) (fitsLent (asked .lent)) (now (text .entry))) (now (records .exit)) (now (facts .exit)) (now (taps .exit)) (now (groups .exit)) r ⌝ }
-{
-    refuse_crowded(survey_text(
-        text,
-        asked,
-        records,
-        facts,
-        taps,
-        groups,
-        demands,
-        keys,
-        spare,
-    ))
 }
 
 // D4: a page's band, by its count of lanes.
@@ -402,6 +356,7 @@ pub fn plan_bus(
         marks,
     ) {
         TextPlan::Refused { number, place } => PagesPlan::Refused { number, place },
+        TextPlan::Crowded { counts: _, place } => PagesPlan::Refused { number: 8, place },
         TextPlan::Laned { counts, taps: _ } => {
             let pages = counts.pages;
             write_pages(facts, pages, answers);

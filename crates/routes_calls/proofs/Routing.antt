@@ -17,7 +17,8 @@ use Rattle.board_plan.proofs.Surveying.{facts-in}
 use Rattle.board.proofs.Accepting.{sheet-accepted}
 use Rattle.board.proofs.Planning.{lanes-from}
 use Rattle.board_plan.proofs.Planned.{planned-counts}
-use Rattle.board_plan.proofs.Calling.{LanesTold, planning-same}
+use Rattle.board_plan.proofs.Surveying.{LanesTold}
+use Rattle.board_plan.proofs.Calling.{planning-same}
 use Rattle.sheet.specs.Table.{libraryMost}
 use Rattle.routes.specs.Plan.{busOf, finished, laidGroups}
 use Rattle.routes.specs.Route.{routedBy, fitsPlan, routed}

@@ -11,9 +11,9 @@ use board_plan::Asked;
 use board_plan::Lent;
 use board_plan::MARK_ROWS;
 use board_plan::OUT_MOST;
-use board_plan::TextSurvey;
+use board_plan::TextPlan;
+use board_plan::plan_text;
 use board_plan::shortest_of;
-use board_plan::survey_text;
 use routes::bus::BusCounts;
 use routes_corners::turn::Turned;
 use routes_gutter::bus::BusPlan;
@@ -173,7 +173,7 @@ pub fn lay_mini_bus(
         most: library_most(),
         lent,
     };
-    match survey_text(
+    match plan_text(
         text,
         asked,
         records,
@@ -184,12 +184,12 @@ pub fn lay_mini_bus(
         keys,
         marks,
     ) {
-        TextSurvey::Refused { number, place } => BusPlan::Refused { number, place },
-        TextSurvey::Crowded { counts, place } => {
+        TextPlan::Refused { number, place } => BusPlan::Refused { number, place },
+        TextPlan::Crowded { counts, place } => {
             let fits = held_fits(held, records, counts, facts, rerouters, bus_wires, ports);
             refuse_crowded(fits, place)
         }
-        TextSurvey::Laned { counts, taps: _ } => turn_held(
+        TextPlan::Laned { counts, taps: _ } => turn_held(
             held,
             records,
             counts,

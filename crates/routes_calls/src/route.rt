@@ -129,6 +129,7 @@ pub fn route_within(
         marks,
     ) {
         TextPlan::Refused { number, place } => BusText::Refused { number, place },
+        TextPlan::Crowded { counts: _, place } => BusText::Refused { number: 8, place },
         TextPlan::Laned { counts, taps: m } => {
             let laid = lay_and_settle(
                 records,

@@ -16,7 +16,8 @@ use Rattle.board.proofs.Planning.{lanes-from}
 use Rattle.board_plan.specs.declared.Lent.{Lent}
 use Rattle.board_plan.specs.TextPlan.{LINE_MOST, hasRoom, fitsCounts, fitsLent, shortest, WorkLent}
 use Rattle.board_plan.proofs.Fitting.{fits-all}
-use Rattle.board_plan.proofs.Calling.{LanesTold, planning-same}
+use Rattle.board_plan.proofs.Surveying.{LanesTold}
+use Rattle.board_plan.proofs.Calling.{planning-same}
 use Rattle.routes.specs.Plan.{busOf, laidGroups}
 use Rattle.routes.specs.Route.{Routed, routedBy, fitsBus, laid}
 use Rattle.routes.specs.declared.bus.BusCounts.{BusCounts}

@@ -83,6 +83,7 @@ pub fn lay_bus(
         marks,
     ) {
         TextPlan::Refused { number, place } => BusPlan::Refused { number, place },
+        TextPlan::Crowded { counts: _, place } => BusPlan::Refused { number: 8, place },
         TextPlan::Laned { counts, taps: m } => {
             let laid = lay_and_settle(
                 records,

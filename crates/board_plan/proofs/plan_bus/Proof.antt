@@ -1,20 +1,23 @@
+-- Planned; then the page answers.
 use Prim.Native.Nat.{ℕ}
 use native.Mathlib.Omega.{arith}
+use mathlib.Core.Bool.{Bool}
 use mathlib.Core.Path.{_≡_, refl, sym, ap, _∙_, subst}
 use mathlib.Core.List.{List, _++_, map}
 use lib.ListN.{length, drop}
-use borrow.Author.Needs.{needs}
 use Rattle.sheet.specs.declared.Counts.{Counts}
 use Rattle.sheet.specs.Table.{libraryMost}
-use Rattle.board.specs.Planning.{Planning, planning, pageRow}
+use Rattle.board.specs.Board.{Board}
+use Rattle.board.specs.Planning.{planning, pageRow}
 use Rattle.board.specs.Walk.{WithinLibrary}
-use Rattle.board_plan.specs.declared.TextPlan.{TextPlan}
-use Rattle.board_plan.specs.TextPlan.{TextPlanned, workRows, fitsLent}
-use Rattle.board_plan.proofs.Planned.{planned-counts}
-use Rattle.board_plan.proofs.Calling.{within-library, work-room, pagesLent, text-refusal, LanesTold, text-lanes, pages-ready, pages-refused, pages-laned}
-use Rattle.board_plan.specs.declared.PagesPlan.the-variants.{Planned}
-use Rattle.board_plan.specs.PagesPlan.{planCall, PagesPlanned}
 use Rattle.board.proofs.Planning.{lanes-from}
+use Rattle.board_plan.specs.TextPlan.{TextPlanned, workRows, fitsLent, fitting}
+use Rattle.board_plan.specs.PagesPlan.{planCall, PagesPlanned}
+use Rattle.board_plan.specs.declared.PagesPlan.the-variants.{Planned}
+use Rattle.board_plan.proofs.Planned.{planned-counts}
+use Rattle.board_plan.proofs.Surveying.{LanesTold, text-refusal, text-crowded, text-lanes}
+use Rattle.board_plan.proofs.Calling.{within-library, work-room, pagesLent, pages-ready, pages-refused, pages-laned}
+use borrow.Author.Needs.{needs}
 use Rattle.board_plan.proofs.plan_bus.Statement.{statement}
 use Rattle.board_plan.proofs.plan_bus.Tie as tie
 use Rattle.board_plan.proofs.plan_bus.Reads as reads
@@ -25,20 +28,25 @@ use Rattle.board_plan.proofs.write_pages.Reads as write-pages-reads
 use Rattle.sheet.proofs.library_most.Reads as library-most-reads
 
 abbrev start : tie.After-plan-text → tie.Start
-start c = c .before .before .before .before .before .before .before .before .before .before .before
+start d = d .before .before .before .before .before .before .before .before .before .before .before
 
 abbrev least-of : tie.After-plan-text → ℕ
-least-of c = c .before .before .before .before .before .before .before .before .before .shortest-of .result
+least-of d = d .before .before .before .before .before .before .before .before .before .shortest-of .result
 
-abbrev plan-of : (c : tie.After-plan-text) → Planning
-plan-of c = planning libraryMost (fitsLent (pagesLent (length (start c .args .answers .now)) (least-of c))) (start c .args .text .now)
+abbrev fits-of : tie.After-plan-text → Board → Bool
+fits-of d = fitsLent (pagesLent (length (start d .args .answers .now)) (least-of d))
 
-abbrev work-of : (c : tie.After-plan-text) → List ℕ
-work-of c = let a = start c .args in workRows (a .records .now) (a .facts .now) (a .taps .now) (a .groups .now) (a .demands .now) (a .keys .now) (a .marks .now)
+abbrev work-of : tie.After-plan-text → List ℕ
+work-of d = let a = start d .args in workRows (a .records .now) (a .facts .now) (a .taps .now) (a .groups .now) (a .demands .now) (a .keys .now) (a .marks .now)
 
-planned : (c : tie.After-plan-text) → TextPlanned (plan-of c) (c .plan-text .last .1 .1 .0) (c .plan-text .last .1 .1 .1 .0) (c .plan-text .last .1 .1 .1 .1 .0) (c .plan-text .last .1 .1 .1 .1 .1 .0) (c .plan-text .result)
-planned c =
-    subst (λ (m : Counts). TextPlanned (planning m (fitsLent (pagesLent (length (start c .args .answers .now)) (least-of c))) (start c .args .text .now)) (c .plan-text .last .1 .1 .0) (c .plan-text .last .1 .1 .1 .0) (c .plan-text .last .1 .1 .1 .1 .0) (c .plan-text .last .1 .1 .1 .1 .1 .0) (c .plan-text .result)) (c .before .before .before .before .before .before .before .before .library-most .ensures) (c .plan-text .ensures)
+planned : (d : tie.After-plan-text) → let p = d .plan-text in TextPlanned (fitting libraryMost (fits-of d) (start d .args .text .now)) (p .last .1 .1 .0) (p .last .1 .1 .1 .0) (p .last .1 .1 .1 .1 .0) (p .last .1 .1 .1 .1 .1 .0) (p .result)
+planned d = let p = d .plan-text in subst (λ (m : Counts). TextPlanned (fitting m (fits-of d) (start d .args .text .now)) (p .last .1 .1 .0) (p .last .1 .1 .1 .0) (p .last .1 .1 .1 .1 .0) (p .last .1 .1 .1 .1 .1 .0) (p .result)) (d .before .before .before .before .before .before .before .before .library-most .ensures) (p .ensures)
+
+abbrev planned-at : tie.After-write-pages-arg2 → tie.After-plan-text
+planned-at c = c .before .before .before .before .before .before .before .before .before .before .before .before
+
+told : (c : tie.After-write-pages-arg2) → let p = planned-at c .plan-text in LanesTold (p .last .1 .1 .0) (p .last .1 .1 .1 .0) (p .last .1 .1 .1 .1 .0) (p .last .1 .1 .1 .1 .1 .0) (planning libraryMost (fits-of (planned-at c)) (start (planned-at c) .args .text .now)) (c .before .before .before .counts .given .0 .0) (c .before .before .before .counts .given .0 .1 .0)
+told c = let d = planned-at c in let p = d .plan-text in text-lanes (p .last .1 .1 .0) (p .last .1 .1 .1 .0) (p .last .1 .1 .1 .1 .0) (p .last .1 .1 .1 .1 .1 .0) libraryMost (fits-of d) (start d .args .text .now) (p .result) (planned d) _ _ (c .before .before .before .counts .given .1)
 
 shortest-of-requires : tie.Need-shortest-of-requires
 shortest-of-requires c κs = search needs
@@ -55,23 +63,21 @@ plan-text-requires c κs =
 enum-known-number : tie.Need-enum-known-number
 enum-known-number c = search needs
 
+enum-known-place : tie.Need-enum-known-place
+enum-known-place c = search needs
+
 enum-known-counts : tie.Need-enum-known-counts
 enum-known-counts c = search needs
 
-abbrev text-planned : tie.After-write-pages-arg2 → tie.After-plan-text
-text-planned c = c .before .before .before .before .before .before .before .before .before .before .before .before
-
-told : (c : tie.After-write-pages-arg2) → LanesTold (text-planned c .plan-text .last .1 .1 .0) (text-planned c .plan-text .last .1 .1 .1 .0) (text-planned c .plan-text .last .1 .1 .1 .1 .0) (text-planned c .plan-text .last .1 .1 .1 .1 .1 .0) (plan-of (text-planned c)) (c .before .before .before .counts .given .0 .0) (c .before .before .before .counts .given .0 .1 .0)
-told c = let d = text-planned c in text-lanes (d .plan-text .last .1 .1 .0) (d .plan-text .last .1 .1 .1 .0) (d .plan-text .last .1 .1 .1 .1 .0) (d .plan-text .last .1 .1 .1 .1 .1 .0) (plan-of d) (d .plan-text .result) _ _ (planned d) (c .before .before .before .counts .given .1)
-
 write-pages-requires : tie.Need-write-pages-requires
 write-pages-requires c κs =
-    let d = text-planned c in
+    let d = planned-at c in
+    let p = d .plan-text in
     let a = start d .args in
-    let lent = work-room (least-of d) (a .records .now) (a .facts .now) (a .taps .now) (a .groups .now) (a .demands .now) (a .keys .now) (a .marks .now) (d .before .before .before .before .before .before .before .before .before .shortest-of .ensures) in
-    let long = lent .lent .facts-lent in
-    let kept = d .plan-text .kept .1 .1 .1 .0 in
-    pages-ready (d .plan-text .last .1 .1 .0) (d .plan-text .last .1 .1 .1 .0) (d .plan-text .last .1 .1 .1 .1 .0) (d .plan-text .last .1 .1 .1 .1 .1 .0) libraryMost (a .text .now) (pagesLent (length (a .answers .now)) (least-of d)) _ _ _ (told c) (omega arith) refl
+    let room = work-room (least-of d) (a .records .now) (a .facts .now) (a .taps .now) (a .groups .now) (a .demands .now) (a .keys .now) (a .marks .now) (d .before .before .before .before .before .before .before .before .before .shortest-of .ensures) in
+    let long = room .lent .facts-lent in
+    let kept = p .kept .1 .1 .1 .0 in
+    pages-ready (p .last .1 .1 .0) (p .last .1 .1 .1 .0) (p .last .1 .1 .1 .1 .0) (p .last .1 .1 .1 .1 .1 .0) libraryMost (a .text .now) (pagesLent (length (a .answers .now)) (least-of d)) _ _ _ (told c) (omega arith) refl
 
 same-length : tie.Need-same-length
 same-length c = search needs
@@ -97,9 +103,9 @@ same-length-7 c = search needs
 returns : tie.Need-returns
 returns c =
     let d = c .before .before .before .before .before .before .before .before .before .before in
+    let p = d .plan-text in
     let a = start d .args in
-    let is = text-refusal (d .plan-text .last .1 .1 .0) (d .plan-text .last .1 .1 .1 .0) (d .plan-text .last .1 .1 .1 .1 .0) (d .plan-text .last .1 .1 .1 .1 .1 .0) (plan-of d) (d .plan-text .result) _ _ (planned d) (c .before .number .given .1) in
-    pages-refused (a .text .now) (work-of d) (a .answers .now) (a .answers .now) (least-of d) (d .before .before .before .before .before .before .before .before .before .shortest-of .ensures) _ _ is
+    pages-refused (a .text .now) (work-of d) (a .answers .now) (a .answers .now) (least-of d) (d .before .before .before .before .before .before .before .before .before .shortest-of .ensures) _ _ (text-refusal (p .last .1 .1 .0) (p .last .1 .1 .1 .0) (p .last .1 .1 .1 .1 .0) (p .last .1 .1 .1 .1 .1 .0) libraryMost (fits-of d) (a .text .now) (p .result) (planned d) _ _ (c .before .number .given .1))
 
 same-length-8 : tie.Need-same-length-8
 same-length-8 c = search needs
@@ -122,13 +128,41 @@ same-length-13 c = search needs
 same-length-14 : tie.Need-same-length-14
 same-length-14 c = search needs
 
+returns-2 : tie.Need-returns-2
+returns-2 c =
+    let d = c .before .before .before .before .before .before .before .before .before .before in
+    let p = d .plan-text in
+    let a = start d .args in
+    pages-refused (a .text .now) (work-of d) (a .answers .now) (a .answers .now) (least-of d) (d .before .before .before .before .before .before .before .before .before .shortest-of .ensures) _ _ (text-crowded (p .last .1 .1 .0) (p .last .1 .1 .1 .0) (p .last .1 .1 .1 .1 .0) (p .last .1 .1 .1 .1 .1 .0) libraryMost (fits-of d) (a .text .now) (p .result) (planned d) _ _ (c .before .place .given .1))
+
 same-length-15 : tie.Need-same-length-15
 same-length-15 c = search needs
 
-returns-2 : tie.Need-returns-2
-returns-2 c =
+same-length-16 : tie.Need-same-length-16
+same-length-16 c = search needs
+
+same-length-17 : tie.Need-same-length-17
+same-length-17 c = search needs
+
+same-length-18 : tie.Need-same-length-18
+same-length-18 c = search needs
+
+same-length-19 : tie.Need-same-length-19
+same-length-19 c = search needs
+
+same-length-20 : tie.Need-same-length-20
+same-length-20 c = search needs
+
+same-length-21 : tie.Need-same-length-21
+same-length-21 c = search needs
+
+same-length-22 : tie.Need-same-length-22
+same-length-22 c = search needs
+
+returns-3 : tie.Need-returns-3
+returns-3 c =
     let w = c .before .before in
-    let d = text-planned w in
+    let d = planned-at w in
     let a = start d .args in
     let t = told w in
     let b = t .onBoard in
@@ -147,6 +181,7 @@ plan-bus-spec =
     library-most-requires
     plan-text-requires
     enum-known-number
+    enum-known-place
     enum-known-counts
     write-pages-requires
     same-length
@@ -164,5 +199,13 @@ plan-bus-spec =
     same-length-12
     same-length-13
     same-length-14
+    returns-2
     same-length-15
-    returns-2)
+    same-length-16
+    same-length-17
+    same-length-18
+    same-length-19
+    same-length-20
+    same-length-21
+    same-length-22
+    returns-3)

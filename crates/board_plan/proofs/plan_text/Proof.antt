@@ -1,20 +1,70 @@
+use native.Mathlib.Omega.{arith}
+use mathlib.Core.Path.{_≡_, refl, sym, ap, _∙_}
 use borrow.Author.Needs.{needs}
-use Rattle.board_plan.specs.TextPlan.{fitsLent}
-use Rattle.board_plan.proofs.Surveying.{text-planned}
+use Prim.Native.Nat.{ℕ, _≤_}
+use lib.ListN.{replicate}
+use Rattle.board.specs.Board.{Board}
+use Rattle.board.specs.Walk.{Fresh}
+use Rattle.board.proofs.Faults.{fresh-zeros}
+use Rattle.board_plan.specs.TextPlan.{BoardChecked, fitsLent}
+use Rattle.board_plan.proofs.Reading.{fitting-refused, board-refused, board-fine}
 use Rattle.board_plan.proofs.plan_text.Statement.{statement}
 use Rattle.board_plan.proofs.plan_text.Tie as tie
+use Rattle.board_plan.proofs.plan_text.Reads as reads
+use Rattle.board_plan.proofs.plan_text.Lts as lts
+use Rattle.board.proofs.refusals.check_board.Reads as check-board-reads
+use Rattle.board_plan.proofs.plan_fitting.Reads as plan-fitting-reads
 
-survey-text-requires : tie.Need-survey-text-requires
-survey-text-requires c κs = search needs
+abbrev start : tie.After-plan-fitting-arg7 → tie.Start
+start c = c .before .before .before .before .before .before .before .before .before .before .before .before .before .before .before .before .before .before .before .before .before
 
-refuse-crowded-requires : tie.Need-refuse-crowded-requires
-refuse-crowded-requires c κs = search needs
+abbrev checking : tie.After-plan-fitting-arg7 → tie.After-check-board
+checking c = c .before .before .before .before .before .before .before .before .before .before .before .before .before .before .before
+
+checked : (c : tie.After-plan-fitting-arg7) → let d = checking c .check-board in (b : Board) × BoardChecked b (start c .args .asked .most) (start c .args .text .now) (c .before .before .before .before .before .before .before .before .before .before .counts .given .0 .0) (d .last .1 .1 .0) (d .last .1 .1 .1 .1 .0)
+checked c =
+    let d = checking c .check-board in
+    board-fine (start c .args .asked .most) (start c .args .text .now) (d .last .1 .1 .0) (d .last .1 .1 .1 .0) (d .last .1 .1 .1 .1 .0) (c .before .before .before .before .before .before .before .before .before .before .counts .given .0 .0) (start c .pre .1) (sym (c .before .before .before .before .before .before .before .before .before .before .counts .given .1) ∙ d .ensures .0) (d .ensures .1)
+
+slice-aggregate-check-board : tie.Need-slice-aggregate-check-board
+slice-aggregate-check-board c = search needs
+
+slice-aggregate-check-board-2 : tie.Need-slice-aggregate-check-board-2
+slice-aggregate-check-board-2 c = search needs
+
+slice-aggregate-check-board-3 : tie.Need-slice-aggregate-check-board-3
+slice-aggregate-check-board-3 c = search needs
+
+check-board-requires : tie.Need-check-board-requires
+check-board-requires c κs =
+    let fresh : (most : ℕ) → most ≤ 4096 → Fresh (replicate 4096 (replicate {A = ℕ} 3 0)) most = λ most h. fresh-zeros 4096 3 most h (omega arith) in
+    (c .before .before .before .before .before .pre .1, (fresh 4096 (omega arith), (fresh 256 (omega arith), fresh 4096 (omega arith))))
+
+enum-known-number : tie.Need-enum-known-number
+enum-known-number c = search needs
+
+enum-known-counts : tie.Need-enum-known-counts
+enum-known-counts c = search needs
+
+slice-aggregate-plan-fitting : tie.Need-slice-aggregate-plan-fitting
+slice-aggregate-plan-fitting c = search needs
+
+slice-aggregate-plan-fitting-2 : tie.Need-slice-aggregate-plan-fitting-2
+slice-aggregate-plan-fitting-2 c = search needs
+
+plan-fitting-requires : tie.Need-plan-fitting-requires
+plan-fitting-requires c κs = (start c .pre .0, (start c .pre .1, checked c))
+
+returns : tie.Need-returns
+returns c =
+    let s = c .before .before .before .before .before .before .before .before .before .before .before .before in
+    rw (fitting-refused (s .args .asked .most) (s .args .text .now) (fitsLent (s .args .asked .lent)) _ _ (board-refused (s .args .asked .most) (s .args .text .now) _ _ (sym (c .before .number .given .1) ∙ c .before .before .before .before .before .before .check-board .ensures .0))) refl
 
 same-length : tie.Need-same-length
 same-length c = search needs
 
 same-length-2 : tie.Need-same-length-2
-same-length-2 c = search needs
+same-length-2 c = c .before .before .before .before .before .before .before .plan-fitting .kept .1 .1 .1 .1 .1 .1 .0
 
 same-length-3 : tie.Need-same-length-3
 same-length-3 c = search needs
@@ -31,18 +81,23 @@ same-length-6 c = search needs
 same-length-7 : tie.Need-same-length-7
 same-length-7 c = search needs
 
-returns : tie.Need-returns
-returns c =
-    let s = c .before .before .before .before .before .before .before .before .before .before .before .before .before .before .before .before .before in
-    let d = c .before .before .before .before .before .before .before .before .survey-text in
-    text-planned (d .last .1 .1 .0) (d .last .1 .1 .1 .0) (d .last .1 .1 .1 .1 .0) (d .last .1 .1 .1 .1 .1 .0) (s .args .asked .most) (fitsLent (s .args .asked .lent)) (s .args .text .now) (d .result) (c .refuse-crowded .result) (d .ensures) (c .refuse-crowded .ensures)
+returns-2 : tie.Need-returns-2
+returns-2 c = c .before .before .before .before .before .before .before .plan-fitting .ensures
 
 pub plan-text-spec : {M : Type 1} → statement M
 plan-text-spec =
     tie.close
     (tie.spec
-    survey-text-requires
-    refuse-crowded-requires
+    slice-aggregate-check-board
+    slice-aggregate-check-board-2
+    slice-aggregate-check-board-3
+    check-board-requires
+    enum-known-number
+    enum-known-counts
+    slice-aggregate-plan-fitting
+    slice-aggregate-plan-fitting-2
+    plan-fitting-requires
+    returns
     same-length
     same-length-2
     same-length-3
@@ -50,4 +105,4 @@ plan-text-spec =
     same-length-5
     same-length-6
     same-length-7
-    returns)
+    returns-2)

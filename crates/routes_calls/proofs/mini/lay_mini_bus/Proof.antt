@@ -24,7 +24,7 @@ use Rattle.routes_calls.proofs.mini.lay_mini_bus.Tie as tie
 use Rattle.routes_calls.proofs.mini.lay_mini_bus.Reads as reads
 use Rattle.routes_calls.proofs.mini.lay_mini_bus.Lts as lts
 use Rattle.board_plan.proofs.shortest_of.Reads as shortest-of-reads
-use Rattle.board_plan.proofs.survey_text.Reads as survey-text-reads
+use Rattle.board_plan.proofs.plan_text.Reads as plan-text-reads
 use Rattle.routes_calls.proofs.mini.held_fits.Reads as held-fits-reads
 use Rattle.routes_calls.proofs.mini.refuse_crowded.Reads as refuse-crowded-reads
 use Rattle.routes_calls.proofs.mini.turn_held.Reads as turn-held-reads
@@ -37,33 +37,33 @@ Work s n = let a = s .args in WorkRoom n (a .records .now) (a .facts .now) (a .t
 work : (s : tie.Start) (n : ℕ) → n ≡ shortest (workRows (s .args .records .now) (s .args .facts .now) (s .args .taps .now) (s .args .groups .now) (s .args .demands .now) (s .args .keys .now) (s .args .marks .now)) → Work s n
 work s n e = let a = s .args in work-room n (a .records .now) (a .facts .now) (a .taps .now) (a .groups .now) (a .demands .now) (a .keys .now) (a .marks .now) e
 
-abbrev start : tie.After-survey-text → tie.Start
+abbrev start : tie.After-plan-text → tie.Start
 start d = d .before .before .before .before .before .before .before .before .before .before .before
 
-abbrev fits-of : tie.After-survey-text → Board → Bool
+abbrev fits-of : tie.After-plan-text → Board → Bool
 fits-of d = let a = start d .args in fitsLent (lentWith (length (a .rerouters .now)) (length (a .bus-wires .now)) (length (a .ports .now)) (d .before .before .before .before .before .before .before .before .before .shortest-of .result))
 
-abbrev judged-of : tie.After-survey-text → Judged
+abbrev judged-of : tie.After-plan-text → Judged
 judged-of d = fitting (d .before .before .before .before .before .before .before .before .library-most .result) (fits-of d) (start d .args .text .now)
 
 -- The call by the lengths that are lent.
-call-is : (d : tie.After-survey-text)
+call-is : (d : tie.After-plan-text)
     → miniBy (start d .args .rerouters .now) (start d .args .bus-wires .now) (start d .args .ports .now) (start d .args .held) (planning (d .before .before .before .before .before .before .before .before .library-most .result) (miniFits (start d .args .rerouters .now) (start d .args .bus-wires .now) (start d .args .ports .now) (start d .args .held) (fits-of d)) (start d .args .text .now))
     ≡ miniCall (start d .args .text .now) (busFits (length (start d .args .rerouters .now)) (length (start d .args .bus-wires .now)) (length (start d .args .ports .now)) (workRows (start d .args .records .now) (start d .args .facts .now) (start d .args .taps .now) (start d .args .groups .now) (start d .args .demands .now) (start d .args .keys .now) (start d .args .marks .now))) (start d .args .rerouters .now) (start d .args .bus-wires .now) (start d .args .ports .now) (start d .args .held)
 call-is d =
     let a = start d .args in
     mini-called (a .text .now) _ (d .before .before .before .before .before .before .before .before .library-most .ensures) (length (a .rerouters .now)) (length (a .bus-wires .now)) (length (a .ports .now)) (d .before .before .before .before .before .before .before .before .before .shortest-of .result) _ (d .before .before .before .before .before .before .before .before .before .shortest-of .ensures) (a .rerouters .now) (a .bus-wires .now) (a .ports .now) (a .held)
 
-abbrev Told : tie.After-survey-text → Counts → Planned → Type 0
-Told d = let p = d .survey-text in BoardTold (p .last .1 .1 .0) (p .last .1 .1 .1 .0) (p .last .1 .1 .1 .1 .0) (p .last .1 .1 .1 .1 .1 .0) (judged-of d)
+abbrev Told : tie.After-plan-text → Counts → Planned → Type 0
+Told d = let p = d .plan-text in BoardTold (p .last .1 .1 .0) (p .last .1 .1 .1 .0) (p .last .1 .1 .1 .1 .0) (p .last .1 .1 .1 .1 .1 .0) (judged-of d)
 
 -- The board that is told is ready for the corner pass.
-ready : (d : tie.After-survey-text) (c : Counts) (q : Planned) (t : Told d c q)
-    → HeldReady (t .onBoard) (d .survey-text .last .1 .1 .0) c (d .survey-text .last .1 .1 .1 .0) (start d .args .rerouters .now) (start d .args .bus-wires .now) (start d .args .ports .now) (d .survey-text .last .1 .1 .1 .1 .1 .1 .0) (d .survey-text .last .1 .1 .1 .1 .1 .1 .1 .1 .0)
+ready : (d : tie.After-plan-text) (c : Counts) (q : Planned) (t : Told d c q)
+    → HeldReady (t .onBoard) (d .plan-text .last .1 .1 .0) c (d .plan-text .last .1 .1 .1 .0) (start d .args .rerouters .now) (start d .args .bus-wires .now) (start d .args .ports .now) (d .plan-text .last .1 .1 .1 .1 .1 .1 .0) (d .plan-text .last .1 .1 .1 .1 .1 .1 .1 .1 .0)
 ready d c q t =
     let s = start d in
     let a = s .args in
-    let p = d .survey-text in
+    let p = d .plan-text in
     let w = work s (d .before .before .before .before .before .before .before .before .before .shortest-of .result) (d .before .before .before .before .before .before .before .before .before .shortest-of .ensures) in
     let tw = w .twice in
     let fs = w .lent .facts-lent in
@@ -75,17 +75,17 @@ ready d c q t =
     (t .onBoard) (t .is) (p .last .1 .1 .0) (p .last .1 .1 .1 .0) (t .facts) c (t .counted) (a .rerouters .now) (a .bus-wires .now) (a .ports .now) (p .last .1 .1 .1 .1 .1 .1 .0) (p .last .1 .1 .1 .1 .1 .1 .1 .1 .0)
     (record { marks-lent = omega arith; rerouters-lent = omega arith; wires-lent = omega arith; ports-lent = omega arith }) (omega arith) (omega arith)
 
-abbrev crowded-text : tie.After-held-fits-arg5 → tie.After-survey-text
+abbrev crowded-text : tie.After-held-fits-arg5 → tie.After-plan-text
 crowded-text c = c .before .before .before .before .before .before .before .before .before .before .before .before .before .before .before
 
 crowd : (c : tie.After-held-fits-arg5) → (p : ℕ) × (c .before .before .before .before .before .before .counts .given .0 .1 .0 ≡ suc p) × Told (crowded-text c) (c .before .before .before .before .before .before .counts .given .0 .0) (crowded p)
-crowd c = let d = crowded-text c in let p = d .survey-text in survey-crowd (p .last .1 .1 .0) (p .last .1 .1 .1 .0) (p .last .1 .1 .1 .1 .0) (p .last .1 .1 .1 .1 .1 .0) (judged-of d) (p .result) _ _ (p .ensures) (c .before .before .before .before .before .before .counts .given .1)
+crowd c = let d = crowded-text c in let p = d .plan-text in survey-crowd (p .last .1 .1 .0) (p .last .1 .1 .1 .0) (p .last .1 .1 .1 .1 .0) (p .last .1 .1 .1 .1 .1 .0) (judged-of d) (p .result) _ _ (p .ensures) (c .before .before .before .before .before .before .counts .given .1)
 
-abbrev laned-text : tie.After-turn-held-arg7 → tie.After-survey-text
+abbrev laned-text : tie.After-turn-held-arg7 → tie.After-plan-text
 laned-text c = c .before .before .before .before .before .before .before .before .before .before .before .before .before .before .before .before .before
 
 lanes : (c : tie.After-turn-held-arg7) → (ps : List PageLanes) × Told (laned-text c) (c .before .before .before .before .before .before .before .before .counts2 .given .0 .0) (planned ps)
-lanes c = let d = laned-text c in let p = d .survey-text in survey-lanes (p .last .1 .1 .0) (p .last .1 .1 .1 .0) (p .last .1 .1 .1 .1 .0) (p .last .1 .1 .1 .1 .1 .0) (judged-of d) (p .result) _ _ (p .ensures) (c .before .before .before .before .before .before .before .before .counts2 .given .1)
+lanes c = let d = laned-text c in let p = d .plan-text in survey-lanes (p .last .1 .1 .0) (p .last .1 .1 .1 .0) (p .last .1 .1 .1 .1 .0) (p .last .1 .1 .1 .1 .1 .0) (judged-of d) (p .result) _ _ (p .ensures) (c .before .before .before .before .before .before .before .before .counts2 .given .1)
 
 shortest-of-requires : tie.Need-shortest-of-requires
 shortest-of-requires c κs = search needs
@@ -93,8 +93,8 @@ shortest-of-requires c κs = search needs
 library-most-requires : tie.Need-library-most-requires
 library-most-requires c κs = search needs
 
-survey-text-requires : tie.Need-survey-text-requires
-survey-text-requires c κs =
+plan-text-requires : tie.Need-plan-text-requires
+plan-text-requires c κs =
     let s = c .before .before .before .before .before .before .before .before .before .before in
     let n = c .before .before .before .before .before .before .before .before .shortest-of in
     (work s (n .result) (n .ensures) .lent, subst (λ (m : Counts). WithinLibrary m) (sym (c .before .before .before .before .before .before .before .library-most .ensures)) within-library)
@@ -141,7 +141,7 @@ same-length-7 c = search needs
 returns : tie.Need-returns
 returns c =
     let d = c .before .before .before .before .before .before .before .before .before .before in
-    let p = d .survey-text in
+    let p = d .plan-text in
     let a = start d .args in
     let is = survey-refusal (p .last .1 .1 .0) (p .last .1 .1 .1 .0) (p .last .1 .1 .1 .1 .0) (p .last .1 .1 .1 .1 .1 .0) (judged-of d) (p .result) _ _ (p .ensures) (c .before .number .given .1) in
     called-same (call-is d)
@@ -233,7 +233,7 @@ lay-mini-bus-spec =
     (tie.spec
     shortest-of-requires
     library-most-requires
-    survey-text-requires
+    plan-text-requires
     enum-known-number
     enum-known-counts
     held-fits-requires

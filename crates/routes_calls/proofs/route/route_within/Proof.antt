@@ -9,7 +9,8 @@ use Rattle.board.specs.Planning.{Planning, planning}
 use Rattle.board.proofs.Planning.{lanes-from}
 use Rattle.board_plan.specs.TextPlan.{fitsLent}
 use Rattle.board_plan.proofs.Planned.{planned-counts}
-use Rattle.board_plan.proofs.Calling.{LanesTold, text-refusal, text-lanes, pages-ready}
+use Rattle.board_plan.proofs.Surveying.{LanesTold, text-refusal, text-crowded, text-lanes}
+use Rattle.board_plan.proofs.Calling.{pages-ready}
 use Rattle.routes_gutter.specs.Bus.{RowsReady, BusStands}
 use Rattle.routes_gutter.proofs.Planned.{work-again, rows-ready}
 use Rattle.routes.specs.Plan.{busOf, laidGroups}
@@ -35,7 +36,7 @@ abbrev planned : tie.After-lay-and-settle-arg10 → tie.After-plan-text
 planned c = c .before .before .before .before .before .before .before .before .before .before .before .before .before .before .before .before .before .before .before .before
 
 told : (c : tie.After-lay-and-settle-arg10) → LanesTold (planned c .plan-text .last .1 .1 .0) (planned c .plan-text .last .1 .1 .1 .0) (planned c .plan-text .last .1 .1 .1 .1 .0) (planned c .plan-text .last .1 .1 .1 .1 .1 .0) (plan-of (planned c)) (c .before .before .before .before .before .before .before .before .before .before .before .counts .given .0 .0) (c .before .before .before .before .before .before .before .before .before .before .before .counts .given .0 .1 .0)
-told c = let d = planned c in let p = d .plan-text in text-lanes (p .last .1 .1 .0) (p .last .1 .1 .1 .0) (p .last .1 .1 .1 .1 .0) (p .last .1 .1 .1 .1 .1 .0) (plan-of d) (p .result) _ _ (p .ensures) (c .before .before .before .before .before .before .before .before .before .before .before .counts .given .1)
+told c = let d = planned c in let p = d .plan-text in let a = start d .args in text-lanes (p .last .1 .1 .0) (p .last .1 .1 .1 .0) (p .last .1 .1 .1 .1 .0) (p .last .1 .1 .1 .1 .1 .0) _ (fitsLent (a .asked .lent)) (a .text .now) (p .result) (p .ensures) _ _ (c .before .before .before .before .before .before .before .before .before .before .before .counts .given .1)
 
 abbrev Ready : tie.After-lay-and-settle-arg10 → Type 0
 Ready c =
@@ -96,6 +97,9 @@ plan-text-requires c κs = search needs
 enum-known-number : tie.Need-enum-known-number
 enum-known-number c = search needs
 
+enum-known-place : tie.Need-enum-known-place
+enum-known-place c = search needs
+
 enum-known-counts : tie.Need-enum-known-counts
 enum-known-counts c = search needs
 
@@ -144,7 +148,7 @@ returns c =
     let d = c .before .before .before .before .before .before .before .before .before .before in
     let p = d .plan-text in
     let a = start d .args in
-    plan-refused (plan-of d) (a .rerouters .now) (a .bus-wires .now) (a .ports .now) (a .answers .now) _ _ (text-refusal (p .last .1 .1 .0) (p .last .1 .1 .1 .0) (p .last .1 .1 .1 .1 .0) (p .last .1 .1 .1 .1 .1 .0) (plan-of d) (p .result) _ _ (p .ensures) (c .before .number .given .1))
+    plan-refused (plan-of d) (a .rerouters .now) (a .bus-wires .now) (a .ports .now) (a .answers .now) _ _ (text-refusal (p .last .1 .1 .0) (p .last .1 .1 .1 .0) (p .last .1 .1 .1 .1 .0) (p .last .1 .1 .1 .1 .1 .0) _ (fitsLent (a .asked .lent)) (a .text .now) (p .result) (p .ensures) _ _ (c .before .number .given .1))
 
 same-length-8 : tie.Need-same-length-8
 same-length-8 c = search needs
@@ -159,28 +163,56 @@ same-length-11 : tie.Need-same-length-11
 same-length-11 c = search needs
 
 same-length-12 : tie.Need-same-length-12
-same-length-12 c = c .before .before .before .before .before .before .before .before .before .before .before .before .before .before .before .before .before .before .before .before .before .before .before .before .before .before .before .before .before .before .before .before .before .before .before .before .before .before .before .before .before .before .before .before .before .plan-text .kept .1 .1 .0
+same-length-12 c = search needs
 
 same-length-13 : tie.Need-same-length-13
-same-length-13 c = c .before .before .before .before .before .before .before .before .before .before .before .before .before .before .before .before .before .before .before .before .before .before .before .before .before .before .before .before .before .before .before .before .before .before .before .before .before .before .before .before .before .before .before .before .before .plan-text .kept .1 .1 .1 .0
+same-length-13 c = search needs
 
 same-length-14 : tie.Need-same-length-14
-same-length-14 c = c .before .before .before .before .before .before .before .before .before .before .before .before .before .before .before .before .before .before .before .before .before .before .before .before .before .before .before .before .before .before .before .before .before .before .before .before .before .before .before .before .before .before .before .before .before .plan-text .kept .1 .1 .1 .1 .0
-
-same-length-15 : tie.Need-same-length-15
-same-length-15 c = c .before .before .before .before .before .before .before .before .before .before .before .before .before .before .before .before .before .before .before .before .before .before .before .before .before .before .before .before .before .before .before .before .before .before .before .before .before .before .before .before .before .before .before .before .before .plan-text .kept .1 .1 .1 .1 .1 .0
-
-same-length-16 : tie.Need-same-length-16
-same-length-16 c = c .before .before .before .before .before .before .before .before .before .turn-and-settle .kept .1 .1 .1 .1 .1 .1 .1 .0 ∙ c .before .before .before .before .before .before .before .before .before .before .before .before .before .before .before .before .before .before .before .before .before .before .before .before .lay-and-settle .kept .1 .1 .1 .1 .1 .1 .0 ∙ c .before .before .before .before .before .before .before .before .before .before .before .before .before .before .before .before .before .before .before .before .before .before .before .before .before .before .before .before .before .before .before .before .before .before .before .before .before .before .before .before .before .before .before .before .before .plan-text .kept .1 .1 .1 .1 .1 .1 .0
-
-same-length-17 : tie.Need-same-length-17
-same-length-17 c = c .before .before .before .before .before .before .before .before .before .before .before .before .before .before .before .before .before .before .before .before .before .before .before .before .lay-and-settle .kept .1 .1 .1 .1 .1 .1 .1 .0 ∙ c .before .before .before .before .before .before .before .before .before .before .before .before .before .before .before .before .before .before .before .before .before .before .before .before .before .before .before .before .before .before .before .before .before .before .before .before .before .before .before .before .before .before .before .before .before .plan-text .kept .1 .1 .1 .1 .1 .1 .1 .0
-
-same-length-18 : tie.Need-same-length-18
-same-length-18 c = c .before .before .before .before .before .before .before .before .before .turn-and-settle .kept .1 .1 .1 .1 .1 .1 .1 .1 .0 ∙ c .before .before .before .before .before .before .before .before .before .before .before .before .before .before .before .before .before .before .before .before .before .before .before .before .lay-and-settle .kept .1 .1 .1 .1 .1 .1 .1 .1 .0 ∙ c .before .before .before .before .before .before .before .before .before .before .before .before .before .before .before .before .before .before .before .before .before .before .before .before .before .before .before .before .before .before .before .before .before .before .before .before .before .before .before .before .before .before .before .before .before .plan-text .kept .1 .1 .1 .1 .1 .1 .1 .1 .0
+same-length-14 c = search needs
 
 returns-2 : tie.Need-returns-2
 returns-2 c =
+    let d = c .before .before .before .before .before .before .before .before .before .before in
+    let p = d .plan-text in
+    let a = start d .args in
+    plan-refused (plan-of d) (a .rerouters .now) (a .bus-wires .now) (a .ports .now) (a .answers .now) _ _ (text-crowded (p .last .1 .1 .0) (p .last .1 .1 .1 .0) (p .last .1 .1 .1 .1 .0) (p .last .1 .1 .1 .1 .1 .0) _ (fitsLent (a .asked .lent)) (a .text .now) (p .result) (p .ensures) _ _ (c .before .place .given .1))
+
+same-length-15 : tie.Need-same-length-15
+same-length-15 c = search needs
+
+same-length-16 : tie.Need-same-length-16
+same-length-16 c = search needs
+
+same-length-17 : tie.Need-same-length-17
+same-length-17 c = search needs
+
+same-length-18 : tie.Need-same-length-18
+same-length-18 c = search needs
+
+same-length-19 : tie.Need-same-length-19
+same-length-19 c = c .before .before .before .before .before .before .before .before .before .before .before .before .before .before .before .before .before .before .before .before .before .before .before .before .before .before .before .before .before .before .before .before .before .before .before .before .before .before .before .before .before .before .before .before .before .plan-text .kept .1 .1 .0
+
+same-length-20 : tie.Need-same-length-20
+same-length-20 c = c .before .before .before .before .before .before .before .before .before .before .before .before .before .before .before .before .before .before .before .before .before .before .before .before .before .before .before .before .before .before .before .before .before .before .before .before .before .before .before .before .before .before .before .before .before .plan-text .kept .1 .1 .1 .0
+
+same-length-21 : tie.Need-same-length-21
+same-length-21 c = c .before .before .before .before .before .before .before .before .before .before .before .before .before .before .before .before .before .before .before .before .before .before .before .before .before .before .before .before .before .before .before .before .before .before .before .before .before .before .before .before .before .before .before .before .before .plan-text .kept .1 .1 .1 .1 .0
+
+same-length-22 : tie.Need-same-length-22
+same-length-22 c = c .before .before .before .before .before .before .before .before .before .before .before .before .before .before .before .before .before .before .before .before .before .before .before .before .before .before .before .before .before .before .before .before .before .before .before .before .before .before .before .before .before .before .before .before .before .plan-text .kept .1 .1 .1 .1 .1 .0
+
+same-length-23 : tie.Need-same-length-23
+same-length-23 c = c .before .before .before .before .before .before .before .before .before .turn-and-settle .kept .1 .1 .1 .1 .1 .1 .1 .0 ∙ c .before .before .before .before .before .before .before .before .before .before .before .before .before .before .before .before .before .before .before .before .before .before .before .before .lay-and-settle .kept .1 .1 .1 .1 .1 .1 .0 ∙ c .before .before .before .before .before .before .before .before .before .before .before .before .before .before .before .before .before .before .before .before .before .before .before .before .before .before .before .before .before .before .before .before .before .before .before .before .before .before .before .before .before .before .before .before .before .plan-text .kept .1 .1 .1 .1 .1 .1 .0
+
+same-length-24 : tie.Need-same-length-24
+same-length-24 c = c .before .before .before .before .before .before .before .before .before .before .before .before .before .before .before .before .before .before .before .before .before .before .before .before .lay-and-settle .kept .1 .1 .1 .1 .1 .1 .1 .0 ∙ c .before .before .before .before .before .before .before .before .before .before .before .before .before .before .before .before .before .before .before .before .before .before .before .before .before .before .before .before .before .before .before .before .before .before .before .before .before .before .before .before .before .before .before .before .before .plan-text .kept .1 .1 .1 .1 .1 .1 .1 .0
+
+same-length-25 : tie.Need-same-length-25
+same-length-25 c = c .before .before .before .before .before .before .before .before .before .turn-and-settle .kept .1 .1 .1 .1 .1 .1 .1 .1 .0 ∙ c .before .before .before .before .before .before .before .before .before .before .before .before .before .before .before .before .before .before .before .before .before .before .before .before .lay-and-settle .kept .1 .1 .1 .1 .1 .1 .1 .1 .0 ∙ c .before .before .before .before .before .before .before .before .before .before .before .before .before .before .before .before .before .before .before .before .before .before .before .before .before .before .before .before .before .before .before .before .before .before .before .before .before .before .before .before .before .before .before .before .before .plan-text .kept .1 .1 .1 .1 .1 .1 .1 .1 .0
+
+returns-3 : tie.Need-returns-3
+returns-3 c =
     let f = c .before .before .before .before .before .before .before .before .before .before in
     let e = laying f in
     let p = planned e .plan-text in
@@ -202,6 +234,7 @@ route-within-spec =
     (tie.spec
     plan-text-requires
     enum-known-number
+    enum-known-place
     enum-known-counts
     lay-and-settle-requires
     turn-and-settle-requires
@@ -221,8 +254,16 @@ route-within-spec =
     same-length-12
     same-length-13
     same-length-14
+    returns-2
     same-length-15
     same-length-16
     same-length-17
     same-length-18
-    returns-2)
+    same-length-19
+    same-length-20
+    same-length-21
+    same-length-22
+    same-length-23
+    same-length-24
+    same-length-25
+    returns-3)

@@ -4,11 +4,16 @@ use native.Mathlib.Omega.{arith}
 use mathlib.Core.Path.{_≡_, sym, _∙_, subst}
 use lib.ListN.{length}
 use Rattle.sheet.specs.declared.Counts.{Counts}
-use Rattle.board.specs.Planning.{Planning, planning}
+use mathlib.Core.Bool.{Bool}
+use Rattle.board.specs.Board.{Board}
+use Rattle.board.specs.Planning.{Planning, refused, planning}
 use Rattle.board.specs.Walk.{WithinLibrary}
 use Rattle.board_plan.specs.TextPlan.{fitsLent, shortest, workRows}
-use Rattle.board_plan.proofs.Calling.{within-library, WorkRoom, work-room, LanesTold, text-refusal, text-lanes}
+use Rattle.board_plan.proofs.Calling.{within-library, WorkRoom, work-room}
+use Rattle.board_plan.proofs.Surveying.{LanesTold, text-refusal, text-crowded, text-lanes}
 use Rattle.routes_gutter.specs.Bus.{RowsReady}
+use Rattle.routes_gutter.specs.Calls.{busFits, layCall, BusCalled}
+use Rattle.routes_gutter.specs.declared.bus.BusPlan.the-variants.{Refused}
 use Rattle.routes_gutter.proofs.Planned.{work-again, rows-ready, lentWith, lay-refused, lay-done}
 use borrow.Author.Needs.{needs}
 use Rattle.routes_gutter.proofs.bus.lay_bus.Statement.{statement}
@@ -30,16 +35,25 @@ work s n e = let a = s .args in work-room n (a .records .now) (a .facts .now) (a
 abbrev start : tie.After-plan-text → tie.Start
 start d = d .before .before .before .before .before .before .before .before .before .before .before
 
+abbrev fits-of : tie.After-plan-text → Board → Bool
+fits-of d = let a = start d .args in fitsLent (lentWith (length (a .rerouters .now)) (length (a .bus-wires .now)) (length (a .ports .now)) (d .before .before .before .before .before .before .before .before .before .shortest-of .result))
+
 abbrev plan-of : tie.After-plan-text → Planning
-plan-of d =
-    let a = start d .args in
-    planning (d .before .before .before .before .before .before .before .before .library-most .result) (fitsLent (lentWith (length (a .rerouters .now)) (length (a .bus-wires .now)) (length (a .ports .now)) (d .before .before .before .before .before .before .before .before .before .shortest-of .result))) (a .text .now)
+plan-of d = planning (d .before .before .before .before .before .before .before .before .library-most .result) (fits-of d) (start d .args .text .now)
 
 abbrev planned : tie.After-lay-and-settle-arg10 → tie.After-plan-text
 planned c = c .before .before .before .before .before .before .before .before .before .before .before .before .before .before .before .before .before .before .before .before
 
+-- A refusal leaves all as it was.
+refused-by : (d : tie.After-plan-text) (n l : ℕ) → plan-of d ≡ refused n l
+    → let a = start d .args in
+    BusCalled (layCall (a .text .now) (busFits (length (a .rerouters .now)) (length (a .bus-wires .now)) (length (a .ports .now)) (workRows (a .records .now) (a .facts .now) (a .taps .now) (a .groups .now) (a .demands .now) (a .keys .now) (a .marks .now)))) (a .rerouters .now) (a .bus-wires .now) (a .ports .now) (a .rerouters .now) (a .bus-wires .now) (a .ports .now) (Refused n l)
+refused-by d n l e =
+    let a = start d .args in
+    lay-refused (a .text .now) _ (d .before .before .before .before .before .before .before .before .library-most .ensures) (length (a .rerouters .now)) (length (a .bus-wires .now)) (length (a .ports .now)) (d .before .before .before .before .before .before .before .before .before .shortest-of .result) _ (d .before .before .before .before .before .before .before .before .before .shortest-of .ensures) (a .rerouters .now) (a .bus-wires .now) (a .ports .now) n l e
+
 told : (c : tie.After-lay-and-settle-arg10) → LanesTold (planned c .plan-text .last .1 .1 .0) (planned c .plan-text .last .1 .1 .1 .0) (planned c .plan-text .last .1 .1 .1 .1 .0) (planned c .plan-text .last .1 .1 .1 .1 .1 .0) (plan-of (planned c)) (c .before .before .before .before .before .before .before .before .before .before .before .counts .given .0 .0) (c .before .before .before .before .before .before .before .before .before .before .before .counts .given .0 .1 .0)
-told c = let d = planned c in text-lanes (d .plan-text .last .1 .1 .0) (d .plan-text .last .1 .1 .1 .0) (d .plan-text .last .1 .1 .1 .1 .0) (d .plan-text .last .1 .1 .1 .1 .1 .0) (plan-of d) (d .plan-text .result) _ _ (d .plan-text .ensures) (c .before .before .before .before .before .before .before .before .before .before .before .counts .given .1)
+told c = let d = planned c in let p = d .plan-text in text-lanes (p .last .1 .1 .0) (p .last .1 .1 .1 .0) (p .last .1 .1 .1 .1 .0) (p .last .1 .1 .1 .1 .1 .0) _ (fits-of d) (start d .args .text .now) (p .result) (p .ensures) _ _ (c .before .before .before .before .before .before .before .before .before .before .before .counts .given .1)
 
 abbrev Ready : tie.After-lay-and-settle-arg10 → Type 0
 Ready c =
@@ -77,6 +91,9 @@ plan-text-requires c κs =
 enum-known-number : tie.Need-enum-known-number
 enum-known-number c = search needs
 
+enum-known-place : tie.Need-enum-known-place
+enum-known-place c = search needs
+
 enum-known-counts : tie.Need-enum-known-counts
 enum-known-counts c = search needs
 
@@ -106,12 +123,7 @@ same-length-7 : tie.Need-same-length-7
 same-length-7 c = search needs
 
 returns : tie.Need-returns
-returns c =
-    let d = c .before .before .before .before .before .before .before .before .before .before in
-    let s = c .before .before .before .before .before .before .before .before .before .before .before .before .before .before .before .before .before .before .before .before .before in
-    let a = s .args in
-    lay-refused (a .text .now) _ (c .before .before .before .before .before .before .before .before .before .before .before .before .before .before .before .before .before .before .library-most .ensures) (length (a .rerouters .now)) (length (a .bus-wires .now)) (length (a .ports .now)) (c .before .before .before .before .before .before .before .before .before .before .before .before .before .before .before .before .before .before .before .shortest-of .result) _ (c .before .before .before .before .before .before .before .before .before .before .before .before .before .before .before .before .before .before .before .shortest-of .ensures) (a .rerouters .now) (a .bus-wires .now) (a .ports .now) _ _
-    (text-refusal (d .plan-text .last .1 .1 .0) (d .plan-text .last .1 .1 .1 .0) (d .plan-text .last .1 .1 .1 .1 .0) (d .plan-text .last .1 .1 .1 .1 .1 .0) (plan-of d) (d .plan-text .result) _ _ (d .plan-text .ensures) (c .before .number .given .1))
+returns c = refused-by (c .before .before .before .before .before .before .before .before .before .before) _ _ (let d = c .before .before .before .before .before .before .before .before .before .before in let p = d .plan-text in text-refusal (p .last .1 .1 .0) (p .last .1 .1 .1 .0) (p .last .1 .1 .1 .1 .0) (p .last .1 .1 .1 .1 .1 .0) _ (fits-of d) (start d .args .text .now) (p .result) (p .ensures) _ _ (c .before .number .given .1))
 
 same-length-8 : tie.Need-same-length-8
 same-length-8 c = search needs
@@ -123,16 +135,19 @@ same-length-10 : tie.Need-same-length-10
 same-length-10 c = search needs
 
 same-length-11 : tie.Need-same-length-11
-same-length-11 c = c .before .before .before .before .before .before .before .before .before .before .before .before .before .before .before .before .before .before .before .before .before .before .before .before .before .before .before .before .plan-text .kept .1 .1 .0
+same-length-11 c = search needs
 
 same-length-12 : tie.Need-same-length-12
-same-length-12 c = c .before .before .before .before .before .before .before .before .before .before .before .before .before .before .before .before .before .before .before .before .before .before .before .before .before .before .before .before .plan-text .kept .1 .1 .1 .0
+same-length-12 c = search needs
 
 same-length-13 : tie.Need-same-length-13
 same-length-13 c = search needs
 
 same-length-14 : tie.Need-same-length-14
 same-length-14 c = search needs
+
+returns-2 : tie.Need-returns-2
+returns-2 c = refused-by (c .before .before .before .before .before .before .before .before .before .before) _ _ (let d = c .before .before .before .before .before .before .before .before .before .before in let p = d .plan-text in text-crowded (p .last .1 .1 .0) (p .last .1 .1 .1 .0) (p .last .1 .1 .1 .1 .0) (p .last .1 .1 .1 .1 .1 .0) _ (fits-of d) (start d .args .text .now) (p .result) (p .ensures) _ _ (c .before .place .given .1))
 
 same-length-15 : tie.Need-same-length-15
 same-length-15 c = search needs
@@ -143,8 +158,29 @@ same-length-16 c = search needs
 same-length-17 : tie.Need-same-length-17
 same-length-17 c = search needs
 
-returns-2 : tie.Need-returns-2
-returns-2 c =
+same-length-18 : tie.Need-same-length-18
+same-length-18 c = c .before .before .before .before .before .before .before .before .before .before .before .before .before .before .before .before .before .before .before .before .before .before .before .before .before .before .before .before .plan-text .kept .1 .1 .0
+
+same-length-19 : tie.Need-same-length-19
+same-length-19 c = c .before .before .before .before .before .before .before .before .before .before .before .before .before .before .before .before .before .before .before .before .before .before .before .before .before .before .before .before .plan-text .kept .1 .1 .1 .0
+
+same-length-20 : tie.Need-same-length-20
+same-length-20 c = search needs
+
+same-length-21 : tie.Need-same-length-21
+same-length-21 c = search needs
+
+same-length-22 : tie.Need-same-length-22
+same-length-22 c = search needs
+
+same-length-23 : tie.Need-same-length-23
+same-length-23 c = search needs
+
+same-length-24 : tie.Need-same-length-24
+same-length-24 c = search needs
+
+returns-3 : tie.Need-returns-3
+returns-3 c =
     let e = c .before .before .before .before .before .before .before .before in
     let d = c .before .before .before .before .before .before .before .before .before .before .before .before .before .before .before .before .before .before .before .before .before .before .before .before .before .before .before .before in
     let s = c .before .before .before .before .before .before .before .before .before .before .before .before .before .before .before .before .before .before .before .before .before .before .before .before .before .before .before .before .before .before .before .before .before .before .before .before .before .before .before in
@@ -162,6 +198,7 @@ lay-bus-spec =
     library-most-requires
     plan-text-requires
     enum-known-number
+    enum-known-place
     enum-known-counts
     lay-and-settle-requires
     same-length
@@ -179,7 +216,15 @@ lay-bus-spec =
     same-length-12
     same-length-13
     same-length-14
+    returns-2
     same-length-15
     same-length-16
     same-length-17
-    returns-2)
+    same-length-18
+    same-length-19
+    same-length-20
+    same-length-21
+    same-length-22
+    same-length-23
+    same-length-24
+    returns-3)

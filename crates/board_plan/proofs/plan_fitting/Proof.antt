@@ -4,12 +4,12 @@ use borrow.Author.Needs.{needs}
 use borrow.Author.Tests.{not-true, not-false}
 use Rattle.board_plan.specs.TextPlan.{fitsCounts, fitsLent}
 use Rattle.board_plan.proofs.Reading.{counts-few, checked-accepted, fits-counted, fitting-unfit, fitting-fits, fill-asks, board-read}
-use Rattle.board_plan.proofs.survey_fitting.Statement.{statement}
-use Rattle.board_plan.proofs.survey_fitting.Tie as tie
-use Rattle.board_plan.proofs.survey_fitting.Reads as reads
-use Rattle.board_plan.proofs.survey_fitting.Lts as lts
+use Rattle.board_plan.proofs.plan_fitting.Statement.{statement}
+use Rattle.board_plan.proofs.plan_fitting.Tie as tie
+use Rattle.board_plan.proofs.plan_fitting.Reads as reads
+use Rattle.board_plan.proofs.plan_fitting.Lts as lts
 use Rattle.board_plan.proofs.fits.Reads as fits-reads
-use Rattle.board_plan.proofs.survey_rows.Reads as survey-rows-reads
+use Rattle.board_plan.proofs.plan_rows.Reads as plan-rows-reads
 use Rattle.board_plan.proofs.total.Reads as total-reads
 use Rattle.sheet.proofs.fill_rows.Reads as fill-rows-reads
 
@@ -43,8 +43,8 @@ fill-rows-requires c κs =
     let s = start c in
     fill-asks (s .pre .1 .0) (s .pre .1 .1 .1) (s .args .asked .lent) (enough c) (s .args .records .now) (s .pre .0) (c .before .total .result) (c .before .total .ensures)
 
-survey-rows-requires : tie.Need-survey-rows-requires
-survey-rows-requires c κs =
+plan-rows-requires : tie.Need-plan-rows-requires
+plan-rows-requires c κs =
     let f = c .before .before .before .before .before .before .before .before .before in
     let s = start f in
     (s .pre .1 .1 .0, board-read (s .pre .1 .0) (s .pre .1 .1 .1) (s .args .asked .lent) (enough f) (s .args .records .now) (s .pre .0) (f .before .total .result) (c .before .before .before .before .before .before .before .before .fill-rows .last .1 .0) (c .before .before .before .before .before .before .before .before .fill-rows .ensures))
@@ -71,26 +71,26 @@ same-length-7 : tie.Need-same-length-7
 same-length-7 c = search needs
 
 returns-2 : tie.Need-returns-2
-unfolding survey-rows-requires
+unfolding plan-rows-requires
 returns-2 c =
     let d = c .before .before .before .before .before .before .before in
     let f = d .before .before .before .before .before .before .before .before .before in
     let s = start f in
     let b = s .pre .1 .1 in
-    let l = c .before .before .before .before .before .before .survey-rows in
-    let q = survey-rows-requires d (l .lifetimes) in
+    let l = c .before .before .before .before .before .before .plan-rows in
+    let q = plan-rows-requires d (l .lifetimes) in
     rw (fitting-fits (s .args .asked .most) (s .args .text .now) (fitsLent (s .args .asked .lent)) (b .0) (b .1 .fine) (fits-counted (s .args .asked .lent) (b .0) (s .args .counts) true (b .1 .counted) (enough f)))
     (l .ensures (q .0) (q .1))
 
-pub survey-fitting-spec : {M : Type 1} → statement M
-survey-fitting-spec =
+pub plan-fitting-spec : {M : Type 1} → statement M
+plan-fitting-spec =
     tie.close
     (tie.spec
     fits-requires
     returns
     total-requires
     fill-rows-requires
-    survey-rows-requires
+    plan-rows-requires
     same-length
     same-length-2
     same-length-3

@@ -6,10 +6,10 @@ use lib.Seq.{length-take-le}
 use borrow.Author.Needs.{needs}
 use Rattle.board_plan.proofs.Slices.{Slices, slices}
 use Rattle.board_plan.proofs.Planned.{crowded-page, crowded-is, survey-crowded, survey-laned}
-use Rattle.board_plan.proofs.survey_rows.Statement.{statement}
-use Rattle.board_plan.proofs.survey_rows.Tie as tie
-use Rattle.board_plan.proofs.survey_rows.Reads as reads
-use Rattle.board_plan.proofs.survey_rows.Lts as lts
+use Rattle.board_plan.proofs.plan_rows.Statement.{statement}
+use Rattle.board_plan.proofs.plan_rows.Tie as tie
+use Rattle.board_plan.proofs.plan_rows.Reads as reads
+use Rattle.board_plan.proofs.plan_rows.Lts as lts
 use Rattle.board_lanes.proofs.demands.plan_board.Reads as plan-board-reads
 
 known : (s : tie.Start) → Slices (s .pre .0) (s .args .records .now) (s .args .counts)
@@ -163,8 +163,8 @@ returns-2 c =
     let r = c .before .before .before .before .before .before .before .before .plan-board in
     λ b rd. survey-laned (slices b (s .args .records .now) (s .args .counts) (rd .sections) (rd .counted) (rd .accepted)) (r .result) (r .ensures) (rd .sections) (rd .counted) (c .enum-told .given .1)
 
-pub survey-rows-spec : {M : Type 1} → statement M
-survey-rows-spec =
+pub plan-rows-spec : {M : Type 1} → statement M
+plan-rows-spec =
     tie.close
     (tie.spec
     add-chips
