@@ -3,43 +3,15 @@ use Prim.Native.Nat.{ℕ, suc, _+_, _≤_}
 use native.Mathlib.Omega.{arith}
 use mathlib.Core.Path.{_≡_, refl, sym, ap, _∙_}
 use mathlib.Core.Logic.{_⊎_, inl, inr}
-use mathlib.Core.Bool.{Bool, true, false, _&&_, _||_}
+use mathlib.Core.Bool.{Bool, true, false, _&&_}
 use mathlib.Core.List.{List, [], _∷_, map, reverse, reverseAux, List·Memᴰ, List·Memᴰ·head, List·Memᴰ·tail, List·Memᴰ·cases-cons, List·Memᴰ·not-nil}
 use lib.Dec.{eqb}
 use lib.ListN.{length}
 use borrow.Author.Tests.{eqb-true}
 use Rattle.base.specs.Sort.{inserted, sorted}
+use Rattle.base.proofs.Bools.{clash, and-left, and-right, or-left, or-right, neither}
 use Rattle.base.proofs.SortLaws.{Order}
 use Rattle.base.specs.Lists.{Found, none, at, any, keep}
-
--- What `cc` shows of equations that exclude one another.
-pub never : {C : Type 0} → _≡_ {A = ℕ} 0 1 → C
-never h = absurd (omega arith)
-
-pub clash : {C : Type 0} {t : Bool} → t ≡ true → t ≡ false → C
-clash p q = never cc
-
-pub and-left : (a b : Bool) → (a && b) ≡ true → a ≡ true
-and-left true b h = refl
-and-left false b h = h
-
-pub and-right : (a b : Bool) → (a && b) ≡ true → b ≡ true
-and-right true b h = h
-and-right false b h = clash h refl
-
-pub both : (a b : Bool) → a ≡ true → b ≡ true → (a && b) ≡ true
-both a b p q = rw (p, q)
-
-pub or-left : (a b : Bool) → (a || b) ≡ false → a ≡ false
-or-left true b h = h
-or-left false b h = refl
-
-pub or-right : (a b : Bool) → (a || b) ≡ false → b ≡ false
-or-right true b h = clash refl h
-or-right false b h = h
-
-pub neither : (a b : Bool) → a ≡ false → b ≡ false → (a || b) ≡ false
-neither a b p q = rw (p, q)
 
 pub same-two : (a b c d : ℕ) → (eqb a b && eqb c d) ≡ true → (a ≡ b) × (c ≡ d)
 same-two a b c d h = (eqb-true a b (and-left (eqb a b) (eqb c d) h), eqb-true c d (and-right (eqb a b) (eqb c d) h))

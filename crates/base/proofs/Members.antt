@@ -7,7 +7,8 @@ use mathlib.Core.Bool.{Bool, true, false}
 use mathlib.Core.List.{List, [], _∷_, map, List·Memᴰ as Mem, List·Memᴰ·head as here, List·Memᴰ·tail as there, List·Memᴰ·cases-cons as cases, List·Memᴰ·not-nil as nowhere}
 use lib.ListN.{length, getD}
 use Rattle.base.specs.Sort.{inserted, sorted, lexLess, sortedRows}
-use Rattle.base.proofs.SortLaws.{Order, clash, inserted-past, inserted-here, lex-order}
+use Rattle.base.proofs.Bools.{clash}
+use Rattle.base.proofs.SortLaws.{Order, inserted-past, inserted-here, lex-order}
 use Rattle.base.specs.Lists.{keep, upto}
 
 module _ {A : Type 0} where
@@ -31,7 +32,7 @@ module _ {A : Type 0} where
       go : (t : Bool) → p y ≡ t → (x ≡ y) ⊎ Mem x l → (Mem x l → Mem x (keep p l)) → Mem x (elim t [ true ↦ y ∷ keep p l | false ↦ keep p l ])
       go true e (inl f) ih = here f
       go true e (inr n) ih = there (ih n)
-      go false e (inl f) ih = clash (p y) (subst (λ (z : A). p z ≡ true) f h) e
+      go false e (inl f) ih = clash (subst (λ (z : A). p z ≡ true) f h) e
       go false e (inr n) ih = ih n
 
   pub keep-from : (p : A → Bool) (l : List A) {x : A} → Mem x (keep p l) → Mem x l × (p x ≡ true)
@@ -118,14 +119,14 @@ module _ {A : Type 0} (less : A → A → Bool) where
     not-both x y h = go (less x y) refl
       where
         go : (t : Bool) → less x y ≡ t → t ≡ false
-        go true e = clash (less y y) (o .through y x y h e) (alone y)
+        go true e = clash (o .through y x y h e) (alone y)
         go false e = refl
 
     still-not : (x y z : A) → less y x ≡ false → less z y ≡ false → less z x ≡ false
     still-not x y z h k = go (less z x) refl
       where
         go : (t : Bool) → less z x ≡ t → t ≡ false
-        go true e = clash (less z y) (o .under z y x e h) k
+        go true e = clash (o .under z y x e h) k
         go false e = refl
 
     inserted-ascending : (x : A) (l : List A) → Ascending less l → Ascending less (inserted less x l)

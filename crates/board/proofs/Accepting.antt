@@ -19,7 +19,7 @@ use Rattle.board.specs.Refusals
 use Rattle.board.specs.Refusals.{Judged, board, judged, judgedBoard, idTwice, notThere, pageMissing, unplaced, rowUnplaced, nodeLine, firstLine}
 use Rattle.board.specs.Walk.{WithinLibrary}
 use Rattle.board.specs.Accepted.{COORDINATE_HIGH, Y_LOW, Y_HIGH, Accepted, AcceptedNodes}
-use Rattle.base.proofs.Lists.{never}
+use Rattle.base.proofs.Bools.{never}
 use Rattle.board.proofs.Sections.{Sections, sections}
 
 -- A test that finds nothing fails everywhere.

@@ -11,6 +11,7 @@ use Rattle.board.specs.Refusals.{chipAt}
 use Rattle.board.specs.Groups.{topChip}
 use Rattle.board.specs.Index.{foundOf, link}
 use Rattle.board.specs.declared.ids.Found.the-variants.{At, Nothing}
+use Rattle.base.proofs.Bools.{never}
 use Rattle.board.proofs.Newest.{link-below}
 
 -- A board of these chips and nothing else.
@@ -19,12 +20,12 @@ ofChips chips = record { pages = []; nodes = []; chips = chips; inner = []; exec
 
 -- What the search answers says which record was found.
 pub found-at : (f : Found) (c : ℕ) → At c ≡ foundOf f → f ≡ at c
-found-at none c e = let z : _≡_ {A = ℕ} 0 1 = cc in absurd (omega arith)
+found-at none c e = never cc
 found-at (at d) c e = cc
 
 pub found-none : (f : Found) → Nothing ≡ foundOf f → f ≡ none
 found-none none e = refl
-found-none (at d) e = let z : _≡_ {A = ℕ} 0 1 = cc in absurd (omega arith)
+found-none (at d) e = never cc
 
 module _ (b : Board) where
   -- The top chip, from the record found.

@@ -25,7 +25,8 @@ use Rattle.board.specs.declared.refusals.Fault.the-variants.{Refused, Fi
 use Rattle.board.specs.Walk.{verdictOf, faultOf, lineOr, lineIf, earlier, lineFrom, sheetBoard, isChip, Ids, Entered, Fresh, Ready, Walked}
 use Rattle.board.specs.declared.refusals.Walk.{Walk}
 use Rattle.board.proofs.Sections.{Part, part-at, part-below, Sections, sections}
-use Rattle.board.proofs.Newest.{pick-true, pick-false, newest-same, link-below, column-at, column-length}
+use Rattle.base.proofs.Bools.{never, pick-false}
+use Rattle.board.proofs.Newest.{newest-same, link-below, column-at, column-length}
 
 -- A field, and the test whether it is missing.
 pub given-missing : (v : ℕ) → v ≡ MISSING → given v ≡ false
@@ -40,16 +41,6 @@ not-given v = go (eqb v MISSING)
     go : (t : Bool) → t ≡ not (not t)
     go true = refl
     go false = refl
-
-pub or-left : (s t : Bool) → s ≡ true → (s || t) ≡ true
-or-left s t e = rw e
-
-pub or-right : (s t : Bool) → t ≡ true → (s || t) ≡ true
-or-right true t e = refl
-or-right false t e = e
-
-pub or-none : (s t : Bool) → s ≡ false → t ≡ false → (s || t) ≡ false
-or-none s t e f = rw e f
 
 -- Entries -----------------------------------------------------------------------------------------------------------------------------------
 
@@ -94,7 +85,7 @@ module _ (ids : List (List ℕ)) (n id : ℕ) (ids′ : List (List ℕ)) where
   entered-there e = record { answer = e; added = λ z. absurd (apart z); index = λ z. absurd (apart z) }
     where
       apart : true ≡ false → ⊥
-      apart z = let o : _≡_ {A = ℕ} 0 1 = cc in omega arith
+      apart z = never cc
 
 -- An array of zeros is an index without entries.
 zero-rows : (m k c : ℕ) → field (replicate m (replicate {A = ℕ} k 0)) c 2 ≡ 0
@@ -373,7 +364,7 @@ counting-first : (b : Board) (first : ℕ) (p : ℕ → Bool) (n : ℕ) → Coun
 counting-first b first p n l e = go (oldest p n) (sym (on-line b first p n) ∙ e)
   where
     go : (f : Found) → onLine first f ≡ at l → 0 < l
-    go none q = let z : _≡_ {A = ℕ} 0 1 = cc in absurd (omega arith)
+    go none q = never cc
     go (at k) q = let same : lineFrom first k ≡ l = cc in omega arith
 
 counting-or : (f g : Found) → Counting f → Counting g → Counting (orElse f g)

@@ -2,13 +2,13 @@
 use Prim.Native.Nat.{ℕ, _≤_}
 use mathlib.Core.Path.{_≡_, refl, ap, sym, subst, _∙_}
 use mathlib.Core.List.{List}
-use native.Mathlib.Omega.{arith}
 use lib.ListN.{length}
 use Rattle.sheet.specs.declared.Counts.{Counts}
 use Rattle.sheet.specs.declared.Checked.the-variants.{Refused as NotTaken, Fine as Taken}
 use Rattle.sheet.specs.Table.{libraryMost}
 use Rattle.sheet.specs.Reading.{Reading, refused, rows, reading, rowsFrom}
 use Rattle.sheet.specs.Answer.{countsOf, checkedOf}
+use Rattle.base.proofs.Bools.{never}
 use Rattle.sheet.proofs.Accepted.{accepted}
 use Rattle.sheet.proofs.Walks.{walk-start}
 use Rattle.board.specs.declared.refusals.Fault.the-variants.{Refused, Fine}
@@ -27,14 +27,14 @@ module _ (most : Counts) (text : List ℕ) where
       go : (r : Reading) → NotTaken n l ≡ checkedOf r
           → elim r as (λ x. Judged) [ refused number line ↦ turnedAway number line | rows l ↦ judgedBoard (boardOf l) ] ≡ turnedAway n l
       go (refused n′ l′) q = cc
-      go (rows l′) q = let z : _≡_ {A = ℕ} 0 1 = cc in absurd (omega arith)
+      go (rows l′) q = never cc
 
   sheet-rows : (c : Counts) → Taken c ≡ checkedOf (reading most text) → (reading most text ≡ rows (rowsFrom text)) × (c ≡ countsOf (rowsFrom text))
   unfolding checkedOf
   sheet-rows c e = go (reading most text) refl e
     where
       go : (r : Reading) → reading most text ≡ r → Taken c ≡ checkedOf r → (reading most text ≡ rows (rowsFrom text)) × (c ≡ countsOf (rowsFrom text))
-      go (refused n l) is q = let z : _≡_ {A = ℕ} 0 1 = cc in absurd (omega arith)
+      go (refused n l) is q = never cc
       go (rows l) is q =
           let whole = accepted most text l is .whole in
           let same : c ≡ countsOf l = cc in
@@ -62,7 +62,7 @@ module _ (b : Board) where
     where
       go : (j : Judged) → Refused n l ≡ faultOf j → j ≡ turnedAway n l
       go (turnedAway n′ l′) q = cc
-      go (board b′) q = let z : _≡_ {A = ℕ} 0 1 = cc in absurd (omega arith)
+      go (board b′) q = never cc
 
   pub fault-fine : Fine ≡ faultOf (judgedBoard b) → judgedBoard b ≡ board b
   unfolding judgedBoard
@@ -73,7 +73,7 @@ module _ (b : Board) where
           elim f [ at l ↦ turnedAway 4 l | none ↦ elim g [ at l ↦ turnedAway 5 l | none ↦ elim h [ at l ↦ turnedAway 6 l | none ↦ board b ] ] ]
 
       go : (f g h : Found) → Fine ≡ faultOf (judgedBy f g h) → judgedBy f g h ≡ board b
-      go (at l) g h q = let z : _≡_ {A = ℕ} 0 1 = cc in absurd (omega arith)
-      go none (at l) h q = let z : _≡_ {A = ℕ} 0 1 = cc in absurd (omega arith)
-      go none none (at l) q = let z : _≡_ {A = ℕ} 0 1 = cc in absurd (omega arith)
+      go (at l) g h q = never cc
+      go none (at l) h q = never cc
+      go none none (at l) q = never cc
       go none none none q = refl

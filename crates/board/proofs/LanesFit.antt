@@ -16,7 +16,8 @@ use Rattle.board.specs.Board.{Board, hasGutter}
 use Rattle.board.specs.Rows.{REROUTER_SIZE}
 use Rattle.board.specs.Groups.{Tap, tapsOf, tapsIn}
 use Rattle.board.specs.Demands.{PageLanes, noLanes, laneIn, laneOf, laneY, BUS_BAND_GUTTER, LANE_PITCH, Planned, crowded, planned, planLanes, planUpto, packedOn, groupsOn, demandOf, firstRow, lastRow}
-use Rattle.base.proofs.Lists.{byTest, never}
+use Rattle.base.proofs.Bools.{never}
+use Rattle.base.proofs.Lists.{byTest}
 
 -- A lane's height, without differences.
 height : (low n u : ℕ) → BUS_BAND_GUTTER + LANE_PITCH * laneMost ≤ low → n ≤ laneMost → u < n

@@ -11,14 +11,7 @@ use borrow.Author.Tests.{eq-eqb, ne-eqb, eqb-true, eqb-false}
 use Rattle.base.specs.Lists.{Found, none, at, newest}
 use Rattle.board.specs.Index.{Chained, link, Index, BUCKETS, bucketOf, column}
 use Rattle.board.specs.Board.{field}
-
-pub pick-true {ℓ} : {A : Type ℓ} (t : Bool) (x y : A) → t ≡ true → elim t [ true ↦ x | false ↦ y ] ≡ x
-pick-true true x y e = refl
-pick-true false x y e = let z : _≡_ {A = ℕ} 0 1 = cc in absurd (omega arith)
-
-pub pick-false {ℓ} : {A : Type ℓ} (t : Bool) (x y : A) → t ≡ false → elim t [ true ↦ x | false ↦ y ] ≡ y
-pick-false false x y e = refl
-pick-false true x y e = let z : _≡_ {A = ℕ} 0 1 = cc in absurd (omega arith)
+use Rattle.base.proofs.Bools.{clash, pick-true, pick-false}
 
 abbrev pub Implies : (ℕ → Bool) → (ℕ → Bool) → Type 0
 Implies p q = (i : ℕ) → p i ≡ true → q i ≡ true
@@ -56,7 +49,7 @@ newest-through p q i (suc n) = go (p n) (q n) refl refl (newest-through p q i n)
     go : (s t : Bool) → p n ≡ s → q n ≡ t → newest p n ≡ newest p (link (newest q n))
         → elim s [ true ↦ at n | false ↦ newest p n ] ≡ newest p (link (elim t [ true ↦ at n | false ↦ newest q n ]))
     go s true ps qt rec = rw ps
-    go true false ps qt rec = let z : true ≡ false = sym (i n ps) ∙ qt in absurd (let o : _≡_ {A = ℕ} 0 1 = cc in omega arith)
+    go true false ps qt rec = clash (i n ps) qt
     go false false ps qt rec = rec
 
 -- A chain being followed: `l` is the link at hand, of entries that pass q, and nothing above it passes p.

@@ -9,7 +9,7 @@ use Rattle.board.specs.Refusals
 use Rattle.board.specs.Refusals.{Judged, board, judged}
 use Rattle.board.specs.Demands.{PageLanes, Planned, crowded, planned, planLanes}
 use Rattle.board.specs.Planning.{Planning, refused, lanesFor, planning, fitted, judgedFor, crowding}
-use Rattle.base.proofs.Lists.{never}
+use Rattle.base.proofs.Bools.{never}
 
 module _ (most : Counts) (text : List ℕ) (fits : Board → Bool) where
   pub planning-refused : (n l : ℕ) → judged most text ≡ Refusals.turnedAway n l → planning most fits text ≡ refused n l

@@ -12,7 +12,8 @@ use Rattle.base.specs.Lists.{keep, fold, upto, greatest}
 use Rattle.board.specs.Board.{Board, pageOf, downOf, hasRow}
 use Rattle.board.specs.Rows.{insertDown, position, downsOn, nodesOn, rowOf, turned, sizeX, brickCell, bricksIn, rowTop}
 use Rattle.board.specs.Accepted.{COORDINATE_HIGH, Accepted}
-use Rattle.base.proofs.Lists.{and-left, byTest, in-keep, in-map, count-le}
+use Rattle.base.proofs.Bools.{and-left}
+use Rattle.base.proofs.Lists.{byTest, in-keep, in-map, count-le}
 
 -- What every element of a list has.
 abbrev pub All : {A : Type 0} → (A → Type 0) → List A → Type 0

@@ -16,7 +16,7 @@ use Rattle.sheet.specs.Answer.{countedAll, countsOf}
 use Rattle.sheet.proofs.Accepted.{Accepted, Each, each-at, zeros-at, Rising, RowHeld, PageRow, NodeRow, ChipRow, InnerRow, ExecRow, WireRow, page-row, node-row, chip-row, inner-row, exec-row, wire-row}
 use Rattle.base.specs.Lists.{keep}
 use Rattle.board.specs.Board.{Board, boardOf, section}
-use Rattle.board.proofs.Newest.{pick-true, pick-false}
+use Rattle.base.proofs.Bools.{pick-true, pick-false}
 
 abbrev Rows : Type 0
 Rows = List (List ℕ)

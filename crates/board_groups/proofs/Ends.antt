@@ -18,6 +18,7 @@ use Rattle.board.specs.declared.ids.Found.{Found as FoundId}
 use Rattle.board.specs.declared.ids.Found.the-variants.{At, Nothing}
 use Rattle.board.specs.Tables.{held, flag}
 use Rattle.board_groups.specs.Collecting.{Indexes}
+use Rattle.base.proofs.Bools.{never, and-left}
 use Rattle.board.proofs.Newest.{newest-same, link-below, Implies, Following, follow-found, follow-end, chained-same, chain-start, chain-next, column-at, index-falls}
 
 pub found-below : (p : ℕ → Bool) (n i : ℕ) → newest p n ≡ at i → i < n
@@ -94,12 +95,12 @@ module _ (rows ids : List (List ℕ)) (known : Ids ids (length rows) (λ i. fiel
 
 -- What a search answered.
 pub found-at : (f : Found) (r : FoundId) (i : ℕ) → r ≡ foundOf f → r ≡ At i → f ≡ at i
-found-at none r i e g = let z : _≡_ {A = ℕ} 0 1 = cc in absurd (omega arith)
+found-at none r i e g = never cc
 found-at (at j) r i e g = let z : j ≡ i = cc in ap at z
 
 pub found-nothing : (f : Found) (r : FoundId) → r ≡ foundOf f → r ≡ Nothing → f ≡ none
 found-nothing none r e g = refl
-found-nothing (at j) r e g = let z : _≡_ {A = ℕ} 0 1 = cc in absurd (omega arith)
+found-nothing (at j) r e g = never cc
 
 pub entry-below : (ids : List (List ℕ)) (n id i : ℕ) → entryOf ids n id ≡ at i → i < n
 unfolding entryOf
@@ -147,11 +148,7 @@ ExecChain execs node port l = Following (Exec execs node port) (λ e. eqb (bucke
 
 module _ (execs ids : List (List ℕ)) (known : Ids ids (length execs) (λ e. field execs e 1)) (node port : ℕ) where
   exec-implies : Implies (Exec execs node port) (λ e. eqb (bucketOf (field execs e 1)) (bucketOf node))
-  exec-implies e h = eq-eqb _ _ (ap bucketOf (eqb-true (field execs e 1) node (left (eqb (field execs e 1) node) _ h)))
-    where
-      left : (s t : Bool) → (s && t) ≡ true → s ≡ true
-      left true t h = refl
-      left false t h = h
+  exec-implies e h = eq-eqb _ _ (ap bucketOf (eqb-true (field execs e 1) node (and-left (eqb (field execs e 1) node) _ h)))
 
   by-node : Chained BUCKETS (λ e. bucketOf (field execs e 1)) (column 1 ids) (column 2 ids) (length execs)
   by-node = chained-same BUCKETS _ (column 1 ids) (column 2 ids) (length execs) (known .index .chained) (λ e. bucketOf (field execs e 1)) (λ e h. ap bucketOf (known .same e h))

@@ -12,7 +12,8 @@ use lib.Seq.{getD-set-same, getD-set-other, getD-take, length-take-le, take-at}
 use borrow.Author.Tests.{eq-eqb, ne-eqb, eqb-true, eqb-false, lt-ltb, le-ltb}
 use Rattle.sheet.specs.Table.{MISSING, HALF_MOST}
 use Rattle.base.specs.Sort.{lexLess, sortedRows, sorted}
-use Rattle.base.proofs.SortLaws.{clash, lex-order}
+use Rattle.base.proofs.Bools.{clash}
+use Rattle.base.proofs.SortLaws.{lex-order}
 use Rattle.board_groups.specs.declared.rows.Run.{Run}
 use Rattle.board.specs.Board.{Board, field, given, hasRow, pageOf, downOf}
 use Rattle.board.specs.Accepted.{AcceptedNodes}
@@ -20,7 +21,6 @@ use Rattle.board.proofs.Accepting.{nodes-half-x, nodes-half-y, nodes-x}
 use Rattle.board.specs.Rows.{turned, brickCell, bricksIn, nodesOn, downsOn, rowOf, rowTop}
 use Rattle.board.specs.Tables.{nodesAlone, NodeFacts}
 use Rattle.board_groups.specs.Collecting.{rowKey, END_MOST, Ranked, runAfter}
-use Rattle.board.proofs.Newest.{pick-true, pick-false}
 use Rattle.base.proofs.Members.{mem-at, at-mem, sorted-in, sorted-from, length-sorted, sorted-ascending, ascending-at, lex-alone}
 use Rattle.board_groups.proofs.RowLaws.{On, row-first, row-next, row-same, top-is}
 
@@ -72,21 +72,21 @@ unfolding lexLess
 not-less p d e p′ d′ e′ l l′ h = record { page = page′; down = down′; end = end′ }
   where
     page′ : p ≤ p′
-    page′ = elim (decLt p′ p) [ yes k ↦ clash true refl (rw (lt-ltb p′ p k) at h) | no f ↦ omega arith ]
+    page′ = elim (decLt p′ p) [ yes k ↦ clash refl (rw (lt-ltb p′ p k) at h) | no f ↦ omega arith ]
 
     down′ : p ≡ p′ → d ≤ d′
-    down′ q = elim (decLt d′ d) [ yes k ↦ clash true refl (rw (le-ltb p′ p (omega arith), eq-eqb p′ p (sym q), lt-ltb d′ d k) at h) | no f ↦ omega arith ]
+    down′ q = elim (decLt d′ d) [ yes k ↦ clash refl (rw (le-ltb p′ p (omega arith), eq-eqb p′ p (sym q), lt-ltb d′ d k) at h) | no f ↦ omega arith ]
 
     end′ : p ≡ p′ → d ≡ d′ → e ≤ e′
     end′ q r =
         elim (decLt e′ e)
-        [ yes k ↦ clash true refl (rw (le-ltb p′ p (omega arith), eq-eqb p′ p (sym q), le-ltb d′ d (omega arith), eq-eqb d′ d (sym r), lt-ltb e′ e k) at h) | no f ↦ omega arith ]
+        [ yes k ↦ clash refl (rw (le-ltb p′ p (omega arith), eq-eqb p′ p (sym q), le-ltb d′ d (omega arith), eq-eqb d′ d (sym r), lt-ltb e′ e k) at h) | no f ↦ omega arith ]
 
 head-order : (x y : List ℕ) → lexLess y x ≡ false → getD x 0 0 ≤ getD y 0 0
 unfolding lexLess
 head-order [] y h = omega arith
-head-order (p ∷ x) [] h = clash true refl h
-head-order (p ∷ x) (q ∷ y) h = elim (decLt q p) [ yes k ↦ clash true refl (rw (lt-ltb q p k) at h) | no f ↦ omega arith ]
+head-order (p ∷ x) [] h = clash refl h
+head-order (p ∷ x) (q ∷ y) h = elim (decLt q p) [ yes k ↦ clash refl (rw (lt-ltb q p k) at h) | no f ↦ omega arith ]
 
 run-page : (run : Run) (key : List ℕ) → runAfter run key .page ≡ getD key 0 0
 unfolding runAfter
@@ -126,7 +126,7 @@ pub record Before (b : Board) (keys : List (List ℕ)) (k : ℕ) (run : Run) : T
   pub last : (j : ℕ) → k ≡ suc j → (i : ℕ) → i < length (b .nodes) → getD keys j [] ≡ rowKey b i → RowIs b i run
 
 not-missing : {C : Type 0} (v : ℕ) → given v ≡ true → v ≡ MISSING → C
-not-missing v h e = clash (given v) h (ap not (eq-eqb v MISSING e))
+not-missing v h e = clash h (ap not (eq-eqb v MISSING e))
 
 module _ (b : Board) (keys : List (List ℕ)) (ranked : Ranked b keys) where
   -- The keys at j and k, of nodes with a row.
@@ -330,7 +330,7 @@ module _ (b : Board) (keys : List (List ℕ)) (ranked : Ranked b keys) (facts : 
       go false has =
           record {
             page = run-page run (getD keys k []) ∙ ap (λ (r : List ℕ). getD r 0 0) e ∙ key-page b i;
-            rest = λ z. clash (hasRow b i) z has;
+            rest = λ z. clash z has;
           }
 
   pub walk-more : (next : Run) (at : ℕ) → next ≡ runAfter run (getD keys k []) → at ≡ field keys k 3 → at < length facts

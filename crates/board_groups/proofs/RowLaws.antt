@@ -9,7 +9,7 @@ use mathlib.Core.List.{List, [], _∷_, map, List·Memᴰ as Mem, List·Memᴰ·
 use lib.Dec.{eqb, ltb}
 use lib.ListN.{length, getD}
 use borrow.Author.Tests.{ltb-true, ltb-false, eqb-true, eqb-false, eq-eqb, ne-eqb}
-use Rattle.base.proofs.SortLaws.{clash}
+use Rattle.base.proofs.Bools.{and-left, and-right}
 use Rattle.base.specs.Lists.{keep, upto, fold, greatest}
 use Rattle.board.specs.Board.{Board, hasRow, pageOf, downOf}
 use Rattle.board.specs.Rows.{insertDown, position, nodesOn, downsOn, rowOf, brickCell, bricksIn, rowTop}
@@ -153,15 +153,7 @@ module _ (b : Board) where
   unfolding nodesOn
   on-from p {i} m =
       let r = keep-from (λ j. hasRow b j && eqb (pageOf b j) p) _ m in
-      record { there-is = upto-below _ (r .0); row = left (hasRow b i) _ (r .1); page = eqb-true (pageOf b i) p (right (hasRow b i) _ (r .1)) }
-    where
-      left : (s t : Bool) → (s && t) ≡ true → s ≡ true
-      left true t h = refl
-      left false t h = h
-
-      right : (s t : Bool) → (s && t) ≡ true → t ≡ true
-      right true t h = h
-      right false t h = clash false h refl
+      record { there-is = upto-below _ (r .0); row = and-left (hasRow b i) _ (r .1); page = eqb-true (pageOf b i) p (and-right (hasRow b i) _ (r .1)) }
 
   downs-rising′ : (l : List ℕ) → Rising (Downs b l)
   downs-rising′ [] = tt

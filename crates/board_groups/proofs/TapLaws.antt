@@ -10,7 +10,7 @@ use lib.ListN.{length, getD, set, replicate, length-set}
 use lib.Seq.{getD-set-same, getD-set-other}
 use borrow.Author.Tests.{eq-eqb, ne-eqb, eqb-true}
 use Rattle.sheet.specs.Table.{MISSING}
-use Rattle.base.proofs.SortLaws.{clash}
+use Rattle.base.proofs.Bools.{never, clash, and-right}
 use Rattle.base.specs.Lists.{Found, none, at, any, fold, upto, newest}
 use Rattle.board.specs.Board.{Board, field, given, hasRow, pageOf, xOf, yOf, sourceNode, sourcePort, targetNode, targetPort, classOf, kindOf, classInline, classStorage, kindChip, kindInput, kindCoerce}
 use Rattle.board.specs.Refusals.{bodyOf, innerOf}
@@ -24,14 +24,6 @@ use Rattle.board.proofs.Newest.{Implies, Following, newest-same, follow-found, 
 use Rattle.board_groups.proofs.Ends.{found-below, held-there, held-gone, fresh-chains}
 use Rattle.board_groups.proofs.Facts.{same-nodes, same-wires, column-kept, column-more}
 
-pub and-false : (x : Bool) → (x && false) ≡ false
-and-false true = refl
-and-false false = refl
-
-last-of : (x h : Bool) → (x && h) ≡ true → h ≡ true
-last-of true h e = e
-last-of false h e = clash false e refl
-
 module _ (b : Board) where
   pub anchor-below : (id i : ℕ) → anchorOf b id ≡ at i → i < length (b .nodes)
   unfolding anchorOf bodyOf
@@ -44,7 +36,7 @@ module _ (b : Board) where
           → _≡_ {A = Found} (elim f [ at j ↦ at j | none ↦ elim g [ at k ↦ bodyOf b (topChip b (length (b .chips)) (field (b .inner) k 2)) | none ↦ none ] ]) (at i) → i < length (b .nodes)
       go (at j) g q h = inside id (q ∙ h)
       go none (at k) q h = inside _ h
-      go none none q h = let z : _≡_ {A = ℕ} 0 1 = cc in absurd (omega arith)
+      go none none q h = never cc
 
   module _ (w : ℕ) where
     pub target-closed : wireOpen b w ≡ false → tapTarget b w ≡ none
@@ -83,7 +75,7 @@ module _ (b : Board) where
     carried t e = go (wireOpen b w) refl (anchorOf b (sourceNode b w)) refl (anchorOf b (targetNode b w)) refl e
       where
         lost : {C : Type 0} → none ≡ at t → C
-        lost h = let z : _≡_ {A = ℕ} 0 1 = cc in absurd (omega arith)
+        lost h = never cc
 
         test : (s u : ℕ) (a : Bool) → anchorsOpen b w s u ≡ a → wireOpen b w ≡ true → anchorOf b (sourceNode b w) ≡ at s → anchorOf b (targetNode b w) ≡ at u
             → _≡_ {A = Found} (elim a [ true ↦ at u | false ↦ none ]) (at t) → Carried t
@@ -101,7 +93,7 @@ module _ (b : Board) where
     unfolding anchorsOpen
     carried-row t e =
         let c = carried t e in
-        last-of
+        and-right
         ((crossesAt b t (targetNode b w) || isBusWorthy b (c .source) || not (targetsExec b w))
         && not (eqb (classOf b (c .source)) classInline) && not (eqb (classOf b t) classInline) && not (eqb (kindOf b (c .source)) kindCoerce))
         (hasRow b t) (c .tests)
@@ -223,9 +215,9 @@ module _ (wires taps : List (List ℕ)) (nexts heads : List ℕ) (m : ℕ) (tapp
           → (s && t && u) ≡ true → eqb (bucketIn wires (getD taps k [])) (tapBucket p (field wires w 1) (field wires w 2)) ≡ true
       go true e true f true g z =
           eq-eqb _ _ (λ i. tapBucket (eqb-true (field taps k 0) p e i) (eqb-true (field wires (field taps k 7) 1) (field wires w 1) f i) (eqb-true (field wires (field taps k 7) 2) (field wires w 2) g i))
-      go true e true f false g z = clash false z refl
-      go true e false f u g z = clash false z refl
-      go false e t f u g z = clash false z refl
+      go true e true f false g z = clash z refl
+      go true e false f u g z = clash z refl
+      go false e t f u g z = clash z refl
 
   pub key-start : KeyChain wires taps p w m (getD heads (tapBucket p (field wires w 1) (field wires w 2)) 0)
   key-start = chain-start TAP_BUCKETS _ nexts heads m (tapped .chained) (SameKey wires taps p w) _ key-implies (omega arith)

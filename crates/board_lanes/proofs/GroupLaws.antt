@@ -11,7 +11,6 @@ use lib.ListN.{length, getD, set}
 use lib.Seq.{getD-set-same, getD-set-other}
 use borrow.Author.Tests.{eq-eqb, ne-eqb, eqb-true, eqb-false, lt-ltb, le-ltb}
 use Rattle.sheet.specs.Table.{MISSING}
-use Rattle.base.proofs.SortLaws.{clash}
 use Rattle.base.specs.Lists.{Found, none, at, any, keep, fold, upto, least, greatest}
 use Rattle.board.specs.Board.{Board, field, hasRow, pageOf, sourceNode, targetNode, sourcePort}
 use Rattle.board.specs.Rows.{rowOf}

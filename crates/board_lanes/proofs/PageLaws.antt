@@ -17,7 +17,7 @@ use Rattle.lanes.specs.declared.pack.Packing.{Packing}
 use Rattle.lanes.specs.declared.pack.Packing.the-variants.{Lanes, Full}
 use Rattle.lanes.specs.LaneCall.{faulty, Sound}
 use Rattle.lanes.specs.Keys.{demandOf, laneColumn, withLane, eachWith, rowsAfter, resultOf, PackedRows}
-use Rattle.base.proofs.SortLaws.{clash}
+use Rattle.base.proofs.Bools.{never, clash, pick-true, pick-false}
 use Rattle.lanes.proofs.Promise.{lanes-apart}
 use Rattle.base.specs.Lists.{Found, none, at, any, keep, upto}
 use Rattle.board.specs.Board.{Board, field, sourceNode, targetNode, kindChip, kindInput, classStorage}
@@ -27,7 +27,6 @@ use Rattle.base.specs.Views.{view}
 use Rattle.board.specs.Tables.{held, flag, tapIn, tapTarget}
 use Rattle.board_groups.specs.Collecting.{relaned, headPage, Packable}
 use Rattle.board_lanes.specs.PagePlan.{groupDemand, orderColumn, asking, AddedDemand, PageDemands, PagePacked}
-use Rattle.board.proofs.Newest.{pick-true, pick-false}
 use Rattle.base.proofs.Members.{at-mem, keep-from, map-in, map-from, upto-below}
 use Rattle.board_groups.proofs.TapLaws.{view-more}
 use Rattle.board_lanes.proofs.GroupLaws.{source-held, target-held, source-below, target-below}
@@ -114,8 +113,8 @@ module _ (b : Board) (ts : List Tap) (taps : List (List ℕ)) (marks : List ℕ)
       go : (s u : Bool) → s ≡ u → map (λ k. field taps k 1) rest ≡ map (λ (t : Tap). t .group) kept
           → map (λ k. field taps k 1) (elim s [ true ↦ n ∷ rest | false ↦ rest ]) ≡ map (λ (t : Tap). t .group) (elim u [ true ↦ tapIn (getD taps n []) ∷ kept | false ↦ kept ])
       go true true e ih = ap (λ (l : List ℕ). field taps n 1 ∷ l) ih
-      go true false e ih = clash false (sym e) refl
-      go false true e ih = clash true refl (sym e)
+      go true false e ih = clash (sym e) refl
+      go false true e ih = clash refl (sym e)
       go false false e ih = ih
 
 -- Lists turned round.
@@ -340,4 +339,4 @@ module _ (taps groups : List (List ℕ)) (marks : List ℕ) (m p : ℕ) (packabl
       let same : k ≡ count = cc in
       let most = lanes-apart (map (groupDemand groups) (reverse (asking taps marks p m))) page-rising (packs .0) k (packs .1) .most in
       omega arith
-  page-few after (Full i) packs count e = let z : _≡_ {A = ℕ} 0 1 = cc in absurd (omega arith)
+  page-few after (Full i) packs count e = never cc

@@ -16,7 +16,7 @@ use Rattle.base.specs.Sort.{sorted}
 use Rattle.lanes.specs.Lanes.{Demand, Packed, full, laned, packed, packIn, ranked, entries}
 use Rattle.lanes.specs.declared.pack.Packing.{Packing}
 use Rattle.lanes.specs.declared.pack.Packing.the-variants.{Lanes, Full}
-use Rattle.base.proofs.SortLaws.{clash}
+use Rattle.base.proofs.Bools.{never, clash}
 use Rattle.base.specs.Lists.{Found, none, at, keep}
 use Rattle.board.specs.Board.{Board, field, given, hasGutter, minYOf, pageOf}
 use Rattle.board.specs.Groups.{Tap, tapsOf, tapsIn}
@@ -80,7 +80,7 @@ module _ (b : Board) where
   page-of : (x y z : Bool) → (x && y && z) ≡ true → y ≡ true
   page-of true true z h = refl
   page-of true false z h = h
-  page-of false y z h = clash false h refl
+  page-of false y z h = clash h refl
 
   on-page : (p g : ℕ) → Mem g (groupsOn b (tapsOf b) p) → (u : Tap) × Mem u (tapsOf b) × (u .group ≡ g) × (u .page ≡ p)
   on-page p g m = go (hasGutter b p) refl
@@ -216,7 +216,7 @@ module _ (b : Board) where
     crowded-page after i packs = go (hasGutter b p) refl
       where
         go : (s : Bool) → hasGutter b p ≡ s → planUpto b (tapsOf b) (suc p) ≡ crowded p
-        go false h = let q = packs .without h .0 in let z : _≡_ {A = ℕ} 0 1 = cc in absurd (omega arith)
+        go false h = let q = packs .without h .0 in never cc
         go true h = let e : packedOn b (tapsOf b) p ≡ full i = sym (asked-packed h) ∙ packs .within h in rw (done .plan, e, planUpto) refl
 
   crowded-stays : (n p q : ℕ) → planUpto b (tapsOf b) n ≡ crowded p → planUpto b (tapsOf b) (q + n) ≡ crowded p

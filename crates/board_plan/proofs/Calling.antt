@@ -17,7 +17,6 @@ use Rattle.board.specs.Demands.{PageLanes, planLanes, noLanes}
 use Rattle.board.specs.Planning.{Planning, refused, lanesFor, planning, fitsPages, crowding, records, pageRow, pagesAfter, fitted}
 use Rattle.board.specs.Walk.{WithinLibrary, countsIn}
 use Rattle.lanes.specs.Lanes.{laneMost}
-use Rattle.base.proofs.Lists.{never}
 use Rattle.board_plan.specs.declared.Lent.{Lent}
 use Rattle.board_plan.specs.declared.PagesPlan.the-variants.{Refused, Planned}
 use Rattle.board_plan.specs.TextPlan.{LINE_MOST, hasRoom, fitsCounts, fitsLent, shortest, WorkLent, workRows}

@@ -20,7 +20,7 @@ use Rattle.board.specs.Demands.{planLanes}
 use Rattle.board.specs.Planning.{Planning, refused, planning, crowding, fitsPages, records, fitted}
 use Rattle.board_lanes.specs.PagePlan.{Room}
 use Rattle.board.specs.Walk.{WithinLibrary, countsIn}
-use Rattle.base.proofs.Lists.{and-left, and-right}
+use Rattle.base.proofs.Bools.{and-left, and-right}
 use Rattle.board_plan.specs.declared.Lent.{Lent}
 use Rattle.board_plan.specs.TextPlan.{LINE_MOST, hasRoom, fitsCounts, fitsLent, shortest, WorkLent}
 

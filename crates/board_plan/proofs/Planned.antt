@@ -19,7 +19,7 @@ use Rattle.board.specs.Demands.{PageLanes, Planned, crowded, planned, noLanes, 
 use Rattle.board_lanes.specs.PagePlan.{PlanHeld}
 use Rattle.board.specs.Walk.{countsIn}
 use Rattle.board_lanes.specs.PagePlan.{BoardPlanned}
-use Rattle.base.proofs.Lists.{never}
+use Rattle.base.proofs.Bools.{never}
 use Rattle.board.proofs.LanesFit.{rising}
 use Rattle.board_plan.specs.declared.TextPlan.the-variants as surveys
 use Rattle.board_plan.specs.TextPlan.{SectionsIn, FactsHold, LanesPlanned}

@@ -22,7 +22,7 @@ use Rattle.board.specs.Planning.{Planning, refused, lanesFor, planning, crowdin
 use Rattle.board_groups.specs.Collecting.{Indexes}
 use Rattle.board_lanes.specs.PagePlan.{Room}
 use Rattle.board.specs.Walk.{WithinLibrary, countsIn, boardChecked, Indexed, IndexedIf}
-use Rattle.base.proofs.Lists.{never}
+use Rattle.base.proofs.Bools.{never}
 use Rattle.board.proofs.Planning.{planning-refused, planning-fine}
 use Rattle.board_plan.specs.declared.Lent.{Lent}
 use Rattle.board_plan.specs.TextPlan.{fitsCounts, fitsLent, lentFor, fitting, WorkLent, BoardRead, BoardChecked}

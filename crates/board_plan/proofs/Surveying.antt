@@ -9,7 +9,7 @@ use Rattle.board.specs.Refusals.{Judged, turnedAway, board}
 use Rattle.board.specs.Demands.{PageLanes, Planned, crowded, planned, planLanes}
 use Rattle.board.specs.Planning.{Planning, refused, lanesFor, planning, crowding, judgedFor}
 use Rattle.board.specs.Walk.{countsIn}
-use Rattle.base.proofs.Lists.{never}
+use Rattle.base.proofs.Bools.{never}
 use Rattle.board_plan.specs.declared.TextPlan.{TextPlan}
 use Rattle.board_plan.specs.declared.TextPlan.the-variants.{Refused, Crowded, Laned}
 use Rattle.board_plan.specs.TextPlan.{fitting, FactsHold, TablesHold, LanesPlanned, TextPlanned}

@@ -12,6 +12,7 @@ use Rattle.lanes.specs.Lanes.{firstThat, packed}
 use Rattle.lanes.specs.LaneCall.{demandMost, demandsOf, faulty, LaneAnswer, refused, answerTo, laneCall, told, answered, Answered}
 use Rattle.lanes.specs.Keys.{PackedNumbers}
 use Rattle.lanes.specs.declared.pack.Packing.the-variants.{Lanes, Full}
+use Rattle.base.proofs.Bools.{either-left, either-right}
 use Rattle.lanes.proofs.FindLaws.{first-past, first-here}
 
 -- where the search passes all, none passes it
@@ -25,17 +26,10 @@ none-first p d (x ∷ xs) h i b = go (p x) refl i b (none-first p d xs)
     go false e (suc i) b ih = ih (omega (arith, first-past p x xs e)) i (omega arith)
 
 -- one of the three that are lent is too short
-or-left : (a b : Bool) → a ≡ true → (a || b) ≡ true
-or-left a b h = rw h
-
-or-right : (a b : Bool) → b ≡ true → (a || b) ≡ true
-or-right false b h = h
-or-right true b h = refl
-
 short-of : (a w s n : ℕ) → (a < n) ⊎ ((w < n) ⊎ (s < n)) → (ltb a n || ltb w n || ltb s n) ≡ true
 short-of a w s n h =
-    ⊎-elim (λ p. or-left (ltb a n || ltb w n) (ltb s n) (or-left (ltb a n) (ltb w n) (lt-ltb a n p)))
-    (⊎-elim (λ p. or-left (ltb a n || ltb w n) (ltb s n) (or-right (ltb a n) (ltb w n) (lt-ltb w n p))) (λ p. or-right (ltb a n || ltb w n) (ltb s n) (lt-ltb s n p))) h
+    ⊎-elim (λ p. either-left (ltb a n || ltb w n) (ltb s n) (either-left (ltb a n) (ltb w n) (lt-ltb a n p)))
+    (⊎-elim (λ p. either-left (ltb a n || ltb w n) (ltb s n) (either-right (ltb a n) (ltb w n) (lt-ltb w n p))) (λ p. either-right (ltb a n || ltb w n) (ltb s n) (lt-ltb s n p))) h
 
 module _ (ns old : List ℕ) (work spare : ℕ) where
   abbrev call : LaneAnswer

@@ -13,6 +13,7 @@ use lib.Seq.{getD-set-same, getD-set-other}
 use borrow.Author.Tests.{ltb-true}
 use Rattle.lanes.specs.Lanes.{Demand, noDemand, Entry, ranked, laneMost, firstThat, laneFor, withTenant, packIn, packed, full, laned}
 use Rattle.lanes.specs.Apart.{Apart, Rising, LanesApart}
+use Rattle.base.proofs.Bools.{never}
 use Rattle.lanes.proofs.FindLaws.{first-here, first-past, first-within}
 use Rattle.lanes.proofs.LaneLaws.{endsBefore}
 use Rattle.lanes.proofs.PackLaws.{pack-seat, pack-full}
@@ -190,8 +191,7 @@ module _ (ds : List Demand) where
             result count (sym (pack-seat e es ends lanes h) ∙ q))
         | no h ↦
             let z : full (e .index) ≡ laned result count = sym (pack-full e es ends lanes (omega arith)) ∙ q in
-            let n : _≡_ {A = ℕ} 0 1 = cc in
-            absurd (omega arith)
+            never cc
       ]
 
 -- two seats: one taken before the other, or the same

@@ -12,7 +12,8 @@ use Rattle.base.specs.Sort.{lexLess, sorted, inserted, sortedRows}
 use Rattle.lanes.specs.Lanes.{Demand, noDemand, Entry, entries, span, ahead, ranked, packIn}
 use Rattle.lanes.specs.LaneCall.{rowMost, countMost, faulty, Sound}
 use Rattle.lanes.specs.Keys.{keyOf, entryOf, lanesIn, resultOf, Seated}
-use Rattle.base.proofs.SortLaws.{lex-lt, lex-eq, lex-gt, Compared, below, same, above, compared, clash, inserted-past, inserted-here}
+use Rattle.base.proofs.Bools.{clash}
+use Rattle.base.proofs.SortLaws.{lex-lt, lex-eq, lex-gt, Compared, below, same, above, compared, inserted-past, inserted-here}
 use Rattle.lanes.specs.declared.pack.Packing.{Packing}
 use Rattle.lanes.proofs.SpreadLaws.{Covers}
 use Rattle.base.proofs.Every.{All, Any, all-of, all-inserted, all-sorted, any-sorted, all-at, all-mapped, any-mapped, any-map, inserted-keys, Agrees}
@@ -25,7 +26,7 @@ pub record Allowed (d : Demand) : Type 0 where
 
 or-false : (a b : Bool) → (a || b) ≡ false → (a ≡ false) × (b ≡ false)
 or-false false b h = (refl, h)
-or-false true b h = clash true refl h
+or-false true b h = clash refl h
 
 pub allowed : (d : Demand) → faulty d ≡ false → Allowed d
 unfolding faulty

@@ -11,6 +11,7 @@ use Rattle.lanes.specs.Table.{openEnds, seatOf, TookLane}
 use Rattle.lanes.specs.declared.table.LaneTable.{LaneTable}
 use Rattle.lanes.specs.declared.table.Taken.{Taken}
 use Rattle.lanes.specs.declared.table.Seat.the-variants.{Lane, NoLane}
+use Rattle.base.proofs.Bools.{never}
 use Rattle.lanes.proofs.FindLaws.{first-within}
 use Rattle.lanes.proofs.LaneLaws.{endsBefore}
 
@@ -32,13 +33,13 @@ seat-lane l lane h = go (ltb l laneMost) refl
   where
     go : (b : Bool) → ltb l laneMost ≡ b → (lane ≡ l) × (l < laneMost)
     go true t = let e : Lane l ≡ Lane lane = rw t at h in (cc, ltb-true l laneMost t)
-    go false t = let e : NoLane ≡ Lane lane = rw t at h in let z : _≡_ {A = ℕ} 0 1 = cc in absurd (omega arith)
+    go false t = let e : NoLane ≡ Lane lane = rw t at h in never cc
 
 seat-none : (l : ℕ) → seatOf l ≡ NoLane → laneMost ≤ l
 seat-none l h = go (ltb l laneMost) refl
   where
     go : (b : Bool) → ltb l laneMost ≡ b → laneMost ≤ l
-    go true t = let e : Lane l ≡ NoLane = rw t at h in let z : _≡_ {A = ℕ} 0 1 = cc in absurd (omega arith)
+    go true t = let e : Lane l ≡ NoLane = rw t at h in never cc
     go false t = ltb-false l laneMost t
 
 -- what a step says to its caller

@@ -2,7 +2,7 @@
 use Prim.Native.Nat.{ℕ, _+_, _*_, _≤_, _<_}
 use native.Mathlib.Omega.{arith}
 use mathlib.Core.Path.{_≡_, refl, sym, ap, _∙_, subst}
-use mathlib.Core.Bool.{Bool, true, false, _&&_}
+use mathlib.Core.Bool.{Bool, true, false}
 use mathlib.Core.List.{List, _++_, map}
 use lib.Dec.{leb}
 use lib.ListN.{length, drop}
@@ -13,7 +13,7 @@ use Rattle.board.specs.Board.{Board}
 use Rattle.board.specs.Demands.{PageLanes}
 use Rattle.board.specs.Planning.{Planning, refused, lanesFor, planning, pageRow}
 use Rattle.board.specs.Walk.{WithinLibrary, countsIn}
-use Rattle.base.proofs.Lists.{never}
+use Rattle.base.proofs.Bools.{never, and-false}
 use Rattle.board_plan.specs.declared.Lent.{Lent}
 use Rattle.board_plan.specs.TextPlan.{fitsLent, LINE_MOST}
 use Rattle.board_plan.proofs.Fitting.{fits-all}
@@ -51,20 +51,16 @@ told-all call before after n e w =
       text-is = written-front before (sheetOf call) after (w .buffer) ∙ sym (ap (λ (t : Bool). textAfter t (sheetOf call) before) e);
     }
 
-and-no : (t : Bool) → (t && false) ≡ false
-and-no true = refl
-and-no false = refl
-
 -- The tests of `tell_refusal`, one after the other.
 module _ (number place : ℕ) (before : List ℕ) where
   pub no-room : length before < LINE_MOST → Told (turnedAway number place) before before Short
   no-room h = told-not (turnedAway number place) before (rw (lt-leb LINE_MOST (length before) h) refl)
 
   pub number-high : TOLD_MOST < number → Told (turnedAway number place) before before Short
-  number-high h = told-not (turnedAway number place) before (rw (lt-leb number TOLD_MOST h) (and-no (leb LINE_MOST (length before))))
+  number-high h = told-not (turnedAway number place) before (rw (lt-leb number TOLD_MOST h) (and-false (leb LINE_MOST (length before))))
 
   pub place-high : number ≤ TOLD_MOST → TOLD_MOST < place → Told (turnedAway number place) before before Short
-  place-high h k = told-not (turnedAway number place) before (rw (le-leb number TOLD_MOST h, lt-leb place TOLD_MOST k) (and-no (leb LINE_MOST (length before))))
+  place-high h k = told-not (turnedAway number place) before (rw (le-leb number TOLD_MOST h, lt-leb place TOLD_MOST k) (and-false (leb LINE_MOST (length before))))
 
   pub refusal-told : LINE_MOST ≤ length before → number ≤ TOLD_MOST → place ≤ TOLD_MOST → (after : List ℕ) (n : ℕ) → Wrote before 0 (refusalSheet number place) after n → Told (turnedAway number place) before after (Written n)
   unfolding sheetOf

@@ -12,7 +12,7 @@ use Rattle.sheet.specs.declared.Counts.{Counts}
 use Rattle.sheet.specs.Table.{programMost}
 use Rattle.board.specs.Board.{Board}
 use Rattle.board.specs.Demands.{PageLanes}
-use Rattle.base.proofs.Lists.{never}
+use Rattle.base.proofs.Bools.{never}
 use Rattle.board_plan.specs.declared.Lent.{Lent}
 use Rattle.board_plan.specs.TextPlan.{fitsLent, LINE_MOST}
 use Rattle.board_plan.proofs.Fitting.{fits-all}

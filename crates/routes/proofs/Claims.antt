@@ -11,7 +11,8 @@ use Rattle.board.specs.Board.{Board}
 use Rattle.board.specs.Rows.{rowTop}
 use Rattle.board.specs.Groups.{Tap}
 use Rattle.board.specs.Demands.{PageLanes}
-use Rattle.base.proofs.Lists.{clash, and-left, and-right, or-left, or-right, both, byTest, byFound, never}
+use Rattle.base.proofs.Bools.{never, clash, and-left, and-right, both, or-left, or-right}
+use Rattle.base.proofs.Lists.{byTest, byFound}
 use Rattle.routes.specs.Stops.{newRow, near}
 use Rattle.routes.specs.Levels.{dropped, shared, own, Stop, keptAt, lowest, lighter, lightest, levelsIn, STAGGER_STEP, freeLevel, loadAt, unclaimed, claimNear, findLevel, ownLevel, levelWithBase, levelOf, stopFor, stopsOf, laneFor}
 use Rattle.routes.specs.Rerouters.{stopsBefore}

@@ -11,7 +11,8 @@ use Rattle.sheet.specs.Table.{ORIGIN, COORDINATE_MOST}
 use Rattle.board.specs.Board.{Board, hasGutter, minYOf}
 use Rattle.board.specs.Accepted.{Accepted}
 use Rattle.board.specs.Demands.{PageLanes, planned, planLanes}
-use Rattle.base.proofs.Lists.{never, clash, to-keep}
+use Rattle.base.proofs.Bools.{never, clash}
+use Rattle.base.proofs.Lists.{to-keep}
 use Rattle.routes.specs.Bus.{Bus, Rerouter, BusWire, End, port, rerouter, Carries, onward, delivery, partCorner}
 use Rattle.routes.specs.Plan.{isDelivery, busOf, finished}
 use Rattle.routes.specs.Corners.{corners}

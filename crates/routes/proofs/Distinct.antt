@@ -9,7 +9,8 @@ use lib.Dec.{eqb}
 use lib.ListN.{length}
 use borrow.Author.Tests.{eqb-true, eqb-false, eq-eqb, not-true}
 use Rattle.base.specs.Lists.{any, keep}
-use Rattle.base.proofs.Lists.{clash, none-of, none-at-all, one-of, in-keep, to-keep, keep-yes, keep-no, keep-same}
+use Rattle.base.proofs.Bools.{clash}
+use Rattle.base.proofs.Lists.{none-of, none-at-all, one-of, in-keep, to-keep, keep-yes, keep-no, keep-same}
 use Rattle.routes.specs.Demand3.{distinct}
 
 pub distinct-old : (x : ℕ) (l : List ℕ) → any (eqb x) l ≡ true → distinct (x ∷ l) ≡ distinct l

@@ -12,7 +12,8 @@ use Rattle.base.specs.Lists.{any}
 use Rattle.board.specs.Board.{Board, sourceNode, sourcePort}
 use Rattle.board.specs.Groups.{Tap}
 use Rattle.board.specs.Demands.{PageLanes}
-use Rattle.base.proofs.Lists.{clash, and-left, and-right, or-left, or-right, none-of, keep-no}
+use Rattle.base.proofs.Bools.{clash, and-left, and-right, or-left, or-right}
+use Rattle.base.proofs.Lists.{none-of, keep-no}
 use Rattle.board.proofs.Taps.{wireIs}
 use Rattle.routes.specs.Stops.{near}
 use Rattle.routes.specs.Levels.{Stop, own, unclaimed, claimNear}

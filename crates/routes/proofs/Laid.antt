@@ -14,7 +14,8 @@ use Rattle.base.specs.Lists.{at, found, any, keep}
 use Rattle.board.specs.Board.{Board, pageOf}
 use Rattle.board.specs.Groups.{Tap, tapsOf, targetAnchor}
 use Rattle.board.specs.Demands.{PageLanes, laneOf}
-use Rattle.base.proofs.Lists.{clash, and-left, both, or-left, or-right, same-two, same-three, none-at-all, in-keep, to-keep, in-map, to-map, keep-yes, none-counted, count-tail, count-kept, count-le, Pairs, pairs-reverse, in-reverse, count-reverse, in-sorted, count-sorted, length-sorted, rises-sorted, never}
+use Rattle.base.proofs.Bools.{never, clash, and-left, both, or-left, or-right}
+use Rattle.base.proofs.Lists.{same-two, same-three, none-at-all, in-keep, to-keep, in-map, to-map, keep-yes, none-counted, count-tail, count-kept, count-le, Pairs, pairs-reverse, in-reverse, count-reverse, in-sorted, count-sorted, length-sorted, rises-sorted}
 use Rattle.board.proofs.Taps.{wireIs, taps-of}
 use Rattle.routes.specs.Stops.{tapKey, tapBefore, laidTaps, isLaid, newGroup, newRow, newColumn}
 use Rattle.routes.specs.Demand3.{distinct, rowsUpTo, columnsOn}

@@ -13,7 +13,8 @@ use Rattle.lanes.specs.Lanes.{laneMost}
 use Rattle.board.specs.Board.{Board, minYOf, sourceNode, sourcePort, targetNode, targetPort}
 use Rattle.board.specs.Demands.{PageLanes, noLanes, laneY, BUS_BAND_GUTTER, LANE_PITCH}
 use Rattle.board.proofs.LanesFit.{heights-apart}
-use Rattle.base.proofs.Lists.{clash, both, keep-yes, keep-no}
+use Rattle.base.proofs.Bools.{clash, both}
+use Rattle.base.proofs.Lists.{keep-yes, keep-no}
 use Rattle.routes.specs.Stops.{near}
 use Rattle.routes.specs.Bus.{Bus, Rerouter, BusWire, Feed, End, port, rerouter, onward, delivery, emptyBus, place, deliver, partCorner}
 use Rattle.routes.specs.Plan.{deliveries}

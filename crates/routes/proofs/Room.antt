@@ -12,7 +12,8 @@ use Rattle.base.specs.Lists.{any, keep, fold, upto}
 use Rattle.board.specs.Board.{Board}
 use Rattle.board.specs.Accepted.{Accepted}
 use Rattle.board.specs.Demands.{PageLanes, planned, planLanes}
-use Rattle.base.proofs.Lists.{clash, byTest, keep-yes, keep-no, none-counted, count-tail, count-weaker, count-apart}
+use Rattle.base.proofs.Bools.{clash}
+use Rattle.base.proofs.Lists.{byTest, keep-yes, keep-no, none-counted, count-tail, count-weaker, count-apart}
 use Rattle.routes.specs.Bus.{Bus, Port, insertPort, samePort, portOf, portFeed, placedFeed, muted}
 use Rattle.routes.specs.Corners.{turns, turnable, turnWire}
 use Rattle.routes.specs.Plan.{deliveries, busOf, finished}

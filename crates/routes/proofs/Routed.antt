@@ -9,7 +9,7 @@ use Rattle.board.specs.Demands.{PageLanes}
 use Rattle.board.specs.Planning
 use Rattle.board.specs.Planning.{Planning, lanesFor, planning}
 use Rattle.board.specs.Walk.{WithinLibrary}
-use Rattle.base.proofs.Lists.{never}
+use Rattle.base.proofs.Bools.{never}
 use Rattle.board.proofs.Accepting.{sheet-accepted}
 use Rattle.board.proofs.Planning.{lanes-from}
 use Rattle.routes.specs.Bus.{Bus}

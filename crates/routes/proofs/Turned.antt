@@ -13,7 +13,8 @@ use Rattle.board.specs.Board.{Board, sourceNode, targetNode}
 use Rattle.board.specs.Groups.{wireOpen}
 use Rattle.board.specs.Refusals.{bodyOf}
 use Rattle.board.specs.Demands.{PageLanes}
-use Rattle.base.proofs.Lists.{clash, byTest, byFound, keep-no}
+use Rattle.base.proofs.Bools.{clash}
+use Rattle.base.proofs.Lists.{byTest, byFound, keep-no}
 use Rattle.routes.specs.Bus.{Bus, Feed, Port, insertPort, samePort, portOf, portFeed, placedFeed, place, deliver, muted, port}
 use Rattle.routes.specs.Demand3.{here, names, timesDelivered, atPort, through}
 use Rattle.routes.specs.Corners.{Cornering, turnsDown, turns, turnWire, withCorner, cornerLevel, cornerRerouter, corners}

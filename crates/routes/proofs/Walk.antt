@@ -11,7 +11,8 @@ use Rattle.board.specs.Board.{Board, placed, xOf}
 use Rattle.board.specs.Groups.{Tap, tapsOf, sourceRow}
 use Rattle.board.specs.Accepted.{Accepted}
 use Rattle.board.specs.Demands.{PageLanes, laneOf, planned, planLanes}
-use Rattle.base.proofs.Lists.{clash, and-right, same-two, byTest, byFound, none-at-all}
+use Rattle.base.proofs.Bools.{clash, and-right}
+use Rattle.base.proofs.Lists.{same-two, byTest, byFound, none-at-all}
 use Rattle.board.proofs.Taps.{taps-of}
 use Rattle.board.proofs.LanesFit.{planned-fits}
 use Rattle.routes.specs.Stops.{laidTaps, newGroup, newRow, newColumn}

@@ -8,7 +8,7 @@ use lib.ListN.{length, drop, length-append, length-map, length-drop}
 use Rattle.sheet.specs.declared.Counts.{Counts}
 use Rattle.board.specs.Board.{Board}
 use Rattle.board.specs.Demands.{PageLanes}
-use Rattle.base.proofs.Lists.{clash, never}
+use Rattle.base.proofs.Bools.{never, clash}
 use Rattle.routes.specs.Bus.{Bus, Port}
 use Rattle.routes.specs.Buffers.{portRow, portsHeld}
 use Rattle.routes.specs.Corners.{turnable, corners}

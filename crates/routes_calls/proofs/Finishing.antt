@@ -14,7 +14,8 @@ use Rattle.board.specs.Board.{Board}
 use Rattle.board.specs.Accepted.{Accepted}
 use Rattle.board.specs.Demands.{PageLanes, planned, planLanes}
 use Rattle.base.specs.Views.{view}
-use Rattle.base.proofs.Lists.{clash, count-none, none-counted, count-reverse, byTest}
+use Rattle.base.proofs.Bools.{clash}
+use Rattle.base.proofs.Lists.{count-none, none-counted, count-reverse, byTest}
 use Rattle.base.proofs.Views.{view-take}
 use Rattle.routes.specs.Bus.{Bus, Rerouter, BusWire, Port, insertPort, place, deliver, samePort, portOf, muted}
 use Rattle.routes.specs.Buffers.{rerouterRow, wireRow, portRow, portIn, portsHeld}

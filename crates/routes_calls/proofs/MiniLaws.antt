@@ -16,7 +16,7 @@ use Rattle.board.specs.Planning.{Planning, refused, planning, crowding, records
 use Rattle.board.specs.Refusals
 use Rattle.board.specs.Refusals.{Judged, board}
 use Rattle.board.specs.Walk.{WithinLibrary, countsIn}
-use Rattle.base.proofs.Lists.{and-left, and-right}
+use Rattle.base.proofs.Bools.{and-left, and-right}
 use Rattle.base.proofs.Views.{length-view}
 use Rattle.board_plan.specs.declared.Lent.{Lent}
 use Rattle.board_plan.specs.TextPlan.{fitsLent, fitting, shortest, FactsHold}

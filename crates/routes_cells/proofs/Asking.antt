@@ -14,7 +14,8 @@ use Rattle.board.specs.Rows
 use Rattle.board.specs.Rows.{cellsOverlap, rerouterCell, brickCell, bricksIn, nodesOn, rowOf}
 use Rattle.base.specs.Views.{view}
 use Rattle.board.specs.Tables.{NodeFacts}
-use Rattle.board.proofs.Newest.{pick-true, pick-false, newest-same}
+use Rattle.base.proofs.Bools.{clash, and-left, and-right, both, pick-true, pick-false}
+use Rattle.board.proofs.Newest.{newest-same}
 use Rattle.routes.specs.Stops.{near}
 use Rattle.routes.specs.Levels.{Stop, claimNear, unclaimed}
 use Rattle.routes.specs.Bus
@@ -26,15 +27,11 @@ use Rattle.routes_cells.specs.declared.cells.Wanted.{Wanted}
 use Rattle.routes_cells.specs.declared.cells.Wanted.the-variants.{Column, Beside}
 use Rattle.routes.specs.Buffers.{inward}
 use Rattle.routes_cells.specs.Chains.{bucketOf, halfOf, rowBucket, rerouterBucket, stopBucket, nodeBucket, meets, rerouterMeets, stopClaims, nodeMeets, boardWith, inBucket, nearBuckets, Sound, Fits, RowsOf, CellRows, RerouterRows}
-use Rattle.routes_cells.proofs.Walks.{and-first, and-second, and-true}
 use Rattle.routes_cells.proofs.RowTests.{claims-there}
 
 or-true : (a : Bool) → a || true ≡ true
 or-true true = refl
 or-true false = refl
-
-no : {A : Type 0} → false ≡ true → A
-no e = let z : _≡_ {A = ℕ} 0 1 = cc in absurd (omega arith)
 
 -- What passes lies in one of two buckets: both are asked.
 pub two-buckets : (p : ℕ → Bool) (bucket : ℕ → ℕ) (k₁ k₂ n : ℕ) → ((i : ℕ) → i < n → p i ≡ true → eqb (bucket i) k₁ || eqb (bucket i) k₂ ≡ true)
@@ -48,7 +45,7 @@ two-buckets p bucket k₁ k₂ (suc n) covers =
         ≡ found (elim (t && s₁) [ true ↦ at n | false ↦ newest (λ i. p i && eqb (bucket i) k₁) n ]) || found (elim (t && s₂) [ true ↦ at n | false ↦ newest (λ i. p i && eqb (bucket i) k₂) n ])
     go true true s₂ c ih = refl
     go true false true c ih = sym (or-true (found (newest (λ i. p i && eqb (bucket i) k₁) n)))
-    go true false false c ih = no (c refl)
+    go true false false c ih = clash (c refl) refl
     go false s₁ s₂ c ih = ih
 
 -- What passes lies in one bucket.
@@ -96,8 +93,8 @@ inward-outward c h = omega arith
 -- What is near has the half below or above.
 near-half : (x c : ℕ) → near x c ≡ true → (halfOf c ≡ (x + 1) / 2 → ⊥) → halfOf c ≡ (x + 3) / 2
 near-half x c e other =
-    let a : x < c + 2 = ltb-true x (c + 2) (and-first (ltb x (c + 2)) (ltb c (x + 2)) e) in
-    let b : c < x + 2 = ltb-true c (x + 2) (and-second (ltb x (c + 2)) (ltb c (x + 2)) e) in
+    let a : x < c + 2 = ltb-true x (c + 2) (and-left (ltb x (c + 2)) (ltb c (x + 2)) e) in
+    let b : c < x + 2 = ltb-true c (x + 2) (and-right (ltb x (c + 2)) (ltb c (x + 2)) e) in
     omega (arith, other)
 
 near-buckets : (p key x c : ℕ) → near x c ≡ true
@@ -120,31 +117,31 @@ covered k p key x c e h = ap (λ v. eqb v (bucketOf p key ((x + 1) / 2)) || eqb 
 column-covered : (p lane x : ℕ) (r : List ℕ) → getD r 9 0 ≡ MISSING → meets (Column p lane x) r ≡ true
     → eqb (rowBucket r) (bucketOf p lane ((x + 1) / 2)) || eqb (rowBucket r) (bucketOf p lane ((x + 3) / 2)) ≡ true
 column-covered p lane x r none′ e =
-    let abc = and-first _ (near x (inward (getD r 0 0))) e in
-    let ab = and-first (eqb (getD r 7 0) p && eqb (getD r 8 0) lane) _ abc in
-    let page : getD r 7 0 ≡ p = eqb-true (getD r 7 0) p (and-first (eqb (getD r 7 0) p) (eqb (getD r 8 0) lane) ab) in
-    let here : getD r 8 0 ≡ lane = eqb-true (getD r 8 0) lane (and-second (eqb (getD r 7 0) p) (eqb (getD r 8 0) lane) ab) in
+    let abc = and-left _ (near x (inward (getD r 0 0))) e in
+    let ab = and-left (eqb (getD r 7 0) p && eqb (getD r 8 0) lane) _ abc in
+    let page : getD r 7 0 ≡ p = eqb-true (getD r 7 0) p (and-left (eqb (getD r 7 0) p) (eqb (getD r 8 0) lane) ab) in
+    let here : getD r 8 0 ≡ lane = eqb-true (getD r 8 0) lane (and-right (eqb (getD r 7 0) p) (eqb (getD r 8 0) lane) ab) in
     covered (rowBucket r) p lane x (inward (getD r 0 0))
     (pick-true (eqb (getD r 9 0) MISSING) _ _ (eq-eqb _ _ none′) ∙ (λ i. bucketOf (page i) (here i) (halfOf (inward (getD r 0 0)))))
-    (and-second (eqb (getD r 7 0) p && eqb (getD r 8 0) lane && _) (near x (inward (getD r 0 0))) e)
+    (and-right (eqb (getD r 7 0) p && eqb (getD r 8 0) lane && _) (near x (inward (getD r 0 0))) e)
 
 -- Cells beside a row that overlap a rerouter's.
 overlap-near : (c d x y : ℕ) → cellsOverlap (rerouterCell c d) (rerouterCell x y) ≡ true → near y d ≡ true
 unfolding cellsOverlap
 overlap-near c d x y e =
-    let abc = and-first (ltb x (c + 2) && ltb c (x + 2) && ltb y (d + 2)) (ltb d (y + 2)) e in
-    and-true (ltb y (d + 2)) (ltb d (y + 2)) (and-second (ltb x (c + 2) && ltb c (x + 2)) (ltb y (d + 2)) abc) (and-second (ltb x (c + 2) && ltb c (x + 2) && ltb y (d + 2)) (ltb d (y + 2)) e)
+    let abc = and-left (ltb x (c + 2) && ltb c (x + 2) && ltb y (d + 2)) (ltb d (y + 2)) e in
+    both (ltb y (d + 2)) (ltb d (y + 2)) (and-right (ltb x (c + 2) && ltb c (x + 2)) (ltb y (d + 2)) abc) (and-right (ltb x (c + 2) && ltb c (x + 2) && ltb y (d + 2)) (ltb d (y + 2)) e)
 
 beside-covered : (p row x y : ℕ) (r : List ℕ) → (row ≡ MISSING → ⊥) → meets (Beside p row x y) r ≡ true
     → eqb (rowBucket r) (bucketOf p row ((y + 1) / 2)) || eqb (rowBucket r) (bucketOf p row ((y + 3) / 2)) ≡ true
 beside-covered p row x y r has e =
     let o : Bool = cellsOverlap (rerouterCell (inward (getD r 0 0)) (inward (getD r 1 0))) (rerouterCell x y) in
-    let ab = and-first (eqb (getD r 7 0) p && eqb (getD r 9 0) row) o e in
-    let page : getD r 7 0 ≡ p = eqb-true (getD r 7 0) p (and-first (eqb (getD r 7 0) p) (eqb (getD r 9 0) row) ab) in
-    let here : getD r 9 0 ≡ row = eqb-true (getD r 9 0) row (and-second (eqb (getD r 7 0) p) (eqb (getD r 9 0) row) ab) in
+    let ab = and-left (eqb (getD r 7 0) p && eqb (getD r 9 0) row) o e in
+    let page : getD r 7 0 ≡ p = eqb-true (getD r 7 0) p (and-left (eqb (getD r 7 0) p) (eqb (getD r 9 0) row) ab) in
+    let here : getD r 9 0 ≡ row = eqb-true (getD r 9 0) row (and-right (eqb (getD r 7 0) p) (eqb (getD r 9 0) row) ab) in
     covered (rowBucket r) p row y (inward (getD r 1 0))
     (pick-false (eqb (getD r 9 0) MISSING) _ _ (ne-eqb _ _ (λ z. has (sym here ∙ z))) ∙ (λ i. bucketOf (page i) (here i) (halfOf (inward (getD r 1 0)))))
-    (overlap-near (inward (getD r 0 0)) (inward (getD r 1 0)) x y (and-second (eqb (getD r 7 0) p && eqb (getD r 9 0) row) o e))
+    (overlap-near (inward (getD r 0 0)) (inward (getD r 1 0)) x y (and-right (eqb (getD r 7 0) p && eqb (getD r 9 0) row) o e))
 
 -- Own levels near x in a lane's column.
 claim-covered : (p lane x : ℕ) (r : List ℕ) → claimNear p lane x (stopIn r) ≡ true
@@ -153,11 +150,11 @@ claim-covered p lane x r e =
     let kinds : Bool = not (eqb (getD r 6 0) 0) && not (eqb (getD r 6 0) 1) in
     let n : Bool = near x (getD r 5 0) in
     let e′ : eqb (getD r 0 0) p && eqb (getD r 1 0) lane && (kinds && n) ≡ true = claims-there r p lane x n refl ∙ e in
-    let ab = and-first (eqb (getD r 0 0) p && eqb (getD r 1 0) lane) (kinds && n) e′ in
-    let page : getD r 0 0 ≡ p = eqb-true (getD r 0 0) p (and-first (eqb (getD r 0 0) p) (eqb (getD r 1 0) lane) ab) in
-    let here : getD r 1 0 ≡ lane = eqb-true (getD r 1 0) lane (and-second (eqb (getD r 0 0) p) (eqb (getD r 1 0) lane) ab) in
+    let ab = and-left (eqb (getD r 0 0) p && eqb (getD r 1 0) lane) (kinds && n) e′ in
+    let page : getD r 0 0 ≡ p = eqb-true (getD r 0 0) p (and-left (eqb (getD r 0 0) p) (eqb (getD r 1 0) lane) ab) in
+    let here : getD r 1 0 ≡ lane = eqb-true (getD r 1 0) lane (and-right (eqb (getD r 0 0) p) (eqb (getD r 1 0) lane) ab) in
     covered (bucketOf (getD r 0 0) (getD r 1 0) (halfOf (getD r 5 0))) p lane x (getD r 5 0) (λ i. bucketOf (page i) (here i) (halfOf (getD r 5 0)))
-    (and-second kinds n (and-second (eqb (getD r 0 0) p && eqb (getD r 1 0) lane) (kinds && n) e′))
+    (and-right kinds n (and-right (eqb (getD r 0 0) p && eqb (getD r 1 0) lane) (kinds && n) e′))
 
 -- V6, R13: no claim on the span, by the stops' own levels or by the heads and links placed so far.
 module _ (stops : List (List ℕ)) (s : ℕ) (bus : Bus) (table : List (List ℕ)) (n p lane x : ℕ) (rows : RerouterRows (bus .rerouters) table) (count : n ≡ length (bus .rerouters)) (has : lane ≡ MISSING → ⊥) where
@@ -185,8 +182,8 @@ module _ (stops : List (List ℕ)) (s : ℕ) (bus : Bus) (table : List (List ℕ
 
           there : getD r 8 0 ≡ lane
           there =
-              let abc = and-first _ (near x (inward (getD r 0 0))) e in
-              eqb-true (getD r 8 0) lane (and-second (eqb (getD r 7 0) p) (eqb (getD r 8 0) lane) (and-first (eqb (getD r 7 0) p && eqb (getD r 8 0) lane) _ abc))
+              let abc = and-left _ (near x (inward (getD r 0 0))) e in
+              eqb-true (getD r 8 0) lane (and-right (eqb (getD r 7 0) p) (eqb (getD r 8 0) lane) (and-left (eqb (getD r 7 0) p && eqb (getD r 8 0) lane) _ abc))
 
           go : (t : Bool) → eqb (getD r 9 0) MISSING ≡ t → getD r 9 0 ≡ MISSING
           go true f = eqb-true (getD r 9 0) MISSING f
@@ -245,9 +242,9 @@ module _ (b : Board) (bus : Bus) (nodes facts table : List (List ℕ)) (n p row 
       in-row : (i : ℕ) → nodeMeets nodes facts p row x y i ≡ true → eqb (nodeBucket nodes facts i) (bucketOf p row 0) ≡ true
       in-row i e =
           let o : Bool = cellsOverlap (brickCell (boardWith nodes) i) (rerouterCell x y) in
-          let ab = and-first (eqb (field nodes i 10) p && eqb (field facts i 0) row) o e in
-          let page : field nodes i 10 ≡ p = eqb-true (field nodes i 10) p (and-first (eqb (field nodes i 10) p) (eqb (field facts i 0) row) ab) in
-          let here : field facts i 0 ≡ row = eqb-true (field facts i 0) row (and-second (eqb (field nodes i 10) p) (eqb (field facts i 0) row) ab) in
+          let ab = and-left (eqb (field nodes i 10) p && eqb (field facts i 0) row) o e in
+          let page : field nodes i 10 ≡ p = eqb-true (field nodes i 10) p (and-left (eqb (field nodes i 10) p) (eqb (field facts i 0) row) ab) in
+          let here : field facts i 0 ≡ row = eqb-true (field facts i 0) row (and-right (eqb (field nodes i 10) p) (eqb (field facts i 0) row) ab) in
           eq-eqb (nodeBucket nodes facts i) (bucketOf p row 0) (λ j. bucketOf (page j) (here j) 0)
 
   beside-asked : any (besideRow p row (rerouterCell x y)) (bus .rerouters) ≡ nearBuckets (rerouterBucket table) (rerouterMeets table (Beside p row x y)) n p row y

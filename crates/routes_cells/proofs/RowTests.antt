@@ -11,7 +11,7 @@ use Rattle.sheet.specs.Table.{MISSING}
 use Rattle.board.specs.Board.{Board, field}
 use Rattle.board.specs.Rows
 use Rattle.board.specs.Rows.{cellsOverlap, rerouterCell, brickCell}
-use Rattle.board.proofs.Newest.{pick-true, pick-false}
+use Rattle.base.proofs.Bools.{pick-true, pick-false}
 use Rattle.routes.specs.Stops.{near}
 use Rattle.routes.specs.Levels.{Level, dropped, shared, own, claimNear}
 use Rattle.routes.specs.Bus.{partHead, partLink}

@@ -10,22 +10,9 @@ use lib.Seq.{getD-set-same, getD-set-other}
 use borrow.Author.Tests.{eq-eqb, ne-eqb, eqb-true, eqb-false}
 use Rattle.base.specs.Lists.{Found, none, at, found, newest}
 use Rattle.board.specs.Index.{Chained, link}
+use Rattle.base.proofs.Bools.{and-right, both, false-first}
 use Rattle.board.proofs.Newest.{Following, follow-found, follow-end, chain-start, chain-next, chained-more, chained-same, link-below, Implies}
 use Rattle.routes_cells.specs.Chains.{BUCKETS, Empty, Walkable, inBucket}
-
-pub and-second : (a b : Bool) → a && b ≡ true → b ≡ true
-and-second true b e = e
-and-second false b e = let z : _≡_ {A = ℕ} 0 1 = cc in absurd (omega arith)
-
-pub and-first : (a b : Bool) → a && b ≡ true → a ≡ true
-and-first true b e = refl
-and-first false b e = e
-
-pub and-true : (a b : Bool) → a ≡ true → b ≡ true → a && b ≡ true
-and-true a b p q = rw (p, q)
-
-pub and-false : (a b : Bool) → a ≡ false → a && b ≡ false
-and-false a b p = rw p
 
 abbrev pub inIt : (ℕ → ℕ) → ℕ → ℕ → Bool
 inIt bucket k i = eqb (bucket i) k
@@ -39,13 +26,13 @@ Walking bucket test n k l = Following (asked bucket test k) (inIt bucket k) n l
 
 module _ (bucket : ℕ → ℕ) (test : ℕ → Bool) (rows : ℕ) (nexts heads : List ℕ) (n k : ℕ) (w : Walkable bucket rows nexts heads n) where
   implied : Implies (asked bucket test k) (inIt bucket k)
-  implied i e = and-second (test i) (inIt bucket k i) e
+  implied i e = and-right (test i) (inIt bucket k i) e
 
   pub walk-start : k < BUCKETS → Walking bucket test n k (getD heads k 0)
   walk-start h = chain-start BUCKETS bucket nexts heads n (w .chained) (asked bucket test k) k implied h
 
   pub walk-next : (l : ℕ) → Walking bucket test n k l → (l ≡ 0 → ⊥) → test (l - 1) ≡ false → Walking bucket test n k (getD nexts (l - 1) 0)
-  walk-next l f nz no′ = chain-next BUCKETS bucket nexts heads n (w .chained) (asked bucket test k) k implied l (l - 1) (omega (arith, nz)) f (and-false (test (l - 1)) (inIt bucket k (l - 1)) no′)
+  walk-next l f nz no′ = chain-next BUCKETS bucket nexts heads n (w .chained) (asked bucket test k) k implied l (l - 1) (omega (arith, nz)) f (false-first (test (l - 1)) (inIt bucket k (l - 1)) no′)
 
   pub walk-less : (l : ℕ) → Walking bucket test n k l → (l ≡ 0 → ⊥) → getD nexts (l - 1) 0 < l
   walk-less l f nz =
@@ -57,7 +44,7 @@ module _ (bucket : ℕ → ℕ) (test : ℕ → Bool) (rows : ℕ) (nexts heads 
   pub walk-found : (l : ℕ) → Walking bucket test n k l → (l ≡ 0 → ⊥) → test (l - 1) ≡ true → true ≡ inBucket bucket test n k
   walk-found l f nz yes′ =
       let e : l ≡ suc (l - 1) = omega (arith, nz) in
-      sym (ap found (follow-found (asked bucket test k) (inIt bucket k) n l (l - 1) f e (and-true (test (l - 1)) (inIt bucket k (l - 1)) yes′ (f .held (l - 1) e))))
+      sym (ap found (follow-found (asked bucket test k) (inIt bucket k) n l (l - 1) f e (both (test (l - 1)) (inIt bucket k (l - 1)) yes′ (f .held (l - 1) e))))
 
   pub walk-end : (l : ℕ) → Walking bucket test n k l → l ≡ 0 → false ≡ inBucket bucket test n k
   walk-end l f z = sym (ap found (follow-end (asked bucket test k) (inIt bucket k) n l 0 f z))

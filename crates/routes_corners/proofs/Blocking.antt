@@ -19,7 +19,8 @@ use Rattle.board.proofs.Newest.{newest-through}
 use Rattle.routes.specs.Bus.{Bus, clearOfRow}
 use Rattle.routes_cells.specs.Chains.{BUCKETS, cellOf, Walkable, CellRows, inBucket, nearBuckets, bucketOf, nodeBucket, rerouterBucket}
 use Rattle.routes_cells.specs.declared.cells.Cell.{Cell}
-use Rattle.routes_cells.proofs.Walks.{Walking, walk-start, walk-next, inIt, asked, and-second}
+use Rattle.base.proofs.Bools.{and-right, and-false}
+use Rattle.routes_cells.proofs.Walks.{Walking, walk-start, walk-next, inIt, asked}
 use Rattle.routes_cells.proofs.Asking.{row-taken, row-asked}
 use Rattle.routes_levels.proofs.LevelLaws.{same-test}
 use Rattle.routes_corners.specs.Blocked.{larger, levelAt, beyond, blocked, Blocks, cellMeets, nodeAt, rerouterAt, Spread, TellsClear}
@@ -47,10 +48,6 @@ or-less false false i = refl
 or-more : (a b : Bool) → (a ≡ true → b ≡ true) → b ≡ a || b
 or-more true b i = i refl
 or-more false b i = refl
-
-pub and-no : (a : Bool) → a && false ≡ false
-and-no true = refl
-and-no false = refl
 
 pub and-yes : (a : Bool) → a && true ≡ a
 and-yes true = refl
@@ -111,15 +108,15 @@ module _ (l : Levels) (cell : Cell) (first : ℕ) (is : first ≡ (cell .x0 - l 
   within = ltb (l .y) (cell .y1) && ltb (cell .y0) (l .y + 2) && ltb first (l .count)
 
   pub within-first : within ≡ true → first < l .count
-  within-first e = ltb-true first (l .count) (and-second (ltb (l .y) (cell .y1) && ltb (cell .y0) (l .y + 2)) (ltb first (l .count)) e)
+  within-first e = ltb-true first (l .count) (and-right (ltb (l .y) (cell .y1) && ltb (cell .y0) (l .y + 2)) (ltb first (l .count)) e)
 
   begins : (k : ℕ) → ltb (cell .x0) (levelAt l k + 2) ≡ ltb first (suc k)
   begins k = same-test _ _ (λ t. let h = ltb-true (cell .x0) (levelAt l k + 2) t in lt-ltb first (suc k) (omega arith)) (λ t. let h = ltb-true first (suc k) t in lt-ltb (cell .x0) (levelAt l k + 2) (omega arith))
 
   tests : (v f s t g : Bool) → (f ≡ true → g ≡ true) → v && f && s && t ≡ (s && t && g) && (f && v)
-  tests v false s t g i = ap (λ a. a && s && t) (and-no v) ∙ sym (and-no (s && t && g))
+  tests v false s t g i = ap (λ a. a && s && t) (and-false v) ∙ sym (and-false (s && t && g))
   tests true true s t g i = sym (and-yes (s && t && g) ∙ ap (λ a. s && t && a) (i refl) ∙ and-yes (s && t))
-  tests false true s t g i = sym (and-no (s && t && g))
+  tests false true s t g i = sym (and-false (s && t && g))
 
   meets : (k : ℕ) → k < l .count → cellMeets cell l k ≡ within && (ltb first (suc k) && ltb (levelAt l k) (cell .x1))
   unfolding cellsOverlap
@@ -180,7 +177,7 @@ module _ (l : Levels) (bucket : ℕ → ℕ) (test : ℕ → ℕ → Bool) (rows
       ap (λ m. found (newest (asked bucket p k) m)) e
       ∙ step (asked bucket p k i) i (newest (asked bucket p k) i)
       ∙ ap₂ (λ s t. s || found t) (ap (λ t. p i && t) in-it ∙ and-yes (p i))
-      (newest-through (asked bucket p k) (inIt bucket k) (λ m q. and-second (p m) (inIt bucket k m) q) i ∙ ap (newest (asked bucket p k)) (sym next))
+      (newest-through (asked bucket p k) (inIt bucket k) (λ m q. and-right (p m) (inIt bucket k m) q) i ∙ ap (newest (asked bucket p k)) (sym next))
     where
       step : (t : Bool) (i : ℕ) (f : Found) → found (elim t [ true ↦ at i | false ↦ f ]) ≡ t || found f
       step true i f = refl

@@ -30,14 +30,11 @@ use Rattle.routes_corners.specs.CornerTables.{atSink, takenMarks, TurnOf
 use Rattle.routes_corners.specs.declared.lay.Turn.{Turn}
 use Rattle.routes_levels.specs.declared.levels.Found.the-variants.{None, At}
 use Rattle.routes_levels.specs.declared.marks.Mark.{Mark}
-use Rattle.base.proofs.Lists.{clash, and-left, and-right}
+use Rattle.base.proofs.Bools.{never, clash, and-left, and-right, both, and-false}
 use Rattle.routes_levels.proofs.MarkLaws.{same-mark}
 use Rattle.routes_levels.proofs.LevelLaws.{same-test}
-use Rattle.routes_corners.proofs.Blocking.{and-no, and-yes}
+use Rattle.routes_corners.proofs.Blocking.{and-yes}
 use Rattle.routes_levels.proofs.Searches.{none-kept, found-at, found-none}
-
-both : {s t : Bool} → s ≡ true → t ≡ true → s && t ≡ true
-both p q = λ w. p w && q w
 
 -- A level that a corner of the sink took has its mark.
 taken-same : (t x : ℕ) (k : Taken) → eqb (k .sink) t && eqb (k .level) x ≡ sameMark (atSink t x) (atSink (k .sink) (k .level))
@@ -47,12 +44,12 @@ taken-same t x k = same-test _ _ there back
     there e =
         let sinks : k .sink ≡ t = eqb-true (k .sink) t (and-left (eqb (k .sink) t) (eqb (k .level) x) e) in
         let levels : k .level ≡ x = eqb-true (k .level) x (and-right (eqb (k .sink) t) (eqb (k .level) x) e) in
-        both (both (both (eq-eqb x (k .level) (sym levels)) (eq-eqb t (k .sink) (sym sinks))) (eq-eqb 0 0 refl)) (eq-eqb 2 2 refl)
+        both _ _ (both _ _ (both _ _ (eq-eqb x (k .level) (sym levels)) (eq-eqb t (k .sink) (sym sinks))) (eq-eqb 0 0 refl)) (eq-eqb 2 2 refl)
 
     back : sameMark (atSink t x) (atSink (k .sink) (k .level)) ≡ true → eqb (k .sink) t && eqb (k .level) x ≡ true
     back e =
         let m = same-mark (atSink t x) (atSink (k .sink) (k .level)) e in
-        both (eq-eqb (k .sink) t (sym (ap (λ v. v .place) m))) (eq-eqb (k .level) x (sym (ap (λ v. v .level) m)))
+        both _ _ (eq-eqb (k .sink) t (sym (ap (λ v. v .place) m))) (eq-eqb (k .level) x (sym (ap (λ v. v .level) m)))
 
 pub load-taken : (b : Board) (ts : List Taken) (t x : ℕ) → sinkLoad b ts t x ≡ countOf (atSink t x) (takenMarks ts)
 unfolding sinkLoad countOf
@@ -88,7 +85,7 @@ module _ (b : Board) (c : Cornering) (s t : ℕ) (marks : List (List ℕ)) (m : 
   corner-blocked l = sym (h .clear) ∙ lt-leb end x l
 
   pub corner-closed : x < end → false ≡ openCorner b c s t x
-  corner-closed l = sym (ap (λ v. eqb (sinkLoad b (c .taken) t x) 0 && v) (corner-blocked l) ∙ and-no (eqb (sinkLoad b (c .taken) t x) 0))
+  corner-closed l = sym (ap (λ v. eqb (sinkLoad b (c .taken) t x) 0 && v) (corner-blocked l) ∙ and-false (eqb (sinkLoad b (c .taken) t x) 0))
 
   pub corner-open : (used : Bool) → used ≡ any (sameMark mark) (view markIn marks m) → end ≤ x → not used ≡ openCorner b c s t x
   corner-open used e l = sym (ap₂ (λ u v. u && v) (unused ∙ ap not (sym e)) (corner-clear l) ∙ and-yes (not used))
@@ -166,7 +163,7 @@ newest-none p zero i e h t = omega arith
 newest-none p (suc n) i e h t = go (p n) refl e (decLt i n) (λ f l. newest-none p n i f l t)
   where
     go : (s : Bool) → p n ≡ s → elim s [ true ↦ at n | false ↦ newest p n ] ≡ none → Dec (i < n) → (newest p n ≡ none → i < n → ⊥) → ⊥
-    go true u f d below = let z : _≡_ {A = ℕ} 0 1 = cc in omega arith
+    go true u f d below = never cc
     go false u f (yes l) below = below f l
     go false u f (no o) below = let same : i ≡ n = omega arith in clash {t = p n} (ap p (sym same) ∙ t) u
 

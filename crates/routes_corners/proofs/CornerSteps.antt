@@ -17,8 +17,7 @@ use Rattle.board.specs.Refusals.{bodyOf}
 use Rattle.board.specs.Rows.{brickCell}
 use Rattle.base.specs.Views.{view}
 use Rattle.board.specs.Tables.{held}
-use Rattle.base.proofs.Lists.{clash}
-use Rattle.board.proofs.Newest.{pick-true, pick-false}
+use Rattle.base.proofs.Bools.{clash, pick-true, pick-false}
 use Rattle.routes.proofs.Room.{turned-before, corner-room}
 use Rattle.routes.specs.Bus
 use Rattle.routes.specs.Bus.{Bus, samePort, portOf, muted, place, placedFeed, portFeed, deliver}

@@ -15,7 +15,7 @@ use Rattle.board.specs.Rows.{brickCell, rowOf}
 use Rattle.board_groups.proofs.RowLaws.{row-below}
 use Rattle.base.specs.Views.{view}
 use Rattle.board.specs.Tables.{flag, NodeFacts}
-use Rattle.base.proofs.Lists.{and-left, and-right}
+use Rattle.base.proofs.Bools.{and-left, and-right}
 use Rattle.routes.specs.Bus
 use Rattle.routes.specs.Bus.{samePort}
 use Rattle.routes_cells.specs.Chains.{BUCKETS, Empty, Walkable, rerouterBucket, nodeBucket, boardWith, CellRows}

@@ -18,7 +18,7 @@ use Rattle.board.specs.Groups.{anchorOf, sourceAnchor, sourceRow, tapsIn}
 use Rattle.board.specs.Demands.{PageLanes, noLanes, laneOf, laneIn, laneY}
 use Rattle.base.specs.Views.{view}
 use Rattle.board.specs.Tables.{held, tapIn, NodeFacts, WireFacts}
-use Rattle.board.proofs.Newest.{pick-true, pick-false}
+use Rattle.base.proofs.Bools.{clash, pick-true, pick-false}
 use Rattle.routes.specs.Stops.{newGroup, newRow, newColumn}
 use Rattle.routes.specs.Levels.{Level, dropped, shared, own, laneFor}
 use Rattle.routes.specs.Rerouters.{source, chainRotation, levelHere}
@@ -65,7 +65,7 @@ kept-some p t (u ∷ l) e m = go (p u) refl (kept-some p t l e) (List·Memᴰ·c
   where
     go : (s : Bool) → p u ≡ s → (List·Memᴰ t l → Some (keep p l)) → (t ≡ u) ⊎ List·Memᴰ t l → Some (elim s [ true ↦ u ∷ keep p l | false ↦ keep p l ])
     go true eu rest m′ = some
-    go false eu rest m′ = ⊎-elim (λ same. let z : false ≡ true = sym eu ∙ ap p (sym same) ∙ e in absurd (let o : _≡_ {A = ℕ} 0 1 = cc in omega arith)) rest m′
+    go false eu rest m′ = ⊎-elim (λ same. clash (ap p (sym same) ∙ e) eu) rest m′
 
 over-least : (x : ℕ) (l : List Groups.Tap) → Some l → not (any (λ u. not (ltb x (u .x))) l) ≡ ltb x (least 0 (map (λ u. u .x) l))
 over-least x [] h = elim h [ ]

@@ -13,7 +13,7 @@ use Rattle.board.specs.Groups
 use Rattle.board.specs.Demands.{PageLanes}
 use Rattle.base.specs.Views.{view}
 use Rattle.board.specs.Tables.{tapIn}
-use Rattle.board.proofs.Newest.{pick-true, pick-false}
+use Rattle.base.proofs.Bools.{pick-true}
 use Rattle.routes.specs.Stops.{newRow}
 use Rattle.routes.specs.Levels.{Stop, Level, stopsOf, stopFor, laneFor}
 use Rattle.routes.specs.Rerouters

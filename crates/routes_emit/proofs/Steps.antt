@@ -14,7 +14,7 @@ use Rattle.board.specs.Rows.{rerouterCell}
 use Rattle.board.specs.Groups
 use Rattle.board.specs.Groups.{sourceRow}
 use Rattle.board.specs.Demands.{PageLanes}
-use Rattle.board.proofs.Newest.{pick-true, pick-false}
+use Rattle.base.proofs.Bools.{pick-true, pick-false}
 use Rattle.routes.specs.Levels.{Stop, Level, laneFor, dropped, shared, own}
 use Rattle.routes.specs.Bus
 use Rattle.routes.specs.Bus.{Bus, clearOfRow, partSource, partHead, partLink, partTap, partGateSide, roleSource, roleGutter, portFeed}

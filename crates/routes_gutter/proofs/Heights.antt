@@ -11,7 +11,8 @@ use Rattle.board.specs.Board.{Board}
 use Rattle.board.specs.Rows.{rowTop}
 use Rattle.board.specs.Groups.{Tap}
 use Rattle.board.specs.Demands.{PageLanes}
-use Rattle.base.proofs.Lists.{never, byTest, byFound}
+use Rattle.base.proofs.Bools.{never}
+use Rattle.base.proofs.Lists.{byTest, byFound}
 use Rattle.routes.specs.Stops.{newRow, near, stopX}
 use Rattle.routes.specs.Levels.{Stop, keptAt, previousStop, levelWithBase, lowest, lighter, lightest, levelsIn, STAGGER_STEP, freeLevel, loadAt, unclaimed, findLevel, ownLevel, levelOf, stopFor, stopsOf, laneFor}
 

@@ -10,7 +10,7 @@ use lib.ListN.{length, getD, replicate, length-replicate, getD-replicate}
 use Rattle.board.specs.Board.{field}
 use Rattle.base.specs.Views.{view}
 use Rattle.board.specs.Tables.{tapIn}
-use Rattle.board.proofs.Newest.{pick-true, pick-false}
+use Rattle.base.proofs.Bools.{pick-true, pick-false}
 use Rattle.routes.specs.Stops.{newGroup}
 use Rattle.routes.specs.Plan.{groupCount}
 use Rattle.routes_levels.specs.Laying.{NoMarks}

@@ -16,7 +16,7 @@ use Rattle.board.specs.Demands.{PageLanes, noLanes, laneOf}
 use Rattle.board.specs.Tables
 use Rattle.base.specs.Views.{view}
 use Rattle.board.specs.Tables.{held, tapIn, groupRow}
-use Rattle.base.proofs.Lists.{never, and-left}
+use Rattle.base.proofs.Bools.{never, and-left}
 use Rattle.base.proofs.Members.{map-in, map-from, keep-from}
 use Rattle.board_groups.proofs.RowLaws.{On, on-from, row-below}
 use Rattle.board_groups.proofs.TapLaws.{carried-row, carried-below}

@@ -14,7 +14,7 @@ use Rattle.board.specs.Board.{Board, field}
 use Rattle.board.specs.Rows.{REROUTER_SIZE, rowTop}
 use Rattle.board.specs.Groups.{Tap}
 use Rattle.board.specs.Index.{link}
-use Rattle.board.proofs.Newest.{pick-true, pick-false}
+use Rattle.base.proofs.Bools.{never, pick-true, pick-false}
 use Rattle.routes.specs.Stops.{near, stopX}
 use Rattle.routes.specs.Levels.{Level, dropped, shared, own, Stop, keptAt, previousStop, levelWithBase, levelOf, ownLevel, findLevel}
 use Rattle.routes_levels.specs.Laying.{levelAnswer, stopAnswer, keptEnd, Ends}
@@ -68,17 +68,17 @@ module _ (previous x : ℕ) (f : Found) (some : previous ≡ 0 → ⊥) (e : pre
 -- A stop's level is what its answer says.
 pub dropped-is : (v : Level) → Dropped ≡ stopAnswer v → v ≡ dropped
 dropped-is dropped e = refl
-dropped-is (shared l) e = let z : _≡_ {A = ℕ} 0 1 = cc in absurd (omega arith)
-dropped-is (own l) e = let z : _≡_ {A = ℕ} 0 1 = cc in absurd (omega arith)
+dropped-is (shared l) e = never cc
+dropped-is (own l) e = never cc
 
 pub shared-is : (l : ℕ) (v : Level) → Shared l ≡ stopAnswer v → v ≡ shared l
-shared-is l dropped e = let z : _≡_ {A = ℕ} 0 1 = cc in absurd (omega arith)
+shared-is l dropped e = never cc
 shared-is l (shared k) e = ap shared (cc)
-shared-is l (own k) e = let z : _≡_ {A = ℕ} 0 1 = cc in absurd (omega arith)
+shared-is l (own k) e = never cc
 
 pub own-is : (l : ℕ) (v : Level) → Own l ≡ stopAnswer v → v ≡ own l
-own-is l dropped e = let z : _≡_ {A = ℕ} 0 1 = cc in absurd (omega arith)
-own-is l (shared k) e = let z : _≡_ {A = ℕ} 0 1 = cc in absurd (omega arith)
+own-is l dropped e = never cc
+own-is l (shared k) e = never cc
 own-is l (own k) e = ap own (cc)
 
 -- The level of a stop: taken over, or the finder's.

@@ -15,7 +15,7 @@ use Rattle.board.specs.Demands.{PageLanes}
 use Rattle.base.specs.Views.{view}
 use Rattle.board.specs.Tables.{tapIn}
 use Rattle.board.specs.Index.{link}
-use Rattle.board.proofs.Newest.{pick-true, pick-false}
+use Rattle.base.proofs.Bools.{pick-true, pick-false}
 use Rattle.base.proofs.Views.{view-more}
 use Rattle.routes.specs.Stops.{newRow, stopX}
 use Rattle.routes.specs.Levels.{Level, dropped, shared, own, Stop, previousStop, levelWithBase, levelOf, stopFor, stopsOf, laneFor}

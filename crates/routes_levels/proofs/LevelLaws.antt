@@ -10,8 +10,7 @@ use lib.ListN.{length}
 use borrow.Author.Tests.{eq-eqb, ne-eqb, eqb-true, lt-ltb, ltb-true, le-leb, lt-leb, leb-true, leb-false}
 use Rattle.sheet.specs.Table.{MISSING}
 use Rattle.base.specs.Lists.{Found, none, at, any, keep}
-use Rattle.base.proofs.Lists.{clash, and-left, and-right, both, or-left, or-right}
-use Rattle.board.proofs.Newest.{pick-true, pick-false}
+use Rattle.base.proofs.Bools.{clash, and-left, and-right, both, and-false, or-left, or-right, either-left, either-right, pick-true, pick-false}
 use Rattle.routes.specs.Stops.{near}
 use Rattle.routes_levels.proofs.Searches.{none-kept, found-at, found-none}
 use Rattle.routes.specs.Levels.{Level, dropped, shared, own, Stop, STAGGER_STEP, keptAt, keptThere, claimNear, loadAt, unclaimed, freeLevel, findLevel, lowest, lighter, lightest, levelsIn}
@@ -27,17 +26,6 @@ pub same-test : (s t : Bool) → (s ≡ true → t ≡ true) → (t ≡ true →
 same-test true t f g = sym (f refl)
 same-test false true f g = g refl
 same-test false false f g = refl
-
-either-right : (s t : Bool) → t ≡ true → s || t ≡ true
-either-right true t e = refl
-either-right false t e = e
-
-either-left : (s t : Bool) → s ≡ true → s || t ≡ true
-either-left s t e = ap (λ v. v || t) e
-
-and-false : (s : Bool) → s && false ≡ false
-and-false true = refl
-and-false false = refl
 
 -- A mark on a row is none in a column, and the other way round.
 sides-differ : (p q r s x y : ℕ) → sameMark (onRow p r x) (inColumn q s y) ≡ false

@@ -13,8 +13,9 @@ use Rattle.base.specs.Lists.{Found, none, at, found, any, keep, newest}
 use Rattle.board.specs.Board.{field}
 use Rattle.base.specs.Views.{view}
 use Rattle.board.specs.Index.{link}
-use Rattle.base.proofs.Lists.{and-left, and-right, count-le}
-use Rattle.board.proofs.Newest.{Following, Implies, chain-start, chain-next, chain-falls, chained-more, chained-same, link-held, link-below, follow-found, follow-end, pick-true, pick-false}
+use Rattle.base.proofs.Bools.{and-left, and-right, pick-true, pick-false}
+use Rattle.base.proofs.Lists.{count-le}
+use Rattle.board.proofs.Newest.{Following, Implies, chain-start, chain-next, chain-falls, chained-more, chained-same, link-held, link-below, follow-found, follow-end}
 use Rattle.base.proofs.Views.{view-set, view-more}
 use Rattle.routes_levels.specs.Marks.{Marks, markIn, nextIn, markBucket, sameMark, countOf, MARK_BUCKETS}
 use Rattle.routes_levels.specs.declared.marks.Mark.{Mark}

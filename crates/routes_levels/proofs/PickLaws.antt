@@ -8,7 +8,7 @@ use native.Mathlib.Omega.{arith}
 use lib.ListN.{length, getD, take, set, length-append}
 use lib.Seq.{take-suc-set, take-at}
 use Rattle.base.specs.Sort.{sorted, sortedRows}
-use Rattle.board.proofs.Newest.{pick-true, pick-false}
+use Rattle.base.proofs.Bools.{pick-true, pick-false}
 use Rattle.base.specs.Lists.{keep}
 use Rattle.board.specs.Board.{Board}
 use Rattle.board.specs.Groups.{Tap}

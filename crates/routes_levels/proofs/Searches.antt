@@ -9,7 +9,7 @@ use lib.ListN.{length}
 use borrow.Author.Tests.{eq-eqb, ne-eqb, le-leb, lt-leb, leb-true, leb-false}
 use Rattle.sheet.specs.Table.{MISSING}
 use Rattle.base.specs.Lists.{Found, none, at, any, keep}
-use Rattle.board.proofs.Newest.{pick-true, pick-false}
+use Rattle.base.proofs.Bools.{never, pick-true, pick-false}
 use Rattle.routes.specs.Levels.{STAGGER_STEP, lowest, lighter, lightest, levelsIn}
 use Rattle.routes_levels.specs.Laying.{levelAnswer}
 use Rattle.routes_levels.specs.declared.levels.Found.{Found as LevelFound}
@@ -115,9 +115,9 @@ best-all ok load base count k best least h l =
 
 -- What an answer says was found.
 pub found-at : (f : Found) (l : ℕ) → At l ≡ levelAnswer f → f ≡ at l
-found-at none l e = let z : _≡_ {A = ℕ} 0 1 = cc in absurd (omega arith)
+found-at none l e = never cc
 found-at (at y) l e = ap at (cc)
 
 pub found-none : (f : Found) → None ≡ levelAnswer f → f ≡ none
 found-none none e = refl
-found-none (at y) e = let z : _≡_ {A = ℕ} 0 1 = cc in absurd (omega arith)
+found-none (at y) e = never cc

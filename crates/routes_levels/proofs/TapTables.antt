@@ -17,7 +17,8 @@ use Rattle.board.specs.Demands.{PageLanes, laneOf}
 use Rattle.base.specs.Views.{view}
 use Rattle.board.specs.Tables.{NodeFacts, held, tapIn}
 use Rattle.board.specs.Index.{link}
-use Rattle.base.proofs.Lists.{never, and-left, and-right, byTest, byFound, in-keep, in-sorted, in-reverse}
+use Rattle.base.proofs.Bools.{never, and-left, and-right}
+use Rattle.base.proofs.Lists.{byTest, byFound, in-keep, in-sorted, in-reverse}
 use Rattle.board.proofs.Taps.{taps-of}
 use Rattle.board.proofs.Newest.{link-below}
 use Rattle.base.proofs.Views.{view-mem}
@@ -97,7 +98,7 @@ module _ (b : Board) (ps : List PageLanes) (nodes facts groups laid : List (List
       go (laneOf ps (t .page) (t .group)) (and-left _ _ (member k l .1)) (a .groupRows .lanes t (member k l .0))
     where
       go : (f : Found) → found f ≡ true → field groups (field laid k 1) 4 ≡ held f → field groups (field laid k 1) 4 ≡ elim f [ at l ↦ l | none ↦ zero ]
-      go none h e = absurd (let z : _≡_ {A = ℕ} 0 1 = cc in omega arith)
+      go none h e = never cc
       go (at i) h e = e
 
   top-at : (k : ℕ) → k < n → field facts (field facts (field laid k 7) 3) 1 ≡ rowTop b (field laid k 0) (field laid k 2)

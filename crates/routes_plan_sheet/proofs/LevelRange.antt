@@ -13,7 +13,8 @@ use Rattle.board.specs.Board.{Board, classInline, kindCoerce, classOf, kindOf, 
 use Rattle.board.specs.Rows.{rowTop}
 use Rattle.board.specs.Groups.{Tap, tapsOf, tapFor, addWire, wireOpen, anchorOf, anchorsOpen, crossesAt, isBusWorthy, targetsExec}
 use Rattle.board.specs.Demands.{PageLanes}
-use Rattle.base.proofs.Lists.{never, and-right, byTest, byFound}
+use Rattle.base.proofs.Bools.{never, and-right}
+use Rattle.base.proofs.Lists.{byTest, byFound}
 use Rattle.routes.specs.Stops.{newRow, near, stopX}
 use Rattle.routes.specs.Levels.{Level, dropped, shared, own, Stop, STAGGER_STEP, keptAt, levelsIn, lowest, lighter, lightest, previousStop, levelWithBase, findLevel, freeLevel, loadAt, unclaimed, ownLevel, levelOf, stopFor, stopsOf, laneFor}
 use Rattle.routes.specs.Rerouters.{levelHere}

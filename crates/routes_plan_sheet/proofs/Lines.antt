@@ -14,6 +14,7 @@ use borrow.Author.Tests.{eq-eqb, ne-eqb}
 use Rattle.sheet.specs.Text.{NEWLINE}
 use Rattle.sheet.specs.Table.{MISSING}
 use Rattle.sheet.specs.Written.{Wrote, decimal, coordinateText, numberText, tabbed}
+use Rattle.base.proofs.Bools.{pick-true, pick-false}
 use Rattle.sheet.proofs.Writing.{wrote-more, decimal-length, coordinate-below, coordinate-above, number-missing, number-given, wrote-nothing, coordinate-length, number-length}
 use Rattle.routes.specs.PlanSheet.{line, fields, numbered, rerouterLine}
 use Rattle.routes.specs.Buffers.{inward}
@@ -124,18 +125,10 @@ unfolding fieldText rerouterLine
 rerouter-text n r x y z ex ey ez = rw (ex, ey, ez)
 
 pub letter-rerouter : (p : ℕ) → p ≡ MISSING → 98 ≡ letterOf p
-letter-rerouter p e = sym (pick-b (eqb p MISSING) (eq-eqb p MISSING e))
-  where
-    pick-b : (t : Bool) → t ≡ true → _≡_ {A = ℕ} (elim t as (λ _. ℕ) [ true ↦ 98 | false ↦ 112 ]) 98
-    pick-b true e = refl
-    pick-b false e = let z : _≡_ {A = ℕ} 0 1 = cc in absurd (omega arith)
+letter-rerouter p e = sym (pick-true (eqb p MISSING) 98 112 (eq-eqb p MISSING e))
 
 pub letter-port : (p : ℕ) → (p ≡ MISSING → ⊥) → 112 ≡ letterOf p
-letter-port p e = sym (pick-p (eqb p MISSING) (ne-eqb p MISSING e))
-  where
-    pick-p : (t : Bool) → t ≡ false → _≡_ {A = ℕ} (elim t as (λ _. ℕ) [ true ↦ 98 | false ↦ 112 ]) 112
-    pick-p false e = refl
-    pick-p true e = let z : _≡_ {A = ℕ} 0 1 = cc in absurd (omega arith)
+letter-port p e = sym (pick-false (eqb p MISSING) 98 112 (ne-eqb p MISSING e))
 
 -- The fields of a bus wire's line, with the letters of its ends found first.
 letter-small : (p : ℕ) → letterOf p % 256 ≡ letterOf p

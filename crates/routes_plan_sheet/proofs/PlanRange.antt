@@ -13,7 +13,8 @@ use Rattle.board.specs.Refusals.{bodyOf}
 use Rattle.board.specs.Rows.{REROUTER_SIZE, rowOf, brickCell}
 use Rattle.board.specs.Groups.{Tap, tapsOf, tapsIn, wireOpen, sourceAnchor, sourceRow}
 use Rattle.board.specs.Demands.{PageLanes, laneOf, laneY, planned, planLanes}
-use Rattle.base.proofs.Lists.{never, clash, and-left, and-right, byTest, byFound}
+use Rattle.base.proofs.Bools.{never, clash, and-left, and-right}
+use Rattle.base.proofs.Lists.{byTest, byFound}
 use Rattle.board.proofs.LanesFit.{planned-fits}
 use Rattle.routes.specs.Stops.{laidTaps, isLaid, newGroup, newRow, newColumn}
 use Rattle.routes.specs.Levels.{Level, dropped, shared, own, Stop, levelsIn, lowest, stopsOf, laneFor}

@@ -12,7 +12,8 @@ use Rattle.lanes.specs.Lanes.{Packed, full, laned}
 use Rattle.board.specs.Groups.{Tap, tapsOf}
 use Rattle.board.specs.Demands.{PageLanes, Planned, crowded, planned, planLanes, planUpto, packedOn, groupsOn}
 use Rattle.board.specs.Planning.{pageRow}
-use Rattle.base.proofs.Lists.{never, byTest, in-reverse}
+use Rattle.base.proofs.Bools.{never}
+use Rattle.base.proofs.Lists.{byTest, in-reverse}
 use Rattle.routes.specs.Bus.{Bus, Rerouter, BusWire, End, port, rerouter, Carries, onward, delivery}
 use Rattle.routes.specs.Buffers.{rerouterRow, wireRow, portRow}
 use Rattle.routes.specs.Tables.{writtenOver}

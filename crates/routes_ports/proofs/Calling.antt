@@ -15,7 +15,8 @@ use Rattle.base.specs.Lists.{any, keep, upto}
 use Rattle.board.specs.Accepted.{Accepted}
 use Rattle.board.specs.Board.{Board}
 use Rattle.board.specs.Demands.{PageLanes}
-use Rattle.base.proofs.Lists.{byTest, none-counted, neither, or-left, or-right}
+use Rattle.base.proofs.Bools.{or-left, or-right, neither}
+use Rattle.base.proofs.Lists.{byTest, none-counted}
 use Rattle.routes.specs.Bus.{Bus, BusWire, End, port, rerouter, Carries, onward, delivery, Port, insertPort, samePort}
 use Rattle.routes.specs.Buffers.{wireRow, portIn, portsHeld}
 use Rattle.routes.specs.Tables.{writtenOver}

@@ -10,7 +10,7 @@ use lib.ListN.{length, getD, take, drop, set, length-set, length-append, length-
 use lib.Seq.{take-suc-set, drop-set-lt, drop-drop, length-take-le, drop-cons, getD-take}
 use Rattle.sheet.specs.Table.{MISSING}
 use borrow.Author.Tests.{eq-eqb, ne-eqb, not-true, not-false}
-use Rattle.base.proofs.Lists.{clash}
+use Rattle.base.proofs.Bools.{clash}
 use Rattle.routes.specs.Bus.{BusWire, port, rerouter, onward, delivery, Port, samePort}
 use Rattle.routes.specs.Buffers.{portRow, wireIn, portIn, portsHeld}
 use Rattle.routes_ports.specs.Ports.{sentTo, targets}

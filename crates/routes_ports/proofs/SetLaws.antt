@@ -10,7 +10,8 @@ use lib.Seq.{take-at}
 use borrow.Author.Tests.{lt-ltb, le-ltb, eq-eqb, ne-eqb}
 use Rattle.base.specs.Sort.{inserted, sorted, lexLess, sortedRows}
 use Rattle.base.proofs.SortLaws.{inserted-past, inserted-here, lex-order, Compared, below, same, above, compared}
-use Rattle.base.proofs.Lists.{clash, byTest}
+use Rattle.base.proofs.Bools.{clash}
+use Rattle.base.proofs.Lists.{byTest}
 use Rattle.routes.specs.Bus.{Port, insertPort, samePort}
 use Rattle.routes.proofs.Views.{sorted-map}
 use Rattle.routes_ports.specs.Ports.{targets, suppress, portsSet}

@@ -12,7 +12,7 @@ use Rattle.board.specs.Board.{Board}
 use Rattle.board.specs.Demands.{PageLanes}
 use Rattle.board.specs.Planning.{Planning, refused, lanesFor, planning, records}
 use Rattle.board.proofs.Accepting.{sheet-accepted}
-use Rattle.base.proofs.Lists.{never, and-left, and-right}
+use Rattle.base.proofs.Bools.{never, and-left, and-right}
 use Rattle.board_plan.specs.TextPlan.{shortest}
 use Rattle.board.proofs.Planning.{LanesFrom, lanes-from}
 use Rattle.board_plan.proofs.Calling.{within-library}

@@ -17,7 +17,7 @@ use Rattle.board.specs.Demands.{PageLanes, planned, planLanes}
 use Rattle.board.specs.Planning.{Planning, refused, lanesFor, planning, fitsPages, crowding, records, pagesAfter}
 use Rattle.board.specs.Accepted.{Accepted}
 use Rattle.board.proofs.Accepting.{sheet-accepted}
-use Rattle.base.proofs.Lists.{never, and-left, and-right}
+use Rattle.base.proofs.Bools.{and-left, and-right}
 use Rattle.board_plan.specs.TextPlan.{shortest}
 use Rattle.board_plan.specs.PagesPlan.{planCall, pagesPlan, PagesPlanned}
 use Rattle.board_plan.specs.declared.PagesPlan.{PagesPlan}

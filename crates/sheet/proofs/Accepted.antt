@@ -18,12 +18,9 @@ use Rattle.sheet.specs.Table.{Column, MISSING, NEVER, AS_BEFORE, ORIGIN,
 use Rattle.sheet.specs.Record.{allowed, within, present, isMissing, cellOf, Line, unread, row, fieldsRead, placeOf, sectionOf, emptyRow, recordRead, lineRead}
 use Rattle.sheet.specs.Reading.{linesRead, sheetLines, rowOf, rowsFrom, sectionIn, counted, Before, after, noLines, unreadable, overMost, outOfRange, first, listed, Reading, refused, rows, refusals, readLines, reading}
 use Rattle.sheet.specs.Answer.{countedAll}
-use Rattle.sheet.proofs.Tests.{and-left, and-right}
+use Rattle.base.proofs.Bools.{never, clash, and-left, and-right}
 use Rattle.sheet.proofs.Lines.{place-most}
 use Rattle.sheet.proofs.Walks.{accepted as unrefused}
-
-absurd-bool : {A : Type 0} → true ≡ false → A
-absurd-bool e = let z : _≡_ {A = ℕ} 0 1 = cc in absurd (omega arith)
 
 -- One field -------------------------------------------------------------------------------------------------------------------------------
 
@@ -53,7 +50,7 @@ within-held low high fits x v e = go (fits && leb low x && leb x high) refl e
         let least = leb-true low x (and-right fits (leb low x) (and-left (fits && leb low x) (leb x high) h)) in
         let most = leb-true x high (and-right (fits && leb low x) (leb x high) h) in
         (omega arith, omega arith)
-    go false h q = let z : _≡_ {A = ℕ} 0 1 = cc in absurd (omega arith)
+    go false h q = never cc
 
 module _ (c : Column) (before : Bool) (v : ℕ) (small : c .high < MISSING) where
   -- a number in range
@@ -64,11 +61,11 @@ module _ (c : Column) (before : Bool) (v : ℕ) (small : c .high < MISSING) wher
 
   present-held : (n : Number) → allowed (c .gap) before (isMissing n) ≡ true → present c n ≡ Holds v → (eqb v MISSING ≡ isMissing n) × HeldAt c before v
   unfolding present
-  present-held bad a e = let z : _≡_ {A = ℕ} 0 1 = cc in absurd (omega arith)
+  present-held bad a e = never cc
   present-held missing a e =
       let same : v ≡ MISSING = cc in
       let yes′ : eqb v MISSING ≡ true = eq-eqb v MISSING same in
-      (yes′, record { fitting = rw yes′ a; range = λ z. absurd-bool (sym yes′ ∙ z) })
+      (yes′, record { fitting = rw yes′ a; range = λ z. clash yes′ z })
   present-held (plus w) a e = number-held a (within-held (c .low) (c .high) true (c .origin + w) v e)
   present-held (minus w) a e = number-held a (within-held (c .low) (c .high) (leb w (c .origin)) (c .origin - w) v e)
 
@@ -79,7 +76,7 @@ module _ (c : Column) (before : Bool) (v : ℕ) (small : c .high < MISSING) wher
       go : (t : Bool) → allowed (c .gap) before (isMissing n) ≡ t → elim t [ true ↦ present c n | false ↦ Malformed ] ≡ Holds v
           → (eqb v MISSING ≡ isMissing n) × HeldAt c before v
       go true a q = present-held n a q
-      go false a q = let z : _≡_ {A = ℕ} 0 1 = cc in absurd (omega arith)
+      go false a q = never cc
 
 -- One row ---------------------------------------------------------------------------------------------------------------------------------
 
@@ -95,8 +92,8 @@ unfolding fieldsRead
 fields-held [] [] before fits k r₀ r small room e =
     let same : r₀ ≡ r = cc in
     record { fitting = cc; held = tt; long = ap length (sym same); kept = λ j h. ap (λ (l : List ℕ). getD l j 0) (sym same) }
-fields-held [] (f ∷ fs) before fits k r₀ r small room e = let z : _≡_ {A = ℕ} 0 1 = cc in absurd (omega arith)
-fields-held (c ∷ cs) [] before fits k r₀ r small room e = let z : _≡_ {A = ℕ} 0 1 = cc in absurd (omega arith)
+fields-held [] (f ∷ fs) before fits k r₀ r small room e = never cc
+fields-held (c ∷ cs) [] before fits k r₀ r small room e = never cc
 fields-held (c ∷ cs) (f ∷ fs) before fits k r₀ r small room e =
     go (cellOf c before (number f)) refl e (λ fits′ r′. fields-held cs fs (isMissing (number f)) fits′ (suc k) r′ r (small .1))
   where
@@ -120,8 +117,8 @@ fields-held (c ∷ cs) (f ∷ fs) before fits k r₀ r small room e =
           long = rest .long ∙ length-set r₀ k v;
           kept = λ j h. rest .kept j (omega arith) ∙ getD-set-other r₀ k j v 0 (λ z. omega arith);
         }
-    go OutOfRange is q rec = absurd-bool (sym (rec false r₀ (omega arith) q .fitting))
-    go Malformed is q rec = let z : _≡_ {A = ℕ} 0 1 = cc in absurd (omega arith)
+    go OutOfRange is q rec = clash (rec false r₀ (omega arith) q .fitting) refl
+    go Malformed is q rec = never cc
 
 -- A row of an accepted sheet: sixteen numbers, its section, and the numbers of its columns.
 pub record RowHeld (r : List ℕ) : Type 0 where
@@ -141,20 +138,20 @@ tables-small (suc (suc (suc (suc (suc (suc s)))))) = (tt, omega arith)
 
 section-known : (l : List ℕ) → eqb (sectionOf l) SECTIONS ≡ false → sectionOf l < SECTIONS
 unfolding sectionOf
-section-known [] e = absurd-bool e
+section-known [] e = clash refl e
 section-known (b ∷ []) e = let other = eqb-false (placeOf b letters 0) SECTIONS e in omega (arith, place-most b letters 0 (omega arith), other)
-section-known (b ∷ c ∷ bs) e = absurd-bool e
+section-known (b ∷ c ∷ bs) e = clash refl e
 
 record-held : (fs : List (List ℕ)) (r : List ℕ) → recordRead fs ≡ row true r → RowHeld r
 unfolding recordRead
-record-held [] r e = let z : _≡_ {A = ℕ} 0 1 = cc in absurd (omega arith)
+record-held [] r e = never cc
 record-held (l ∷ fs) r e = go (eqb (sectionOf l) SECTIONS) refl e
   where
     s : ℕ
     s = sectionOf l
 
     go : (t : Bool) → eqb s SECTIONS ≡ t → elim t [ true ↦ unread | false ↦ fieldsRead (columnsOf s) fs false true 1 (emptyRow s) ] ≡ row true r → RowHeld r
-    go true is q = let z : _≡_ {A = ℕ} 0 1 = cc in absurd (omega arith)
+    go true is q = never cc
     go false is q =
         let t = tables-small s in
         let f = fields-held (columnsOf s) fs false true 1 (emptyRow s) r (t .0) (omega arith) q in
@@ -196,7 +193,7 @@ first-none p b n (l ∷ ls) e = go (p b l) refl e (first-none p (after b l) (suc
 -- The lines of a sheet without refusals 1 and 3 are rows, each of its section's table.
 line-row : (b b′ : Before) (l : Line) → unreadable b l ≡ false → outOfRange b′ l ≡ false → l ≡ row true (rowOf l)
 unfolding unreadable outOfRange rowOf
-line-row b b′ unread e f = absurd-bool e
+line-row b b′ unread e f = clash refl e
 line-row b b′ (row fits r) e f = ap (λ (t : Bool). row t r) (not-false fits f)
 
 lines-rows : (b b′ : Before) (ls : List Line) → NoLine unreadable b ls → NoLine outOfRange b′ ls → ls ≡ map (row true) (map rowOf ls)
@@ -209,7 +206,7 @@ lines-held : (b b′ : Before) (ps : List (List ℕ)) → NoLine unreadable b (l
 unfolding linesRead
 lines-held b b′ [] e f = tt
 lines-held b b′ ([] ∷ []) e f = tt
-lines-held b b′ ((x ∷ xs) ∷ []) e f = absurd-bool (unfold unreadable in e .0)
+lines-held b b′ ((x ∷ xs) ∷ []) e f = clash refl (unfold unreadable in e .0)
 lines-held b b′ (p ∷ q ∷ ps) e f = (
   record-held (parts TAB p) (rowOf (lineRead p)) (unfold lineRead in line-row b b′ (lineRead p) (e .0) (f .0)),
   lines-held (after b (lineRead p)) (after b′ (lineRead p)) (q ∷ ps) (e .1) (f .1),
@@ -219,7 +216,7 @@ lines-held b b′ (p ∷ q ∷ ps) e f = (
 lines-rise : (b : Before) (ls : List Line) → NoLine unreadable b ls → Rising (b .section) (map rowOf ls)
 unfolding unreadable rowOf after
 lines-rise b [] e = tt
-lines-rise b (unread ∷ ls) e = absurd-bool (e .0)
+lines-rise b (unread ∷ ls) e = clash refl (e .0)
 lines-rise b (row fits r ∷ ls) e = (ltb-false (sectionIn r) (b .section) (e .0), lines-rise (after b (row fits r)) ls (e .1))
 
 -- Refusal 2: no section has more records than its most.
@@ -246,7 +243,7 @@ lines-most : (most : List ℕ) (b b′ : Before) (ls : List Line) → NoLine unr
     → AtMost (countedAll (b .counts) (map rowOf ls)) most
 unfolding unreadable overMost rowOf after countedAll
 lines-most most b b′ [] e f low = low
-lines-most most b b′ (unread ∷ ls) e f low = absurd-bool (e .0)
+lines-most most b b′ (unread ∷ ls) e f low = clash refl (e .0)
 lines-most most b b′ (row fits r ∷ ls) e f low =
     lines-most most (after b (row fits r)) (after b′ (row fits r)) ls (e .1) (f .1) (counted-most (b .counts) most r low (f .0))
 
@@ -315,9 +312,9 @@ abbrev pub COORDINATE_HIGH : ℕ
 COORDINATE_HIGH = ORIGIN + COORDINATE_MOST
 
 module _ {origin low high : ℕ} {before : Bool} {v : ℕ} where
-  never : HeldAt (record { origin = origin; low = low; high = high; gap = NEVER }) before v → Within low high v
+  never-missing : HeldAt (record { origin = origin; low = low; high = high; gap = NEVER }) before v → Within low high v
   unfolding allowed
-  never h = h .range (not-true (eqb v MISSING) (h .fitting))
+  never-missing h = h .range (not-true (eqb v MISSING) (h .fitting))
 
   as-before : HeldAt (record { origin = origin; low = low; high = high; gap = AS_BEFORE }) before v → eqb v MISSING ≡ before
   unfolding allowed
@@ -325,8 +322,8 @@ module _ {origin low high : ℕ} {before : Bool} {v : ℕ} where
     where
       go : (s t : Bool) → Bool·beq s t ≡ true → t ≡ s
       go true true e = refl
-      go true false e = absurd-bool (sym e)
-      go false true e = absurd-bool (sym e)
+      go true false e = clash e refl
+      go false true e = clash e refl
       go false false e = refl
 
 pub record PageRow (r : List ℕ) : Type 0 where
@@ -373,20 +370,20 @@ module _ (r : List ℕ) (h : RowHeld r) where
   section-held s e = subst (λ (n : ℕ). Held (columnsOf n) false 1 r) e (h .held)
 
   pub page-row : sectionIn r ≡ PAGES → PageRow r
-  page-row e = let f = section-held PAGES e in record { minY = f .0 .range; z = never (f .1 .0) }
+  page-row e = let f = section-held PAGES e in record { minY = f .0 .range; z = never-missing (f .1 .0) }
 
   pub node-row : sectionIn r ≡ NODES → NodeRow r
   node-row e =
       let f = section-held NODES e in
       let g = f .1 .1 .1 .1 .1 .1 .1 in
       record {
-        id = never (f .0);
-        kind = never (f .1 .0);
-        class = never (f .1 .1 .0);
-        pin = never (f .1 .1 .1 .0);
-        halfX = never (f .1 .1 .1 .1 .0);
-        halfY = never (f .1 .1 .1 .1 .1 .0);
-        rotation = never (f .1 .1 .1 .1 .1 .1 .0);
+        id = never-missing (f .0);
+        kind = never-missing (f .1 .0);
+        class = never-missing (f .1 .1 .0);
+        pin = never-missing (f .1 .1 .1 .0);
+        halfX = never-missing (f .1 .1 .1 .1 .0);
+        halfY = never-missing (f .1 .1 .1 .1 .1 .0);
+        rotation = never-missing (f .1 .1 .1 .1 .1 .1 .0);
         x = g .0 .range;
         y = g .1 .0 .range;
         xy = as-before (g .1 .0);
@@ -397,15 +394,15 @@ module _ (r : List ℕ) (h : RowHeld r) where
       }
 
   pub chip-row : sectionIn r ≡ CHIPS → ChipRow r
-  chip-row e = let f = section-held CHIPS e in record { id = never (f .0); parent = f .1 .0 .range }
+  chip-row e = let f = section-held CHIPS e in record { id = never-missing (f .0); parent = f .1 .0 .range }
 
   pub inner-row : sectionIn r ≡ INNER → InnerRow r
-  inner-row e = let f = section-held INNER e in record { id = never (f .0); chip = never (f .1 .0); class = never (f .1 .1 .0) }
+  inner-row e = let f = section-held INNER e in record { id = never-missing (f .0); chip = never-missing (f .1 .0); class = never-missing (f .1 .1 .0) }
 
   pub exec-row : sectionIn r ≡ EXECS → ExecRow r
-  exec-row e = let f = section-held EXECS e in record { node = never (f .0); port = never (f .1 .0) }
+  exec-row e = let f = section-held EXECS e in record { node = never-missing (f .0); port = never-missing (f .1 .0) }
 
   pub wire-row : sectionIn r ≡ WIRES → WireRow r
   wire-row e =
       let f = section-held WIRES e in
-      record { sourceNode = never (f .0); sourcePort = never (f .1 .0); targetNode = never (f .1 .1 .0); targetPort = never (f .1 .1 .1 .0) }
+      record { sourceNode = never-missing (f .0); sourcePort = never-missing (f .1 .0); targetNode = never-missing (f .1 .1 .0); targetPort = never-missing (f .1 .1 .1 .0) }

@@ -17,6 +17,7 @@ use Rattle.sheet.specs.declared.check.Survey.the-variants.{Refused, Fine
 use Rattle.sheet.specs.Reading.{Reading, refused, rows, reading, readLines, rowsFrom, rowOf, sheetLines, listed}
 use Rattle.sheet.specs.Answer.{countsOf, checkedOf, readOf, rowsAfter}
 use Rattle.sheet.specs.Walk.{surveyOf, allRead}
+use Rattle.base.proofs.Bools.{never}
 use Rattle.sheet.proofs.Walks.{accepted-rows, accepted-read}
 
 -- the pass over a sheet, and its reading
@@ -37,12 +38,12 @@ checked-is (rows l) s e = ap checkedFrom e
 pub read-refused : (r : Reading) (n line : ℕ) (old : List (List ℕ)) → Refused n line ≡ surveyOf r → (NotRead n line ≡ readOf (length old) r) × (old ≡ rowsAfter old r)
 unfolding readOf rowsAfter surveyOf
 read-refused (refused n′ line′) n line old e = let p : n ≡ n′ = cc in let q : line ≡ line′ = cc in (rw (p, q), refl)
-read-refused (rows l) n line old e = let z : _≡_ {A = ℕ} 0 1 = cc in absurd (omega arith)
+read-refused (rows l) n line old e = never cc
 
 -- an accepted one, where rows are lent for it or not
 fine-rows : (r : Reading) (n : ℕ) (counts : Counts) → Fine n counts ≡ surveyOf r → (l : List (List ℕ)) × (r ≡ rows l) × (n ≡ length l) × (counts ≡ countsOf l)
 unfolding surveyOf
-fine-rows (refused m line) n counts e = let z : _≡_ {A = ℕ} 0 1 = cc in absurd (omega arith)
+fine-rows (refused m line) n counts e = never cc
 fine-rows (rows l) n counts e = (l, refl, let p : n ≡ length l = cc in p, let q : counts ≡ countsOf l = cc in q)
 
 pub read-short : (r : Reading) (n : ℕ) (counts : Counts) (old : List (List ℕ)) → Fine n counts ≡ surveyOf r → length old < n

@@ -10,7 +10,7 @@ use lib.Seq.{slice, slice-cons, slice-empty}
 use borrow.Author.Tests.{leb-true, ltb-true, ltb-false}
 use Rattle.sheet.specs.Table.{Column, SECTIONS, columnsOf, id}
 use Rattle.sheet.specs.Walk.{separatorAt, columnRow, columnIn, allColumns, columnRows, firstColumn}
-use Rattle.sheet.proofs.Tests.{and-left, and-right}
+use Rattle.base.proofs.Bools.{and-left, and-right}
 use Rattle.sheet.proofs.Fields.{sepBefore}
 
 abbrev pub columnAt : ℕ → Column

@@ -17,6 +17,7 @@ use Rattle.sheet.specs.Number.{bad, number}
 use Rattle.sheet.specs.Table.{Column}
 use Rattle.sheet.specs.Record.{Line, unread, row, isMissing, allowed, present, cellOf, fieldsRead}
 use Rattle.sheet.specs.Walk.{has, ended, fieldsOf, fieldsFrom, lineEnd, numberIn, isMalformed, fitsAfter, rowAfter}
+use Rattle.base.proofs.Bools.{never}
 use Rattle.sheet.proofs.Parts.{Cut, whole, cut, cut-at, has-goes, has-append, has-there, drop-past, parts-free, parts-cut, parts-some, part-free, part-cut, part-goes, part-past}
 use Rattle.sheet.proofs.Numbers.{number-broken}
 
@@ -227,8 +228,7 @@ ended-field at t n o = go (front-of t) n o
         → (ended t ≡ true) × (lineEnd at t ≡ lineEnd (suc (at + length (partOf TAB t))) (drop (suc (length (partOf TAB t))) t))
     go (none t p q) n o =
         let no : false ≡ true = ap ended (sym (drop-of-length-le t {i = suc (length (partOf TAB t))} (omega (arith, ap length (part-free TAB t p))))) ∙ o in
-        let z : _≡_ {A = ℕ} 0 1 = cc in
-        absurd (omega arith)
+        never cc
     go (only f u p q) n o = absurd (n (ap number (only-field f u p) ∙ newline-broken f (partOf TAB u)))
     go (tabbed f u p q) n o =
         let here = part-cut TAB f u p in
@@ -279,8 +279,7 @@ module _ (col : Column) (cs : List Column) (before fits : Bool) (k : ℕ) (r : L
     some-number e =
         let h : held ≡ Malformed = cell ∙ (ap (cellOf col before) (scanned ∙ e) ∙ bad-malformed col before) in
         let no : false ≡ true = sym fine ∙ ap isMalformed h in
-        let z : _≡_ {A = ℕ} 0 1 = cc in
-        omega arith
+        never cc
 
     pub turn-open : Open cs text next → (ended front ≡ true) × (lineEnd at front ≡ endRead cs next (drop next text))
     turn-open o = opens cs text at next behind some-number past-place o
@@ -292,7 +291,7 @@ read-ended cs t before fits k r f l e = go (ended t) refl
   where
     go : (x : Bool) → ended t ≡ x → ended t ≡ true
     go true n = n
-    go false n = let no : unread ≡ row f l = rw (n, fieldsFrom) at e in let z : _≡_ {A = ℕ} 0 1 = cc in absurd (omega arith)
+    go false n = let no : unread ≡ row f l = rw (n, fieldsFrom) at e in never cc
 
 -- a field never takes the place of the section's number
 pub keep-first : (held : Cell) (r : List ℕ) (k : ℕ) → 0 < k → getD (rowAfter held r k) 0 0 ≡ getD r 0 0

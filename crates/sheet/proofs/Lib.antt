@@ -1,5 +1,4 @@
 -- Laws that belong to no one function.
-pub mod Tests
 pub mod Parts
 pub mod Held
 pub mod Numbers

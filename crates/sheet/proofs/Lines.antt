@@ -16,6 +16,7 @@ use Rattle.sheet.specs.Record.{unread, placeOf, sectionOf, fieldsRead, r
 use Rattle.sheet.specs.Reading.{linesRead, sheetLines}
 use Rattle.sheet.specs.Answer.{frontLine}
 use Rattle.sheet.specs.Walk.{has, ended, fieldsOf, fieldsFrom, lineEnd, LineSays, firstColumn}
+use Rattle.base.proofs.Bools.{never, clash}
 use Rattle.sheet.proofs.Parts.{Cut, whole, cut, cut-at, drop-past, parts-free, parts-cut, parts-some, part-free, part-cut, part-short}
 use Rattle.sheet.proofs.Fields.{Front, none, only, tabbed, front-of, fields-only, only-field, fields-tabbed, ended-tabbed, end-tabbed, read-ended}
 use Rattle.sheet.proofs.Columns.{spread, next-column}
@@ -39,7 +40,7 @@ unfolding sheetLines linesRead lineOf
 lines-ended t e = go (cut-at NEWLINE t) e
   where
     go : {t : List ℕ} → Cut NEWLINE t → ended t ≡ true → sheetLines t ≡ lineRead (partOf NEWLINE t) ∷ sheetLines (drop (suc (length (partOf NEWLINE t))) t)
-    go (whole t n) e = let no : true ≡ false = sym e ∙ n in let z : _≡_ {A = ℕ} 0 1 = cc in absurd (omega arith)
+    go (whole t n) e = clash e n
     go (cut l u n) e = rw (part-cut NEWLINE l u n, drop-past l NEWLINE u, parts-cut NEWLINE l u n) (rw (parts-some NEWLINE u))
 
 front-unended : (t : List ℕ) → ended t ≡ false → frontLine (sheetLines t) ≡ unread
@@ -154,7 +155,7 @@ named t at h = go (front-of t) h
         let nothing : drop 2 t ≡ [] = drop-of-length-le t {i = 2} (omega (arith, section-one (partOf TAB t) h, ap length (part-free TAB t p))) in
         record {
           fields = front-unended t q ∙ sym (rw nothing);
-          ends = λ e. let no : false ≡ true = ap ended (sym nothing) ∙ e in let z : _≡_ {A = ℕ} 0 1 = cc in absurd (omega arith);
+          ends = λ e. let no : false ≡ true = ap ended (sym nothing) ∙ e in never cc;
         }
     go (only f u p q) h = absurd (omega (arith, h, ap sectionOf (only-field f u p) ∙ section-broken f (partOf TAB u)))
     go (tabbed f u p q) h =

@@ -13,7 +13,7 @@ use borrow.Author.Tests.{eq-eqb, ne-eqb, eqb-true, ltb-true, lt-ltb}
 use Rattle.sheet.specs.Text.{onFirst, parts, firstPart, partOf}
 use Rattle.sheet.specs.Places.{partEnd, behindPart, Along}
 use Rattle.sheet.specs.Walk.{has}
-use Rattle.sheet.proofs.Tests.{or-false-left, or-false-right}
+use Rattle.base.proofs.Bools.{or-left, or-right}
 
 -- behind some bytes and one more
 pub drop-past : (f : List ℕ) (b : ℕ) (u : List ℕ) → drop (suc (length f)) (f ++ b ∷ u) ≡ u
@@ -62,12 +62,12 @@ module _ (s : ℕ) where
   pub parts-free : (f : List ℕ) → has s f ≡ false → parts s f ≡ f ∷ []
   unfolding parts onFirst has
   parts-free [] h = refl
-  parts-free (b ∷ f) h = rw (or-false-left (eqb b s) (has s f) h, parts) (ap (onFirst b) (parts-free f (or-false-right (eqb b s) (has s f) h)))
+  parts-free (b ∷ f) h = rw (or-left (eqb b s) (has s f) h, parts) (ap (onFirst b) (parts-free f (or-right (eqb b s) (has s f) h)))
 
   pub parts-cut : (f u : List ℕ) → has s f ≡ false → parts s (f ++ s ∷ u) ≡ f ∷ parts s u
   unfolding parts onFirst has
   parts-cut [] u h = rw (eq-eqb s s refl, parts)
-  parts-cut (b ∷ f) u h = rw (or-false-left (eqb b s) (has s f) h, parts) (ap (onFirst b) (parts-cut f u (or-false-right (eqb b s) (has s f) h)))
+  parts-cut (b ∷ f) u h = rw (or-left (eqb b s) (has s f) h, parts) (ap (onFirst b) (parts-cut f u (or-right (eqb b s) (has s f) h)))
 
   pub part-free : (f : List ℕ) → has s f ≡ false → partOf s f ≡ f
   unfolding partOf firstPart
@@ -94,7 +94,7 @@ module _ (s : ℕ) where
   unfolding has
   part-past [] t h = refl
   part-past (b ∷ f) t h =
-      part-goes b (f ++ t) (or-false-left (eqb b s) (has s f) h) ∙ ap (λ (l : List ℕ). b ∷ l) (part-past f t (or-false-right (eqb b s) (has s f) h))
+      part-goes b (f ++ t) (or-left (eqb b s) (has s f) h) ∙ ap (λ (l : List ℕ). b ∷ l) (part-past f t (or-right (eqb b s) (has s f) h))
 
   -- there is a first part
   pub parts-some : (t : List ℕ) → parts s t ≡ partOf s t ∷ drop 1 (parts s t)

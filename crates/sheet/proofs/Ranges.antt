@@ -22,7 +22,7 @@ use Rattle.sheet.specs.Record.{Line, unread, row, allowed, within, prese
 use Rattle.sheet.specs.Reading.{Reading, rows, reading, linesRead, sheetLines, rowOf, sectionIn, Before, after, noLines, first, outOfRange, NO_LINE}
 use Rattle.sheet.specs.Range.{Held, InRange}
 use Rattle.sheet.specs.Walk.{allColumns, firstColumn}
-use Rattle.sheet.proofs.Tests.{and-left, and-right}
+use Rattle.base.proofs.Bools.{never, and-left, and-right}
 use Rattle.sheet.proofs.Lines.{place-most}
 use Rattle.sheet.proofs.Columns.{spread}
 use Rattle.sheet.proofs.Walks.{accepted, accepted-read, read-at, map-drop}
@@ -38,28 +38,27 @@ within-range low high fits v w e = go (fits && leb low v && leb v high) refl
         let q : Holds v ≡ Holds w = rw (p, within) at e in
         let s : v ≡ w = cc in
         (omega (arith, leb-true low v (and-right fits (leb low v) (and-left (fits && leb low v) (leb v high) p))), omega (arith, leb-true v high (and-right (fits && leb low v) (leb v high) p)))
-    go false p = let q : OutOfRange ≡ Holds w = rw (p, within) at e in let z : _≡_ {A = ℕ} 0 1 = cc in absurd (omega arith)
+    go false p = let q : OutOfRange ≡ Holds w = rw (p, within) at e in never cc
 
 gap-some : (gap : ℕ) (before : Bool) → allowed gap before true ≡ true → gap ≡ NEVER → ⊥
 unfolding allowed
 gap-some gap before a e =
     let q : false ≡ true = rw (eq-eqb gap NEVER e, allowed) at a in
-    let z : _≡_ {A = ℕ} 0 1 = cc in
-    omega arith
+    never cc
 
 cell-held : (c : Column) (before : Bool) (n : Number) (v : ℕ) → cellOf c before n ≡ Holds v → Held c v
 unfolding cellOf present
 cell-held c before n v e = go (allowed (c .gap) before (isMissing n)) refl n refl
   where
     by : (m : Number) → allowed (c .gap) before (isMissing m) ≡ true → present c m ≡ Holds v → Held c v
-    by bad a p = let z : _≡_ {A = ℕ} 0 1 = cc in absurd (omega arith)
+    by bad a p = never cc
     by missing a p = inl (let q : v ≡ MISSING = cc in q, gap-some (c .gap) before a)
     by (plus w) a p = inr (within-range (c .low) (c .high) true (c .origin + w) v p)
     by (minus w) a p = inr (within-range (c .low) (c .high) (leb w (c .origin)) (c .origin - w) v p)
 
     go : (b : Bool) → allowed (c .gap) before (isMissing n) ≡ b → (m : Number) → n ≡ m → Held c v
     go true a m p = by n a (rw (a, cellOf) at e)
-    go false a m p = let q : Malformed ≡ Holds v = rw (a, cellOf) at e in let z : _≡_ {A = ℕ} 0 1 = cc in absurd (omega arith)
+    go false a m p = let q : Malformed ≡ Holds v = rw (a, cellOf) at e in never cc
 
 -- What the fields of a record hold: those from the k-th number on, and the numbers before it as they were.
 pub record Fields (cs : List Column) (k : ℕ) (r r′ : List ℕ) : Type 0 where
@@ -85,9 +84,9 @@ fields-more c cs k v r r′ h a f =
 -- once a number is out of range, the record is
 wide-stays : (cs : List Column) (fs : List (List ℕ)) (before : Bool) (k : ℕ) (r r′ : List ℕ) → fieldsRead cs fs before false k r ≡ row true r′ → ⊥
 unfolding fieldsRead
-wide-stays [] [] before k r r′ e = let z : _≡_ {A = ℕ} 0 1 = cc in omega arith
-wide-stays [] (f ∷ fs) before k r r′ e = let z : _≡_ {A = ℕ} 0 1 = cc in omega arith
-wide-stays (c ∷ cs) [] before k r r′ e = let z : _≡_ {A = ℕ} 0 1 = cc in omega arith
+wide-stays [] [] before k r r′ e = never cc
+wide-stays [] (f ∷ fs) before k r r′ e = never cc
+wide-stays (c ∷ cs) [] before k r r′ e = never cc
 wide-stays (c ∷ cs) (f ∷ fs) before k r r′ e = go (cellOf c before (number f)) refl (λ (v : ℕ). wide-stays cs fs (isMissing (number f)) (suc k) (set r k v) r′) (wide-stays cs fs (isMissing (number f)) (suc k) r r′)
   where
     go : (x : Cell) → cellOf c before (number f) ≡ x
@@ -95,13 +94,13 @@ wide-stays (c ∷ cs) (f ∷ fs) before k r r′ e = go (cellOf c before (number
         → (fieldsRead cs fs (isMissing (number f)) false (suc k) r ≡ row true r′ → ⊥) → ⊥
     go (Holds v) p h w = h v (rw (p, fieldsRead) at e)
     go OutOfRange p h w = w (rw (p, fieldsRead) at e)
-    go Malformed p h w = let q : unread ≡ row true r′ = rw (p, fieldsRead) at e in let z : _≡_ {A = ℕ} 0 1 = cc in omega arith
+    go Malformed p h w = let q : unread ≡ row true r′ = rw (p, fieldsRead) at e in never cc
 
 fields-held : (cs : List Column) (fs : List (List ℕ)) (before : Bool) (k : ℕ) (r r′ : List ℕ) → k + length cs ≤ length r → fieldsRead cs fs before true k r ≡ row true r′ → Fields cs k r r′
 unfolding fieldsRead
 fields-held [] [] before k r r′ h e = subst (Fields [] k r) (let q : r ≡ r′ = cc in q) (fields-none k r)
-fields-held [] (f ∷ fs) before k r r′ h e = let z : _≡_ {A = ℕ} 0 1 = cc in absurd (omega arith)
-fields-held (c ∷ cs) [] before k r r′ h e = let z : _≡_ {A = ℕ} 0 1 = cc in absurd (omega arith)
+fields-held [] (f ∷ fs) before k r r′ h e = never cc
+fields-held (c ∷ cs) [] before k r r′ h e = never cc
 fields-held (c ∷ cs) (f ∷ fs) before k r r′ h e = go (cellOf c before (number f)) refl (λ (v : ℕ). fields-held cs fs (isMissing (number f)) (suc k) (set r k v) r′)
   where
     go : (x : Cell) → cellOf c before (number f) ≡ x
@@ -110,7 +109,7 @@ fields-held (c ∷ cs) (f ∷ fs) before k r r′ h e = go (cellOf c before (num
     go (Holds v) p k′ =
         fields-more c cs k v r r′ (omega arith) (cell-held c before (number f) v p) (k′ v (omega (arith, length-set r k v)) (rw (p, fieldsRead) at e))
     go OutOfRange p k′ = absurd (wide-stays cs fs (isMissing (number f)) (suc k) r r′ (rw (p, fieldsRead) at e))
-    go Malformed p k′ = let q : unread ≡ row true r′ = rw (p, fieldsRead) at e in let z : _≡_ {A = ℕ} 0 1 = cc in absurd (omega arith)
+    go Malformed p k′ = let q : unread ≡ row true r′ = rw (p, fieldsRead) at e in never cc
 
 -- a record that can be read and is in range
 
@@ -138,22 +137,22 @@ section-held s fs r h e =
 
 record-held : (fs : List (List ℕ)) (r : List ℕ) → recordRead fs ≡ row true r → InRange r
 unfolding recordRead
-record-held [] r e = let z : _≡_ {A = ℕ} 0 1 = cc in absurd (omega arith)
+record-held [] r e = never cc
 record-held (l ∷ fs) r e = go (eqb (sectionOf l) SECTIONS) refl
   where
     go : (b : Bool) → eqb (sectionOf l) SECTIONS ≡ b → InRange r
-    go true p = let q : unread ≡ row true r = rw (p, recordRead) at e in let z : _≡_ {A = ℕ} 0 1 = cc in absurd (omega arith)
+    go true p = let q : unread ≡ row true r = rw (p, recordRead) at e in never cc
     go false p = section-held (sectionOf l) fs r (lt-of-le-ne (section-most l) (eqb-false (sectionOf l) SECTIONS p)) (rw (p, recordRead) at e)
 
 -- the lines of a sheet
 lines-held : (ps : List (List ℕ)) (k : ℕ) (r : List ℕ) (t : List Line) → drop k (linesRead ps) ≡ row true r ∷ t → InRange r
 unfolding linesRead lineRead
-lines-held [] zero r t e = let z : _≡_ {A = ℕ} 0 1 = cc in absurd (omega arith)
-lines-held [] (suc k) r t e = let z : _≡_ {A = ℕ} 0 1 = cc in absurd (omega arith)
-lines-held ([] ∷ []) zero r t e = let z : _≡_ {A = ℕ} 0 1 = cc in absurd (omega arith)
-lines-held ([] ∷ []) (suc k) r t e = let z : _≡_ {A = ℕ} 0 1 = cc in absurd (omega arith)
-lines-held ((b ∷ bs) ∷ []) zero r t e = let z : _≡_ {A = ℕ} 0 1 = cc in absurd (omega arith)
-lines-held ((b ∷ bs) ∷ []) (suc k) r t e = let q : [] ≡ row true r ∷ t = sym (drop-nil k) ∙ e in let z : _≡_ {A = ℕ} 0 1 = cc in absurd (omega arith)
+lines-held [] zero r t e = never cc
+lines-held [] (suc k) r t e = never cc
+lines-held ([] ∷ []) zero r t e = never cc
+lines-held ([] ∷ []) (suc k) r t e = never cc
+lines-held ((b ∷ bs) ∷ []) zero r t e = never cc
+lines-held ((b ∷ bs) ∷ []) (suc k) r t e = let q : [] ≡ row true r ∷ t = sym (drop-nil k) ∙ e in never cc
 lines-held (p ∷ q ∷ ps) zero r t e = record-held (parts TAB p) r (let x : recordRead (parts TAB p) ≡ row true r = cc in x)
 lines-held (p ∷ q ∷ ps) (suc k) r t e = lines-held (q ∷ ps) k r t e
 
@@ -161,9 +160,9 @@ lines-held (p ∷ q ∷ ps) (suc k) r t e = lines-held (q ∷ ps) k r t e
 all-fit : (b : Before) (n : ℕ) (ls : List Line) → 0 < n → first outOfRange b n ls ≡ NO_LINE → (k : ℕ) (fits : Bool) (r : List ℕ) (t : List Line)
     → drop k ls ≡ row fits r ∷ t → fits ≡ true
 unfolding first outOfRange
-all-fit b n [] h e zero fits r t d = let z : _≡_ {A = ℕ} 0 1 = cc in absurd (omega arith)
-all-fit b n [] h e (suc k) fits r t d = let z : _≡_ {A = ℕ} 0 1 = cc in absurd (omega arith)
-all-fit b n (unread ∷ ls) h e zero fits r t d = let z : _≡_ {A = ℕ} 0 1 = cc in absurd (omega arith)
+all-fit b n [] h e zero fits r t d = never cc
+all-fit b n [] h e (suc k) fits r t d = never cc
+all-fit b n (unread ∷ ls) h e zero fits r t d = never cc
 all-fit b n (unread ∷ ls) h e (suc k) fits r t d = all-fit (after b unread) (suc n) ls (omega arith) e k fits r t d
 all-fit b n (row true r′ ∷ ls) h e zero fits r t d = let x : fits ≡ true = cc in x
 all-fit b n (row true r′ ∷ ls) h e (suc k) fits r t d = all-fit (after b (row true r′)) (suc n) ls (omega arith) e k fits r t d

@@ -13,7 +13,7 @@ use Rattle.sheet.specs.Number.{Number, bad, missing, plus, minus, digit,
 use Rattle.sheet.specs.Table.{ORIGIN, MISSING, COORDINATE_MOST, coordinate}
 use Rattle.sheet.specs.Record.{present}
 use Rattle.sheet.specs.Written.{digitsOf, decimal, coordinateText, numberText, coordinateOf}
-use Rattle.sheet.proofs.Tests.{and-left}
+use Rattle.base.proofs.Bools.{and-left}
 use Rattle.sheet.proofs.Cells.{within-holds}
 use Rattle.sheet.proofs.Writing.{digits-one, digits-more, decimal-length, coordinate-below, coordinate-above, number-missing, number-given}
 

@@ -18,6 +18,7 @@ use Rattle.sheet.specs.Record.{Line, unread, row}
 use Rattle.sheet.specs.Reading.{sheetLines, rowOf, sectionIn, counted, Before, after, noLines, unreadable, overMost, outOfRange, NO_LINE, first, Reading, refused, rows, refusals, readLines}
 use Rattle.sheet.specs.Answer.{countedAll, countsOf, countsFrom, frontLine}
 use Rattle.sheet.specs.Walk.{ended, lineEnd, lineAnswer, LineSays, firstOf, surveyOf}
+use Rattle.base.proofs.Bools.{never, clash}
 use Rattle.sheet.proofs.Parts.{Cut, whole, cut, cut-at, part-cut}
 use Rattle.sheet.proofs.Lines.{pastLine, lines-none, lines-unended, lines-ended}
 
@@ -28,22 +29,21 @@ unfolding lineOf
 ended-inside t e = go (cut-at NEWLINE t) e
   where
     go : {t : List ℕ} → Cut NEWLINE t → ended t ≡ true → length (partOf NEWLINE t) < length t
-    go (whole t n) e = let no : true ≡ false = sym e ∙ n in let z : _≡_ {A = ℕ} 0 1 = cc in absurd (omega arith)
+    go (whole t n) e = clash e n
     go (cut l u n) e = omega (arith, ap length (part-cut NEWLINE l u n), length-append l (NEWLINE ∷ u))
 
 -- a line that was read, with the lines after it
 pub front-read : (t : List ℕ) (fits : Bool) (r : List ℕ) → frontLine (sheetLines t) ≡ row fits r
     → (sheetLines t ≡ row fits r ∷ sheetLines (pastLine t)) × (length (lineOf t) < length t)
 unfolding frontLine
-front-read [] fits r e = let z : _≡_ {A = ℕ} 0 1 = cc lines-none in absurd (omega arith)
+front-read [] fits r e = never (cc lines-none)
 front-read (b ∷ t) fits r e = go (ended (b ∷ t)) refl
   where
     go : (x : Bool) → ended (b ∷ t) ≡ x → (sheetLines (b ∷ t) ≡ row fits r ∷ sheetLines (pastLine (b ∷ t))) × (length (lineOf (b ∷ t)) < length (b ∷ t))
     go true n = (lines-ended (b ∷ t) n ∙ ap (λ (l : Line). l ∷ sheetLines (pastLine (b ∷ t))) (sym (ap frontLine (lines-ended (b ∷ t) n)) ∙ e), ended-inside (b ∷ t) n)
     go false n =
         let q : unread ≡ row fits r = sym (ap frontLine (lines-unended b t n)) ∙ e in
-        let z : _≡_ {A = ℕ} 0 1 = cc in
-        absurd (omega arith)
+        never cc
 
 -- a line that can't be read
 front-unread : (b : ℕ) (t : List ℕ) → frontLine (sheetLines (b ∷ t)) ≡ unread → sheetLines (b ∷ t) ≡ unread ∷ drop 1 (sheetLines (b ∷ t))
@@ -65,8 +65,7 @@ said-unread {line} {next} {x} {stored} s e = go line (s .answer)
     go unread a = refl
     go (row fits r) a =
         let q : false ≡ true = sym e ∙ ap (λ (y : LineAt). y .read) a in
-        let z : _≡_ {A = ℕ} 0 1 = cc in
-        absurd (omega arith)
+        never cc
 
 pub said-read : {line : Line} {next : ℕ} {x : LineAt} {stored : List ℕ} → LineSays line next x stored → x .read ≡ true
     → (line ≡ row (x .fits) stored) × (sectionIn stored ≡ x .section) × (x .next ≡ next)
@@ -76,8 +75,7 @@ said-read {line} {next} {x} {stored} s e = go line (s .answer) (s .holds)
         → (l ≡ row (x .fits) stored) × (sectionIn stored ≡ x .section) × (x .next ≡ next)
     go unread a h =
         let q : true ≡ false = sym e ∙ ap (λ (y : LineAt). y .read) a in
-        let z : _≡_ {A = ℕ} 0 1 = cc in
-        absurd (omega arith)
+        never cc
     go (row fits r) a h =
         let k : stored ≡ r = h fits r refl in
         let f : x .fits ≡ fits = ap (λ (y : LineAt). y .fits) a in

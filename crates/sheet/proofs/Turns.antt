@@ -17,6 +17,7 @@ use Rattle.sheet.specs.Number.{number}
 use Rattle.sheet.specs.Table.{Column, SECTIONS, columnsOf}
 use Rattle.sheet.specs.Record.{Line, unread, row, emptyRow, isMissing, cellOf}
 use Rattle.sheet.specs.Walk.{columnRows, columnIn, allColumns, firstColumn, separatorAt, ended, fieldsFrom, lineEnd, lineAnswer, numberIn, isMalformed, fitsAfter, rowAfter, LineSays}
+use Rattle.base.proofs.Bools.{never}
 use Rattle.sheet.proofs.Parts.{part-short}
 use Rattle.sheet.proofs.Fields.{restRead, endRead, Open, sepBefore, fieldIn, turn-malformed, turn-goes, turn-open, keep-first}
 use Rattle.sheet.proofs.Columns.{columnAt, spread, next-column, separator-is, row-is-column}
@@ -147,8 +148,8 @@ pub says-unread : {line : Line} {next : ℕ} {x : LineAt} (r : List ℕ) → lin
 says-unread r e p =
     record {
       answer = rw e p;
-      holds = λ f l q. let h : unread ≡ row f l = sym e ∙ q in let z : _≡_ {A = ℕ} 0 1 = cc in absurd (omega arith);
-      known = λ t. let h : false ≡ true = sym (ap (λ (y : LineAt). y .read) p) ∙ t in let z : _≡_ {A = ℕ} 0 1 = cc in absurd (omega arith);
+      holds = λ f l q. let h : unread ≡ row f l = sym e ∙ q in never cc;
+      known = λ t. let h : false ≡ true = sym (ap (λ (y : LineAt). y .read) p) ∙ t in never cc;
     }
 
 -- what is said of a line is said of an equal one, which ends where it does if it was read

@@ -18,6 +18,7 @@ use Rattle.sheet.specs.Record.{Line, unread, row}
 use Rattle.sheet.specs.Reading.{sheetLines, rowOf, rowsFrom, Before, after, noLines, unreadable, overMost, outOfRange, first, NO_LINE, Reading, refused, rows, refusals, readLines, reading, listed}
 use Rattle.sheet.specs.Answer.{frontLine, rowAt, AtLine}
 use Rattle.sheet.specs.Walk.{ended, lineEnd, lineAnswer, LineSays, allRead}
+use Rattle.base.proofs.Bools.{never}
 use Rattle.sheet.proofs.Lines.{lines-none, lines-ended, lines-unended}
 use Rattle.sheet.proofs.Surveys.{said-unread, said-read, line-read, front-read}
 
@@ -30,9 +31,9 @@ refusals-rows one two three m l e = go (eqb one NO_LINE) refl (eqb two NO_LINE) 
   where
     go : (a : Bool) → eqb one NO_LINE ≡ a → (b : Bool) → eqb two NO_LINE ≡ b → (c : Bool) → eqb three NO_LINE ≡ c
         → (one ≡ NO_LINE) × (two ≡ NO_LINE) × (three ≡ NO_LINE) × (m ≡ l)
-    go false p b q c r = let h : refused 1 one ≡ rows l = rw (p, refusals) at e in let z : _≡_ {A = ℕ} 0 1 = cc in absurd (omega arith)
-    go true p false q c r = let h : refused 2 two ≡ rows l = rw q at (rw (p, refusals) at e) in let z : _≡_ {A = ℕ} 0 1 = cc in absurd (omega arith)
-    go true p true q false r = let h : refused 3 three ≡ rows l = rw r at (rw q at (rw (p, refusals) at e)) in let z : _≡_ {A = ℕ} 0 1 = cc in absurd (omega arith)
+    go false p b q c r = let h : refused 1 one ≡ rows l = rw (p, refusals) at e in never cc
+    go true p false q c r = let h : refused 2 two ≡ rows l = rw q at (rw (p, refusals) at e) in never cc
+    go true p true q false r = let h : refused 3 three ≡ rows l = rw r at (rw q at (rw (p, refusals) at e)) in never cc
     go true p true q true r = let h : rows m ≡ rows l = rw r at (rw q at (rw (p, refusals) at e)) in (eqb-true one NO_LINE p, eqb-true two NO_LINE q, eqb-true three NO_LINE r, cc)
 
 read-all : (b : Before) (n : ℕ) (ls : List Line) → 0 < n → first unreadable b n ls ≡ NO_LINE → allRead ls ≡ true
@@ -74,7 +75,7 @@ pub read-at : (k : ℕ) (ls : List Line) → allRead ls ≡ true → k < length 
     → (fits : Bool) × (r : List ℕ) × (drop k ls ≡ row fits r ∷ drop (suc k) ls)
 unfolding allRead
 read-at k [] a h = absurd (omega arith)
-read-at k (unread ∷ ls) a h = let z : _≡_ {A = ℕ} 0 1 = cc in absurd (omega arith)
+read-at k (unread ∷ ls) a h = never cc
 read-at zero (row fits r ∷ ls) a h = (fits, r, refl)
 read-at (suc k) (row fits r ∷ ls) a h = read-at k ls a (omega arith)
 

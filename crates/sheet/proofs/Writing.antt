@@ -13,6 +13,7 @@ use borrow.Author.Tests.{lt-ltb, le-ltb, eq-eqb, ne-eqb}
 use Rattle.sheet.specs.Number.{ZERO, MINUS}
 use Rattle.sheet.specs.Table.{ORIGIN, MISSING}
 use Rattle.sheet.specs.Written.{Wrote, written, digitsOf, decimal, coordinateText, numberText}
+use Rattle.base.proofs.Bools.{pick-true, pick-false}
 
 -- Nothing written, and one byte written.
 pub wrote-nothing : (old : List ℕ) (at : ℕ) → Wrote old at [] old at
@@ -57,15 +58,6 @@ wrote-more old mid new at m n xs ys room first second =
 
     parts : take m (front ++ rest) ++ (ys ++ drop (m + length ys) (front ++ rest)) ≡ take at old ++ ((xs ++ ys) ++ drop (at + length (xs ++ ys)) old)
     parts = (λ i. taken i ++ (ys ++ dropped i)) ∙ append-assoc (take at old) xs (ys ++ drop (at + length (xs ++ ys)) old) ∙ ap (λ l. take at old ++ l) (sym (append-assoc xs ys (drop (at + length (xs ++ ys)) old)))
-
--- A choice by a test that is known.
-pick-true : (t : Bool) (x y : List ℕ) → t ≡ true → elim t as (λ _. List ℕ) [ true ↦ x | false ↦ y ] ≡ x
-pick-true true x y e = refl
-pick-true false x y e = let z : _≡_ {A = ℕ} 0 1 = cc in absurd (omega arith)
-
-pick-false : (t : Bool) (x y : List ℕ) → t ≡ false → elim t as (λ _. List ℕ) [ true ↦ x | false ↦ y ] ≡ y
-pick-false false x y e = refl
-pick-false true x y e = let z : _≡_ {A = ℕ} 0 1 = cc in absurd (omega arith)
 
 -- The digits of a number below 10, and of any other: those of its tenth and the last one.
 pub digits-one : (most n : ℕ) → 0 < most → n < 10 → digitsOf most n ≡ (ZERO + n % 10) ∷ []

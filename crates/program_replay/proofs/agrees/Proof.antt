@@ -1,7 +1,7 @@
 -- `replay::agrees`: an answer that is the same byte for byte is the plan sheet or E line of the definitions. Assumes nothing.
 use native.Mathlib.Omega.{arith}
 use mathlib.Core.Path.{sym, ap, _∙_}
-use Rattle.base.proofs.Lists.{never}
+use Rattle.base.proofs.Bools.{never}
 use Rattle.routes.specs.Route.{sheetOf}
 use Rattle.program_answer.proofs.Program.{program-fits}
 use Rattle.program_answer.proofs.Promise.{told-front, told-counts}

@@ -12,7 +12,7 @@ use Rattle.base.specs.Lists.{at}
 use Rattle.board.specs.Board.{Board, field, given, parentOf}
 use Rattle.board.specs.Refusals.{chipAt}
 use Rattle.board.specs.Groups.{topChip}
-use Rattle.board.proofs.Newest.{pick-true, pick-false}
+use Rattle.base.proofs.Bools.{pick-true, pick-false}
 use Rattle.board.proofs.Chips.{ofChips, topFrom, topChip-found, found-at, found-none, chipAt-below}
 use Prim.Native.Nat.{ℕ, _<_}
 use borrow.Fn.Kinds.{In}

@@ -1,10 +1,11 @@
 -- `find_fault` meets its contract: the three walks, one after the other. Assumes nothing.
-use Prim.Native.Nat.{ℕ, _+_, _≤_}
+use Prim.Native.Nat.{_+_, _≤_}
 use mathlib.Core.Path.{_≡_, refl, ap, ap₂, sym, _∙_}
 use native.Mathlib.Omega.{arith}
 use borrow.Author.Needs.{needs}
 use lib.ListN.{length}
 use Rattle.board.specs.Walk.{sheetBoard, Indexed}
+use Rattle.base.proofs.Bools.{never}
 use Rattle.board.proofs.Sections.{part-start}
 use Rattle.board.proofs.Faults.{Counted, counted, walk-sections, fresh-fewer, ids-at, fault-nodes, fault-chips, fault-inner, fault-rest}
 use Rattle.board.proofs.refusals.find_fault.Statement.{statement}
@@ -50,7 +51,7 @@ returns : tie.Need-returns
 returns c =
     let s = c .before .before .before .before .before .before .before .before .before in (
       fault-nodes _ (s .args .counts) (counts-are s) _ (c .before .before .before .before .walk-nodes .ensures .0 .twice) (c .if1 .taken),
-      (λ z. let o : _≡_ {A = ℕ} 0 1 = cc in absurd (omega arith)),
+      (λ z. never cc),
     )
 
 add-walk-chips : tie.Need-add-walk-chips
@@ -89,7 +90,7 @@ returns-2 : tie.Need-returns-2
 returns-2 c =
     let s = c .before .before .before .before .before .before .before .before .before .before .before .before .before .before .before .before in (
       fault-chips _ (s .args .counts) (counts-are s) _ (c .before .before .before .before .before .before .before .before .before .before .before .walk-nodes .ensures .0 .twice) (c .before .before .before .before .before .before .before .if1 .left) _ (c .before .before .before .walk-chips .ensures .0 .twice) (c .if2 .taken),
-      (λ z. let o : _≡_ {A = ℕ} 0 1 = cc in absurd (omega arith)),
+      (λ z. never cc),
     )
 
 add-walk-inner : tie.Need-add-walk-inner
@@ -132,7 +133,7 @@ returns-3 c =
     let s = c .before .before .before .before .before .before .before .before .before .before .before .before .before .before .before .before .before .before .before .before .before .before .before in (
       fault-inner _ (s .args .counts) (counts-are s) _ (c .before .before .before .before .before .before .before .before .before .before .before .before .before .before .before .before .before .before .walk-nodes .ensures .0 .twice) (c .before .before .before .before .before .before .before .before .before .before .before .before .before .before .if1 .left) _ (c .before .before .before .before .before .before .before .before .before .before .walk-chips .ensures .0 .twice) (c .before .before .before .before .before .before .before .if2 .left) _
           (c .before .before .before .walk-inner .ensures .0 .twice) (c .if3 .taken),
-      (λ z. let o : _≡_ {A = ℕ} 0 1 = cc in absurd (omega arith)),
+      (λ z. never cc),
     )
 
 verdict-requires : tie.Need-verdict-requires

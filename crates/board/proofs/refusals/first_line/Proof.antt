@@ -2,7 +2,7 @@
 use mathlib.Core.Path.{_≡_, sym, _∙_}
 use borrow.Author.Tests.{eq-eqb, ne-eqb}
 use Rattle.board.specs.Walk.{lineIf}
-use Rattle.board.proofs.Newest.{pick-true, pick-false}
+use Rattle.base.proofs.Bools.{pick-true, pick-false}
 use Rattle.board.proofs.refusals.first_line.Statement.{statement}
 use Rattle.board.proofs.refusals.first_line.Tie as tie
 use Rattle.board.proofs.refusals.first_line.Reads as reads

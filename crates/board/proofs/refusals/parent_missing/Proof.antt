@@ -3,7 +3,7 @@ use mathlib.Core.Path.{_≡_, ap, sym, _∙_}
 use mathlib.Core.Bool.{not}
 use lib.ListN.{getD}
 use Rattle.board.specs.Board.{given}
-use Rattle.board.proofs.Newest.{pick-true, pick-false}
+use Rattle.base.proofs.Bools.{pick-true, pick-false}
 use Rattle.board.proofs.Faults.{given-missing, given-there}
 use borrow.Author.Needs.{needs}
 use Rattle.board.proofs.refusals.parent_missing.Statement.{statement}

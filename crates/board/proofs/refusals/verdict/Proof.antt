@@ -1,7 +1,7 @@
 -- `verdict` meets its contract. Assumes nothing.
 use mathlib.Core.Path.{sym, _∙_}
 use borrow.Author.Tests.{eq-eqb, ne-eqb}
-use Rattle.board.proofs.Newest.{pick-true, pick-false}
+use Rattle.base.proofs.Bools.{pick-true, pick-false}
 use Rattle.board.proofs.refusals.verdict.Statement.{statement}
 use Rattle.board.proofs.refusals.verdict.Tie as tie
 use Rattle.board.proofs.refusals.verdict.Reads as reads

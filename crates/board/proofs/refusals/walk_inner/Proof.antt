@@ -15,7 +15,8 @@ use Rattle.board.specs.Refusals.{innerTwice, chipMissing}
 use Rattle.board.specs.Index.{entryOf}
 use Rattle.board.specs.Walk.{lineIf, earlier, lineFrom, sheetBoard, Ready}
 use Rattle.board.proofs.Sections.{Part, inOrder}
-use Rattle.board.proofs.Faults.{Walking, walking-start, walking-more, walking-twice, walking-end, walk-row, walk-next, walk-sections, ids-more, inner-field, inner-repeats, inner-gone, or-left, or-right, or-none}
+use Rattle.base.proofs.Bools.{neither, either-left, either-right}
+use Rattle.board.proofs.Faults.{Walking, walking-start, walking-more, walking-twice, walking-end, walk-row, walk-next, walk-sections, ids-more, inner-field, inner-repeats, inner-gone}
 use Rattle.board.proofs.refusals.walk_inner.Statement.{statement}
 use Rattle.board.proofs.refusals.walk_inner.Tie as tie
 use Rattle.board.proofs.refusals.walk_inner.Reads as reads
@@ -95,7 +96,7 @@ returns : tie.Need-returns Inv-loop μ-loop
 returns c =
     let a = c .before .before .before .before .before .before .before .args in
     let l = c .before .before .before .before .before .loop in
-    let again : innerTwice (sheetBoard (a .text .now)) (l .f) ≡ true = sym (twice-here (c .before .before .before)) ∙ or-left _ _ (sym (c .before .has-id .ensures) ∙ c .if1 .taken) in (
+    let again : innerTwice (sheetBoard (a .text .now)) (l .f) ≡ true = sym (twice-here (c .before .before .before)) ∙ either-left _ _ (sym (c .before .has-id .ensures) ∙ c .if1 .taken) in (
       walking-twice (a .text .now) (a .first) (a .n) _ _ _ (a .w .missing) (l .f) (l .missing) (l .place) (l .inv .0) (c .before .before .before .before .loop-test .taken) (a .w) _ _ again
           (add-one (a .first + l .f)),
       refl,
@@ -120,7 +121,7 @@ returns-2 : tie.Need-returns-2 Inv-loop μ-loop
 returns-2 c =
     let a = c .before .before .before .before .before .before .before .before .before .before .before .args in
     let l = c .before .before .before .before .before .before .before .before .before .loop in
-    let again : innerTwice (sheetBoard (a .text .now)) (l .f) ≡ true = sym (twice-here (c .before .before .before .before .before .before .before)) ∙ or-right (found (entryOf (a .body .now) (a .nodes) (getD (c .before .before .before .before .before .before .before .row-at .result .row) 1 0))) _ (sym (c .before .before .enter-id .ensures .answer) ∙ c .if2 .taken) in (
+    let again : innerTwice (sheetBoard (a .text .now)) (l .f) ≡ true = sym (twice-here (c .before .before .before .before .before .before .before)) ∙ either-right (found (entryOf (a .body .now) (a .nodes) (getD (c .before .before .before .before .before .before .before .row-at .result .row) 1 0))) _ (sym (c .before .before .enter-id .ensures .answer) ∙ c .if2 .taken) in (
       walking-twice (a .text .now) (a .first) (a .n) _ _ _ (a .w .missing) (l .f) (l .missing) (l .place) (l .inv .0) (c .before .before .before .before .before .before .before .before .loop-test .taken) (a .w) _ _ again
           (add-one (a .first + l .f)),
       refl,
@@ -154,7 +155,7 @@ loop-again c =
     let row = c .before .before .before .before .before .before .before .before .before .row-at .result .row in
     let fresh : e .result ≡ false = c .before .before .if2 .left in
     let once : innerTwice b (l .f) ≡ false =
-    sym (twice-here (c .before .before .before .before .before .before .before .before .before)) ∙ or-none _ _ (sym (c .before .before .before .before .before .before .before .has-id .ensures) ∙ c .before .before .before .before .before .before .if1 .left) (sym (e .ensures .answer) ∙ fresh) in
+    sym (twice-here (c .before .before .before .before .before .before .before .before .before)) ∙ neither _ _ (sym (c .before .before .before .before .before .before .before .has-id .ensures) ∙ c .before .before .before .before .before .before .if1 .left) (sym (e .ensures .answer) ∙ fresh) in
     let room : l .f < length (l .index) = omega (arith, h, p .1 .1 .room, l .inv .1) in
     let gone : not (c .before .has-id2 .result) ≡ chipMissing b (l .f) =
     ap not (c .before .has-id2 .ensures) ∙ inner-gone b (l .f) row (here .0) (a .chip-count) (p .1 .0 .chipsAre) (p .1 .0 .chip) in

@@ -1,6 +1,6 @@
 use borrow.Author.Tests.{eq-eqb, ne-eqb}
 use mathlib.Core.Path.{_≡_, refl, sym, ap, _∙_}
-use Rattle.board_groups.proofs.TapLaws.{and-false}
+use Rattle.base.proofs.Bools.{and-false}
 use mathlib.Core.Bool.{not}
 use borrow.Author.Needs.{needs}
 use Rattle.board_groups.proofs.groups.anchors_open.Statement.{statement}

@@ -4,7 +4,7 @@ use mathlib.Core.Path.{_≡_, refl, sym, ap, _∙_, subst}
 use mathlib.Core.Bool.{not, true, false}
 use borrow.Author.Tests.{eq-eqb, ne-eqb}
 use Rattle.sheet.specs.Table.{MISSING}
-use Rattle.base.proofs.SortLaws.{clash}
+use Rattle.base.proofs.Bools.{clash}
 use Rattle.board.specs.Board.{given}
 use Rattle.board_lanes.proofs.PageLaws.{page-few}
 use borrow.Author.Needs.{needs}
@@ -18,7 +18,7 @@ returns : tie.Need-returns
 returns c =
     record {
       without = λ h. (refl, refl);
-      within = λ h. clash _ h (ap not (eq-eqb _ MISSING (c .if1 .taken)));
+      within = λ h. clash h (ap not (eq-eqb _ MISSING (c .if1 .taken)));
       few = λ count e. let z : _≡_ {A = ℕ} 0 count = cc in omega arith;
     }
 
@@ -43,7 +43,7 @@ returns-2 c =
     let i = q .before .before .before .before .before in
     let s = i .before .before in
     record {
-      without = λ h. clash _ (ap not (ne-eqb _ MISSING (i .if1 .left))) h;
+      without = λ h. clash (ap not (ne-eqb _ MISSING (i .if1 .left))) h;
       within = λ h. q .plan-page .ensures;
       few = page-few (s .args .taps .now) (s .args .groups .now) (s .args .marks .now) (s .args .m) (s .args .p) (s .pre .1) _ (q .plan-page .result) (q .plan-page .ensures);
     }

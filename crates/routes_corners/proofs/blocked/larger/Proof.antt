@@ -1,7 +1,7 @@
 -- The larger of two numbers.
 use mathlib.Core.Path.{sym}
 use borrow.Author.Tests.{lt-ltb, le-ltb}
-use Rattle.board.proofs.Newest.{pick-true, pick-false}
+use Rattle.base.proofs.Bools.{pick-true, pick-false}
 use Rattle.routes_corners.proofs.blocked.larger.Statement.{statement}
 use Rattle.routes_corners.proofs.blocked.larger.Tie as tie
 

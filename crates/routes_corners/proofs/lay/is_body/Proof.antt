@@ -1,6 +1,6 @@
 -- An end's anchor is its own body node exactly where it has the end's id.
 use mathlib.Core.Path.{refl}
-use Rattle.base.proofs.Lists.{clash}
+use Rattle.base.proofs.Bools.{clash}
 use Rattle.routes_corners.proofs.CornerLaws.{body-beyond, body-tested}
 use borrow.Author.Needs.{needs}
 use Rattle.routes_corners.proofs.lay.is_body.Statement.{statement}

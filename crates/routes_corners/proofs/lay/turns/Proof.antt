@@ -1,9 +1,8 @@
 -- The tests on a wire, in the rules' order.
 use mathlib.Core.Path.{refl, sym, _∙_}
 use borrow.Author.Tests.{not-true, not-false}
-use Rattle.board.proofs.Newest.{pick-true, pick-false}
+use Rattle.base.proofs.Bools.{clash, pick-true, pick-false}
 use Rattle.routes_cells.specs.Chains.{boardWith}
-use Rattle.base.proofs.Lists.{clash}
 use Rattle.routes_corners.proofs.CornerLaws.{turns-row}
 use Rattle.routes_corners.proofs.CornerSteps.{source-anchor, target-anchor, turn-closed, turn-muted, turn-sourceless, turn-sinkless, turn-tested}
 use borrow.Author.Needs.{needs}

@@ -1,5 +1,5 @@
 -- `chain_rotation` meets its contract. Assumes nothing.
-use Rattle.board.proofs.Newest.{pick-true, pick-false}
+use Rattle.base.proofs.Bools.{pick-true, pick-false}
 use mathlib.Core.Path.{sym}
 use Rattle.routes_emit.proofs.tables.chain_rotation.Statement.{statement}
 use Rattle.routes_emit.proofs.tables.chain_rotation.Tie as tie

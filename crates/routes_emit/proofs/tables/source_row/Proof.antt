@@ -1,5 +1,5 @@
 -- `source_row` meets its contract. Assumes nothing.
-use Rattle.board.proofs.Newest.{pick-true, pick-false}
+use Rattle.base.proofs.Bools.{pick-true, pick-false}
 use Rattle.board.specs.Board.{field}
 use Rattle.sheet.specs.Table.{MISSING}
 use borrow.Author.Tests.{eq-eqb, ne-eqb}
