@@ -6,4 +6,6 @@ pub mod SortLaws
 pub mod Filling
 pub mod MergeLaws
 pub mod HalvesLaws
+pub mod InsertLaws
 pub mod Every
+pub mod RunLaws

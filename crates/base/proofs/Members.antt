@@ -122,7 +122,7 @@ module _ {A : Type 0} (less : A → A → Bool) where
         go true e = clash (o .through y x y h e) (alone y)
         go false e = refl
 
-    still-not : (x y z : A) → less y x ≡ false → less z y ≡ false → less z x ≡ false
+    pub still-not : (x y z : A) → less y x ≡ false → less z y ≡ false → less z x ≡ false
     still-not x y z h k = go (less z x) refl
       where
         go : (t : Bool) → less z x ≡ t → t ≡ false

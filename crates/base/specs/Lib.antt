@@ -1,3 +1,4 @@
 pub mod Lists
+pub mod Runs
 pub mod Sort
 pub mod Views

@@ -2,4 +2,5 @@
 pub mod ids;
 pub mod numbers;
 pub mod rows;
+pub mod runs;
 pub mod sort;

@@ -196,12 +196,18 @@ module _ (b : Board) where
   length-upto zero = refl
   length-upto (suc n) = ap suc (length-upto n)
 
-  -- A row's number is below the count of nodes.
-  pub row-below : (p i : ℕ) → On p i → rowOf b i < length (b .nodes)
-  unfolding rowOf downsOn nodesOn
-  row-below p i o =
-      let h = position-below (downOf b i) (downsOn b (pageOf b i)) (downs-in (pageOf b i) i (record { there-is = o .there-is; row = o .row; page = refl })) in
+  -- A row's number is below the count of nodes on its page, and so below that of all.
+  pub row-on-page : (i : ℕ) → On (pageOf b i) i → rowOf b i < length (nodesOn b (pageOf b i))
+  unfolding rowOf downsOn
+  row-on-page i o =
+      let h = position-below (downOf b i) (downsOn b (pageOf b i)) (downs-in (pageOf b i) i o) in
       let k = length-downs′ (nodesOn b (pageOf b i)) in
+      omega arith
+
+  pub row-below : (p i : ℕ) → On p i → rowOf b i < length (b .nodes)
+  unfolding nodesOn
+  row-below p i o =
+      let h = row-on-page i (record { there-is = o .there-is; row = o .row; page = refl }) in
       let j = length-keep (λ m. hasRow b m && eqb (pageOf b m) (pageOf b i)) (upto (length (b .nodes))) in
       omega (arith, length-upto (length (b .nodes)))
 

@@ -39,10 +39,10 @@ shortest-at (n ∷ []) (suc k) h = absurd (omega arith)
 shortest-at (n ∷ m ∷ l) zero h = omega arith
 shortest-at (n ∷ m ∷ l) (suc k) h = let r = shortest-at (m ∷ l) k (omega arith) in omega arith
 
--- Work space in which there is room for so many records: as many rows stand in each slice, and twice as many in the marks.
+-- Work space in which there is room for so many records: as many rows stand in each slice, and five times as many in the marks.
 pub record WorkRoom (work : ℕ) (records facts taps groups demands keys marks : List (List ℕ)) : Type 0 where
   pub lent : WorkLent work (length records) facts taps groups demands keys marks
-  pub twice : 2 * work ≤ length marks
+  pub fivefold : 5 * work ≤ length marks
 
 pub work-room : (work : ℕ) (records facts taps groups demands keys marks : List (List ℕ)) → work ≡ shortest (workRows records facts taps groups demands keys marks)
     → WorkRoom work records facts taps groups demands keys marks
@@ -59,7 +59,7 @@ work-room work records facts taps groups demands keys marks e =
             keys-lent = omega (arith, e, shortest-at l 5 (omega arith));
             spare-lent = omega (arith, e, shortest-at l 6 (omega arith));
           };
-      twice = omega (arith, e, shortest-at l 6 (omega arith));
+      fivefold = omega (arith, e, shortest-at l 6 (omega arith));
     }
 
 -- `plan_bus` asks for no rerouters, bus wires or ports: it plans as if the most were lent.

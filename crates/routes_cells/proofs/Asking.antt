@@ -156,12 +156,20 @@ claim-covered p lane x r e =
     covered (bucketOf (getD r 0 0) (getD r 1 0) (halfOf (getD r 5 0))) p lane x (getD r 5 0) (λ i. bucketOf (page i) (here i) (halfOf (getD r 5 0)))
     (and-right kinds n (and-right (eqb (getD r 0 0) p && eqb (getD r 1 0) lane) (kinds && n) e′))
 
+-- V6: no claim on the span by the stops' own levels.
+claims-near : (stops : List (List ℕ)) (s p lane x : ℕ) → any (claimNear p lane x) (view stopIn stops s) ≡ nearBuckets (stopBucket stops) (stopClaims stops p lane x) s p lane x
+claims-near stops s p lane x =
+    any-view (claimNear p lane x) stops s
+    ∙ two-buckets (stopClaims stops p lane x) (stopBucket stops) (bucketOf p lane ((x + 1) / 2)) (bucketOf p lane ((x + 3) / 2)) s (λ i h e. claim-covered p lane x (getD stops i []) e)
+
+pub unclaimed-asked : (stops : List (List ℕ)) (s p lane x : ℕ) (t : Bool) → t ≡ nearBuckets (stopBucket stops) (stopClaims stops p lane x) s p lane x → not t ≡ unclaimed (view stopIn stops s) p lane x
+unfolding unclaimed
+unclaimed-asked stops s p lane x t e = ap not (e ∙ sym (claims-near stops s p lane x))
+
 -- V6, R13: no claim on the span, by the stops' own levels or by the heads and links placed so far.
 module _ (stops : List (List ℕ)) (s : ℕ) (bus : Bus) (table : List (List ℕ)) (n p lane x : ℕ) (rows : RerouterRows (bus .rerouters) table) (count : n ≡ length (bus .rerouters)) (has : lane ≡ MISSING → ⊥) where
   claims-asked : any (claimNear p lane x) (view stopIn stops s) ≡ nearBuckets (stopBucket stops) (stopClaims stops p lane x) s p lane x
-  claims-asked =
-      any-view (claimNear p lane x) stops s
-      ∙ two-buckets (stopClaims stops p lane x) (stopBucket stops) (bucketOf p lane ((x + 1) / 2)) (bucketOf p lane ((x + 3) / 2)) s (λ i h e. claim-covered p lane x (getD stops i []) e)
+  claims-asked = claims-near stops s p lane x
 
   rerouters-asked : any (rerouterNear p lane x) (bus .rerouters) ≡ nearBuckets (rerouterBucket table) (rerouterMeets table (Column p lane x)) n p lane x
   rerouters-asked =

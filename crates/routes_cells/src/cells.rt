@@ -1,29 +1,18 @@
-// Cells and claims: whether a rerouter's cell is clear of a row's cells, and whether a span of a lane's column is unclaimed. The board's bricks, the
-// stops and the rerouters are each chained by bucket, so that no crowded row or tall lane makes a question slow.
+// Claims, and what the corner pass asks for: the stops, the board's bricks and the rerouters are each chained by bucket, so that no crowded row or tall lane
+// makes a question slow.
 use base::numbers::MISSING;
 use base::numbers::ORIGIN;
-use base::numbers::PART_HEAD;
-use base::numbers::PART_LINK;
 use base::rows::Record;
 use base::rows::RerouterRow;
 use base::rows::WorkRow;
 ghost use mathlib.Core.Path.{_≡_};
-ghost use mathlib.Core.Bool.{true, false, _&&_, _||_};
-ghost use mathlib.Core.List.{List, []};
-ghost use Prim.Native.Nat.{ℕ, suc, _+_, _*_, _<_, _≤_};
+ghost use mathlib.Core.Bool.{true, false};
+ghost use Prim.Native.Nat.{suc, _+_, _*_, _<_, _≤_};
 ghost use lib.ListN.{length, getD, set};
-ghost use Rattle.board.specs.Board.{Board};
-ghost use Rattle.board.specs.Index.{Chained};
-ghost use Rattle.board.specs.Rows.{cellsOverlap, rerouterCell, brickCell};
+ghost use Rattle.board.specs.Rows.{brickCell};
 ghost use Rattle.routes.specs.Stops.{near as nearTo};
-ghost use Rattle.routes.specs.Levels.{claimNear};
-ghost use Rattle.base.specs.Views.{view};
-ghost use Rattle.board.specs.Tables.{NodeFacts};
-ghost use Rattle.routes.specs.Bus.{Bus, clearOfRow};
-ghost use Rattle.routes.specs.Rerouters.{columnFree};
-ghost use Rattle.routes.specs.Tables.{stopIn};
 ghost use Rattle.routes.specs.Buffers.{inward as inwardOf};
-ghost use Rattle.routes_cells.specs.Chains.{cellOf, bucketOf, rerouterBucket, stopBucket, nodeBucket, nodeMeets, stopClaims, rerouterMeets, boardWith, Walkable, inBucket, nearBuckets, Empty, CellRows, RerouterRows};
+ghost use Rattle.routes_cells.specs.Chains.{cellOf, bucketOf, rerouterBucket, stopBucket, nodeBucket, stopClaims, boardWith, Walkable, inBucket, nearBuckets, Empty};
 
 // A cell, half-open; of 64 bits, so that no end wraps.
 pub struct Cell {
@@ -40,25 +29,6 @@ pub enum Wanted {
 }
 
 const BUCKETS: u64 = 8192;
-
-pub fn cells_overlap(a: Cell, b: Cell) -> bool
-    ensures { λ r. ⌜ r ≡ cellsOverlap (cellOf a) (cellOf b) ⌝ }
-{
-    (b.x0 < a.x1) & (a.x0 < b.x1) & (b.y0 < a.y1) & (a.y0 < b.y1)
-}
-
-fn rerouter_cell(x: u32, y: u32) -> Cell
-    ensures { λ r. ⌜ cellOf r ≡ rerouterCell x y ⌝ }
-{
-    let left = x as u64;
-    let low = y as u64;
-    Cell {
-        x0: left,
-        x1: left + 2,
-        y0: low,
-        y1: low + 2,
-    }
-}
 
 // V6: whether two spans of 2 overlap.
 fn near(x: u32, p: u32) -> bool
@@ -112,91 +82,6 @@ fn rerouter_bucket(rerouters: &[RerouterRow], i: usize) -> usize
     bucket_at(page, row, inward(rerouters[i][1]))
 }
 
-// Whether a rerouter is what is asked for.
-fn rerouter_meets(rerouters: &[RerouterRow], i: usize, wanted: Wanted) -> bool
-    requires { ⌜ i < length (now rerouters) ⌝ }
-    ensures { λ r. ⌜ r ≡ rerouterMeets (now (rerouters .entry)) wanted i ⌝ }
-{
-    let x = inward(rerouters[i][0]);
-    let y = inward(rerouters[i][1]);
-    let part = rerouters[i][5];
-    let page = rerouters[i][7];
-    let lane = rerouters[i][8];
-    let row = rerouters[i][9];
-    match wanted {
-        Wanted::Column {
-            page: p,
-            lane: l,
-            x: at,
-        } => (page == p) & (lane == l) & ((part == PART_HEAD) | (part == PART_LINK)) & near(at, x),
-        Wanted::Beside {
-            page: p,
-            row: r,
-            x: at,
-            y: low,
-        } => (page == p) & (row == r) & cells_overlap(rerouter_cell(x, y), rerouter_cell(at, low)),
-    }
-}
-
-// Whether one of the first n rerouters, of those in bucket k, is what is asked for.
-fn rerouter_there(
-    rerouters: &[RerouterRow],
-    nexts: &[u32],
-    heads: &[u32],
-    n: usize,
-    k: usize,
-    wanted: Wanted,
-) -> bool
-    requires { ⌜ Walkable (rerouterBucket (now rerouters)) (length (now rerouters)) (now nexts) (now heads) n ⌝ }
-    requires { ⌜ k < 8192 ⌝ }
-    ensures { λ r. ⌜ r ≡ inBucket (rerouterBucket (now (rerouters .entry))) (rerouterMeets (now (rerouters .entry)) wanted) n k ⌝ }
-{
-    let mut link = heads[k];
-    while link != 0 {
-        let i = (link - 1) as usize;
-        if rerouter_meets(rerouters, i, wanted) {
-            return true;
-        }
-        link = nexts[i];
-    }
-    false
-}
-
-// The same of the two buckets where what is near c may be.
-fn rerouter_near(
-    rerouters: &[RerouterRow],
-    nexts: &[u32],
-    heads: &[u32],
-    n: usize,
-    page: u32,
-    key: u32,
-    c: u32,
-    wanted: Wanted,
-) -> bool
-    requires { ⌜ Walkable (rerouterBucket (now rerouters)) (length (now rerouters)) (now nexts) (now heads) n ⌝ }
-    ensures { λ r. ⌜ r ≡ nearBuckets (rerouterBucket (now (rerouters .entry))) (rerouterMeets (now (rerouters .entry)) wanted) n page key c ⌝ }
-{
-    let at = c as u64;
-    if rerouter_there(
-        rerouters,
-        nexts,
-        heads,
-        n,
-        bucket(page, key, (at + 1) / 2),
-        wanted,
-    ) {
-        return true;
-    }
-    rerouter_there(
-        rerouters,
-        nexts,
-        heads,
-        n,
-        bucket(page, key, (at + 3) / 2),
-        wanted,
-    )
-}
-
 // Whether a stop's own level claims a span that is near x in the lane's column.
 fn stop_claims(stops: &[WorkRow], i: usize, page: u32, lane: u32, x: u32) -> bool
     requires { ⌜ i < length (now stops) ⌝ }
@@ -232,7 +117,7 @@ fn claim_there(
     false
 }
 
-fn claim_near(
+pub fn claim_near(
     stops: &[WorkRow],
     nexts: &[u32],
     heads: &[u32],
@@ -298,50 +183,6 @@ pub fn brick_cell(nodes: &[Record], i: usize) -> Cell
     cell_of_size(x, y, half_x, half_y)
 }
 
-fn node_meets(
-    nodes: &[Record],
-    facts: &[WorkRow],
-    i: usize,
-    page: u32,
-    row: u32,
-    x: u32,
-    y: u32,
-) -> bool
-    requires { ⌜ (i < length (now nodes)) × (i < length (now facts)) ⌝ }
-    ensures { λ r. ⌜ r ≡ nodeMeets (now (nodes .entry)) (now (facts .entry)) page row x y i ⌝ }
-{
-    (nodes[i][10] == page)
-        & (facts[i][0] == row)
-        & cells_overlap(brick_cell(nodes, i), rerouter_cell(x, y))
-}
-
-// Whether a brick of the board, of those in bucket k, stands in the row and overlaps a rerouter at x, y.
-fn node_there(
-    nodes: &[Record],
-    facts: &[WorkRow],
-    nexts: &[u32],
-    heads: &[u32],
-    k: usize,
-    page: u32,
-    row: u32,
-    x: u32,
-    y: u32,
-) -> bool
-    requires { ⌜ Walkable (nodeBucket (now nodes) (now facts)) (length (now facts)) (now nexts) (now heads) (length (now nodes)) ⌝ }
-    requires { ⌜ k < 8192 ⌝ }
-    ensures { λ r. ⌜ r ≡ inBucket (nodeBucket (now (nodes .entry)) (now (facts .entry))) (nodeMeets (now (nodes .entry)) (now (facts .entry)) page row x y) (length (now (nodes .entry))) k ⌝ }
-{
-    let mut link = heads[k];
-    while link != 0 {
-        let i = (link - 1) as usize;
-        if node_meets(nodes, facts, i, page, row, x, y) {
-            return true;
-        }
-        link = nexts[i];
-    }
-    false
-}
-
 // Chains that hold nothing yet.
 pub fn empty_heads(heads: &mut [u32])
     requires { ⌜ 8192 ≤ length (now heads) ⌝ }
@@ -390,94 +231,4 @@ pub fn book_rerouter(rerouters: &[RerouterRow], nexts: &mut [u32], heads: &mut [
 {
     let k = rerouter_bucket(rerouters, n);
     chain(nexts, heads, k, n);
-}
-
-// V6, R13: `claim_column`'s test: no claim on the span, by the stops' own levels or by the heads and links placed so far.
-pub fn column_free(
-    stops: &[WorkRow],
-    claim_nexts: &[u32],
-    claim_heads: &[u32],
-    s: usize,
-    rerouters: &[RerouterRow],
-    nexts: &[u32],
-    heads: &[u32],
-    n: usize,
-    page: u32,
-    lane: u32,
-    x: u32,
-) -> bool
-    requires { ⌜ Walkable (stopBucket (now stops)) (length (now stops)) (now «claim_nexts») (now «claim_heads») s ⌝ }
-    requires { ⌜ Walkable (rerouterBucket (now rerouters)) (length (now rerouters)) (now nexts) (now heads) n ⌝ }
-    requires { ⌜ (lane ≡ 4294967295 → ⊥) ⌝ }
-    ensures { λ r. ⌜ ((bus : Bus) → RerouterRows (bus .rerouters) (now (rerouters .entry)) → n ≡ length (bus .rerouters) → r ≡ columnFree (view stopIn (now (stops .entry)) s) bus page lane x) ⌝ }
-{
-    if claim_near(stops, claim_nexts, claim_heads, s, page, lane, x) {
-        return false;
-    }
-    let taken = rerouter_near(
-        rerouters,
-        nexts,
-        heads,
-        n,
-        page,
-        lane,
-        x,
-        Wanted::Column {
-            page: page,
-            lane: lane,
-            x: x,
-        },
-    );
-    !taken
-}
-
-// C6: clear of what is booked on a row: its bricks, and the rerouters placed beside it.
-pub fn row_clear(
-    nodes: &[Record],
-    facts: &[WorkRow],
-    node_nexts: &[u32],
-    node_heads: &[u32],
-    rerouters: &[RerouterRow],
-    nexts: &[u32],
-    heads: &[u32],
-    n: usize,
-    page: u32,
-    row: u32,
-    x: u32,
-    y: u32,
-) -> bool
-    requires { ⌜ Walkable (nodeBucket (now nodes) (now facts)) (length (now facts)) (now «node_nexts») (now «node_heads») (length (now nodes)) ⌝ }
-    requires { ⌜ Walkable (rerouterBucket (now rerouters)) (length (now rerouters)) (now nexts) (now heads) n ⌝ }
-    requires { ⌜ (page ≡ 4294967295 → ⊥) × (row ≡ 4294967295 → ⊥) ⌝ }
-    ensures { λ r. ⌜ ((b : Board) (bus : Bus) → b .nodes ≡ now (nodes .entry) → NodeFacts b (now (facts .entry)) → CellRows (bus .rerouters) (now (rerouters .entry)) → n ≡ length (bus .rerouters) → r ≡ clearOfRow b bus page row (rerouterCell x y)) ⌝ }
-{
-    if node_there(
-        nodes,
-        facts,
-        node_nexts,
-        node_heads,
-        bucket(page, row, 0),
-        page,
-        row,
-        x,
-        y,
-    ) {
-        return false;
-    }
-    let taken = rerouter_near(
-        rerouters,
-        nexts,
-        heads,
-        n,
-        page,
-        row,
-        y,
-        Wanted::Beside {
-            page: page,
-            row: row,
-            x: x,
-            y: y,
-        },
-    );
-    !taken
 }

@@ -1,3 +1,3 @@
-// Questions for claimed columns and booked cells, and rerouters placed there.
+// Claims, bricks and rerouters chained by bucket, and rerouters placed there.
 pub mod cells;
 pub mod place;

@@ -1,4 +1,4 @@
-// A rerouter put on the bus and booked: what the emission and the corner pass have in common.
+// A rerouter put on the bus and booked, for the corner pass.
 use crate::cells::book_rerouter;
 use base::rows::BusWireRow;
 use base::rows::RerouterRow;

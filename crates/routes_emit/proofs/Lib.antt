@@ -1,4 +1,3 @@
 pub mod Emitting
-pub mod Lanes
 pub mod Next
 pub mod Steps

@@ -1,15 +1,14 @@
 // What the walk over the taps holds, and the three places where it puts a rerouter: on the upstream feed, beside it as a tap, at the end of the row's chain.
-use crate::tables::Lane;
 use base::numbers::MISSING;
 use base::rows::BusWireRow;
 use base::rows::RerouterRow;
 use routes::bus::BusCount;
 use routes::bus::Feed;
 use routes::bus::Rerouter;
-use routes_cells::place::place;
+use routes::bus::push_bus_node;
+use routes_taps::taps::Lane;
 ghost use mathlib.Core.Path.{_≡_};
 ghost use Rattle.routes.specs.Holding.{rerouterOf};
-ghost use Rattle.routes_cells.specs.Placing.{OneOf};
 ghost use Rattle.routes_emit.specs.Emitting.{laneRerouterOf, rowRerouterOf, Ready, Spends, Becomes, hungOn, tappedOff, chainedOn};
 
 // R12: what the walk over the taps holds: how much is written, the feed of links and taps, the tap of the group's last own level, and the end of the row's
@@ -20,8 +19,6 @@ pub struct Emission {
     pub stop_tap: Feed,
     pub row_end: Feed,
 }
-
-pub(crate) const TAP_RESERVE: u32 = 5;
 
 pub(crate) const ROLE_GUTTER: u32 = 0;
 
@@ -75,20 +72,17 @@ pub(crate) fn row_rerouter(
 pub(crate) fn hang_on(
     rerouters: &mut [RerouterRow],
     bus_wires: &mut [BusWireRow],
-    nexts: &mut [u32],
-    heads: &mut [u32],
     e: Emission,
     new: Rerouter,
 ) -> Emission
-    requires { ⌜ Ready 1 1 (now rerouters) (now «bus_wires») (now nexts) (now heads) e ⌝ }
-    requires { ⌜ OneOf new ⌝ }
-    ensures { λ r. ⌜ Spends 1 1 (now (rerouters .entry)) (now («bus_wires» .entry)) (now (nexts .entry)) (now (heads .entry)) e (now (rerouters .exit)) (now («bus_wires» .exit)) (now (nexts .exit)) (now (heads .exit)) r ⌝ }
+    requires { ⌜ Ready 1 1 (now rerouters) (now «bus_wires») e ⌝ }
+    ensures { λ r. ⌜ Spends 1 1 (now (rerouters .entry)) (now («bus_wires» .entry)) e (now (rerouters .exit)) (now («bus_wires» .exit)) r ⌝ }
     ensures { λ r. ⌜ Becomes (hungOn (rerouterOf new)) (now (rerouters .entry)) (now («bus_wires» .entry)) e (now (rerouters .exit)) (now («bus_wires» .exit)) r ⌝ }
 {
     let feed = e.upstream;
     let stop_tap = e.stop_tap;
     let row_end = e.row_end;
-    let placed = place(rerouters, bus_wires, nexts, heads, e.count, feed, new);
+    let placed = push_bus_node(rerouters, bus_wires, e.count, feed, new);
     let count = placed.count;
     let upstream = placed.feed;
     Emission {
@@ -103,18 +97,15 @@ pub(crate) fn hang_on(
 pub(crate) fn tap_off(
     rerouters: &mut [RerouterRow],
     bus_wires: &mut [BusWireRow],
-    nexts: &mut [u32],
-    heads: &mut [u32],
     e: Emission,
     new: Rerouter,
 ) -> Emission
-    requires { ⌜ Ready 1 1 (now rerouters) (now «bus_wires») (now nexts) (now heads) e ⌝ }
-    requires { ⌜ OneOf new ⌝ }
-    ensures { λ r. ⌜ Spends 1 1 (now (rerouters .entry)) (now («bus_wires» .entry)) (now (nexts .entry)) (now (heads .entry)) e (now (rerouters .exit)) (now («bus_wires» .exit)) (now (nexts .exit)) (now (heads .exit)) r ⌝ }
+    requires { ⌜ Ready 1 1 (now rerouters) (now «bus_wires») e ⌝ }
+    ensures { λ r. ⌜ Spends 1 1 (now (rerouters .entry)) (now («bus_wires» .entry)) e (now (rerouters .exit)) (now («bus_wires» .exit)) r ⌝ }
     ensures { λ r. ⌜ Becomes (tappedOff (rerouterOf new)) (now (rerouters .entry)) (now («bus_wires» .entry)) e (now (rerouters .exit)) (now («bus_wires» .exit)) r ⌝ }
 {
     let from = e.upstream;
-    let placed = place(rerouters, bus_wires, nexts, heads, e.count, from, new);
+    let placed = push_bus_node(rerouters, bus_wires, e.count, from, new);
     let count = placed.count;
     let tap = placed.feed;
     Emission {
@@ -129,20 +120,17 @@ pub(crate) fn tap_off(
 pub(crate) fn chain_on(
     rerouters: &mut [RerouterRow],
     bus_wires: &mut [BusWireRow],
-    nexts: &mut [u32],
-    heads: &mut [u32],
     e: Emission,
     new: Rerouter,
 ) -> Emission
-    requires { ⌜ Ready 1 1 (now rerouters) (now «bus_wires») (now nexts) (now heads) e ⌝ }
-    requires { ⌜ OneOf new ⌝ }
-    ensures { λ r. ⌜ Spends 1 1 (now (rerouters .entry)) (now («bus_wires» .entry)) (now (nexts .entry)) (now (heads .entry)) e (now (rerouters .exit)) (now («bus_wires» .exit)) (now (nexts .exit)) (now (heads .exit)) r ⌝ }
+    requires { ⌜ Ready 1 1 (now rerouters) (now «bus_wires») e ⌝ }
+    ensures { λ r. ⌜ Spends 1 1 (now (rerouters .entry)) (now («bus_wires» .entry)) e (now (rerouters .exit)) (now («bus_wires» .exit)) r ⌝ }
     ensures { λ r. ⌜ Becomes (chainedOn (rerouterOf new)) (now (rerouters .entry)) (now («bus_wires» .entry)) e (now (rerouters .exit)) (now («bus_wires» .exit)) r ⌝ }
 {
     let upstream = e.upstream;
     let stop_tap = e.stop_tap;
     let feed = e.row_end;
-    let placed = place(rerouters, bus_wires, nexts, heads, e.count, feed, new);
+    let placed = push_bus_node(rerouters, bus_wires, e.count, feed, new);
     let count = placed.count;
     let row_end = placed.feed;
     Emission {

@@ -1,74 +1,47 @@
 // A row begins: the link and the tap of its stop, or the tap that it shares.
+use crate::answers::Answers;
 use crate::chain::Emission;
 use crate::chain::hang_on;
 use crate::chain::lane_rerouter;
 use crate::chain::tap_off;
-use crate::tables::Lane;
 use base::numbers::PART_LINK;
 use base::numbers::REROUTER_SIZE;
 use base::rows::BusWireRow;
 use base::rows::RerouterRow;
-use base::rows::WorkRow;
 use routes::levels::Level;
-use routes_cells::cells::column_free;
+use routes_taps::taps::Lane;
 ghost use mathlib.Core.Path.{_≡_};
 ghost use mathlib.Core.List.{List};
 ghost use Prim.Native.Nat.{_<_};
-ghost use lib.ListN.{length};
 ghost use Rattle.board.specs.Board.{Board};
 ghost use Rattle.board.specs.Groups.{Tap as LaidTap};
 ghost use Rattle.board.specs.Demands.{PageLanes};
-ghost use Rattle.base.specs.Views.{view};
-ghost use Rattle.routes.specs.Tables.{stopIn};
-ghost use Rattle.routes_cells.specs.Chains.{Walkable, stopBucket};
-ghost use Rattle.routes.specs.Rerouters.{withLink, startRow};
 ghost use Rattle.routes.specs.Holding.{stopLevelOf};
-ghost use Rattle.routes_emit.specs.Emitting.{Ready, Spends, Becomes, LaneRanges, LaneOf, sharedTap, LevelRange};
+ghost use Rattle.routes_taps.specs.Asking.{linkBy, rowBy};
+ghost use Rattle.routes_taps.specs.Taps.{LaneOf, LevelRange};
+ghost use Rattle.routes_emit.specs.Emitting.{Ready, Spends, Becomes, told, sharedTap};
 
 const PART_TAP: u32 = 4;
 
-// R8: a link, unless its span is claimed.
+// R8: a link, where its answer says so.
 fn with_link(
-    stops: &[WorkRow],
-    claim_nexts: &[u32],
-    claim_heads: &[u32],
-    claims: usize,
     rerouters: &mut [RerouterRow],
     bus_wires: &mut [BusWireRow],
-    nexts: &mut [u32],
-    heads: &mut [u32],
     e: Emission,
     l: Lane,
     level: u32,
+    answers: Answers,
 ) -> Emission
-    requires { ⌜ Walkable (stopBucket (now stops)) (length (now stops)) (now «claim_nexts») (now «claim_heads») claims ⌝ }
-    requires { ⌜ Ready 1 1 (now rerouters) (now «bus_wires») (now nexts) (now heads) e ⌝ }
-    requires { ⌜ LaneRanges l ⌝ }
+    requires { ⌜ Ready 1 1 (now rerouters) (now «bus_wires») e ⌝ }
     requires { ⌜ level < 4294967290 ⌝ }
-    ensures { λ r. ⌜ Spends 1 1 (now (rerouters .entry)) (now («bus_wires» .entry)) (now (nexts .entry)) (now (heads .entry)) e (now (rerouters .exit)) (now («bus_wires» .exit)) (now (nexts .exit)) (now (heads .exit)) r ⌝ }
-    ensures { λ r. ⌜ ((b : Board) (ts : List LaidTap) (ps : List PageLanes) (t : LaidTap) → LaneOf b ts ps t l → Becomes (λ s. withLink b ts ps (view stopIn (now (stops .entry)) claims) s t level) (now (rerouters .entry)) (now («bus_wires» .entry)) e (now (rerouters .exit)) (now («bus_wires» .exit)) r) ⌝ }
+    ensures { λ r. ⌜ Spends 1 1 (now (rerouters .entry)) (now («bus_wires» .entry)) e (now (rerouters .exit)) (now («bus_wires» .exit)) r ⌝ }
+    ensures { λ r. ⌜ ((b : Board) (ts : List LaidTap) (ps : List PageLanes) (t : LaidTap) → LaneOf b ts ps t l → Becomes (λ s. linkBy b ts ps (answers .link) s t level) (now (rerouters .entry)) (now («bus_wires» .entry)) e (now (rerouters .exit)) (now («bus_wires» .exit)) r) ⌝ }
 {
-    let count = e.count;
-    let n = count.rerouters;
-    let x = level + REROUTER_SIZE;
-    if column_free(
-        stops,
-        claim_nexts,
-        claim_heads,
-        claims,
-        rerouters,
-        nexts,
-        heads,
-        n,
-        l.page,
-        l.lane,
-        x,
-    ) {
+    if answers.link {
+        let x = level + REROUTER_SIZE;
         return hang_on(
             rerouters,
             bus_wires,
-            nexts,
-            heads,
             e,
             lane_rerouter(l, x, l.rotation, PART_LINK),
         );
@@ -93,47 +66,26 @@ fn share_tap(e: Emission) -> Emission
 
 // R7: a level of its own has a link and a tap; one taken over goes by the tap of the stop it was taken from.
 pub(crate) fn start_row(
-    stops: &[WorkRow],
-    claim_nexts: &[u32],
-    claim_heads: &[u32],
-    claims: usize,
     rerouters: &mut [RerouterRow],
     bus_wires: &mut [BusWireRow],
-    nexts: &mut [u32],
-    heads: &mut [u32],
     e: Emission,
     l: Lane,
     level: Level,
+    answers: Answers,
 ) -> Emission
-    requires { ⌜ Walkable (stopBucket (now stops)) (length (now stops)) (now «claim_nexts») (now «claim_heads») claims ⌝ }
-    requires { ⌜ Ready 2 2 (now rerouters) (now «bus_wires») (now nexts) (now heads) e ⌝ }
-    requires { ⌜ LaneRanges l ⌝ }
+    requires { ⌜ Ready 2 2 (now rerouters) (now «bus_wires») e ⌝ }
     requires { ⌜ LevelRange level ⌝ }
-    ensures { λ r. ⌜ Spends 2 2 (now (rerouters .entry)) (now («bus_wires» .entry)) (now (nexts .entry)) (now (heads .entry)) e (now (rerouters .exit)) (now («bus_wires» .exit)) (now (nexts .exit)) (now (heads .exit)) r ⌝ }
-    ensures { λ r. ⌜ ((b : Board) (ts : List LaidTap) (ps : List PageLanes) (t : LaidTap) → LaneOf b ts ps t l → Becomes (λ s. startRow b ts ps (view stopIn (now (stops .entry)) claims) s t (stopLevelOf level)) (now (rerouters .entry)) (now («bus_wires» .entry)) e (now (rerouters .exit)) (now («bus_wires» .exit)) r) ⌝ }
+    ensures { λ r. ⌜ Spends 2 2 (now (rerouters .entry)) (now («bus_wires» .entry)) e (now (rerouters .exit)) (now («bus_wires» .exit)) r ⌝ }
+    ensures { λ r. ⌜ ((b : Board) (ts : List LaidTap) (ps : List PageLanes) (t : LaidTap) → LaneOf b ts ps t l → Becomes (λ s. rowBy b ts ps (told answers) s t (stopLevelOf level)) (now (rerouters .entry)) (now («bus_wires» .entry)) e (now (rerouters .exit)) (now («bus_wires» .exit)) r) ⌝ }
 {
     match level {
         Level::Dropped => e,
         Level::Shared(_) => share_tap(e),
         Level::Own(x) => {
-            let linked = with_link(
-                stops,
-                claim_nexts,
-                claim_heads,
-                claims,
-                rerouters,
-                bus_wires,
-                nexts,
-                heads,
-                e,
-                l,
-                x,
-            );
+            let linked = with_link(rerouters, bus_wires, e, l, x, answers);
             tap_off(
                 rerouters,
                 bus_wires,
-                nexts,
-                heads,
                 linked,
                 lane_rerouter(l, x, 0, PART_TAP),
             )

@@ -1,187 +1,76 @@
-// One tap: the group and the row that begin with it, then its column and its delivery.
+// One tap: the group and the row that begin with it, then its gate-side rerouter and its delivery.
+use crate::answers::Answers;
 use crate::chain::Emission;
 use crate::group::start_group;
 use crate::row::start_row;
 use crate::serve::serve;
-use crate::tables::Lane;
-use crate::tables::News;
-use crate::tables::Tap;
 use base::rows::BusWireRow;
-use base::rows::Record;
 use base::rows::RerouterRow;
-use base::rows::WorkRow;
 use routes::levels::Level;
+use routes_taps::taps::Lane;
+use routes_taps::taps::News;
+use routes_taps::taps::Tap;
 ghost use mathlib.Core.List.{List};
-ghost use lib.ListN.{length};
 ghost use Rattle.board.specs.Board.{Board};
 ghost use Rattle.board.specs.Groups.{Tap as LaidTap};
 ghost use Rattle.board.specs.Demands.{PageLanes};
-ghost use Rattle.base.specs.Views.{view};
-ghost use Rattle.routes.specs.Tables.{stopIn};
-ghost use Rattle.routes_cells.specs.Chains.{Walkable, stopBucket, nodeBucket};
 ghost use Rattle.routes.specs.Holding.{stopLevelOf};
-ghost use Rattle.routes_emit.specs.Emitting.{Ready, Spends, Becomes, Knows, LaneRanges, tapOf, LevelRange, TapRanges, TapTarget, beginTap, tapEmitted};
+ghost use Rattle.routes_taps.specs.Taps.{LaneOf, LaneRanges, tapOf, LevelRange, TapRanges, TapTarget};
+ghost use Rattle.routes_emit.specs.Emitting.{Ready, Spends, Becomes, told, beginTap, tapEmitted};
 
 // A new group and a new row begin before the tap is served.
 fn begin(
-    nodes: &[Record],
-    facts: &[WorkRow],
-    node_nexts: &[u32],
-    node_heads: &[u32],
-    stops: &[WorkRow],
-    claim_nexts: &[u32],
-    claim_heads: &[u32],
-    claims: usize,
     rerouters: &mut [RerouterRow],
     bus_wires: &mut [BusWireRow],
-    nexts: &mut [u32],
-    heads: &mut [u32],
     e: Emission,
     l: Lane,
     news: News,
     level: Level,
+    answers: Answers,
 ) -> Emission
-    requires { ⌜ Walkable (nodeBucket (now nodes) (now facts)) (length (now facts)) (now «node_nexts») (now «node_heads») (length (now nodes)) ⌝ }
-    requires { ⌜ Walkable (stopBucket (now stops)) (length (now stops)) (now «claim_nexts») (now «claim_heads») claims ⌝ }
-    requires { ⌜ Ready 4 4 (now rerouters) (now «bus_wires») (now nexts) (now heads) e ⌝ }
+    requires { ⌜ Ready 4 4 (now rerouters) (now «bus_wires») e ⌝ }
     requires { ⌜ LaneRanges l ⌝ }
     requires { ⌜ LevelRange level ⌝ }
-    ensures { λ r. ⌜ Spends 4 4 (now (rerouters .entry)) (now («bus_wires» .entry)) (now (nexts .entry)) (now (heads .entry)) e (now (rerouters .exit)) (now («bus_wires» .exit)) (now (nexts .exit)) (now (heads .exit)) r ⌝ }
-    ensures { λ r. ⌜ ((b : Board) (ts : List LaidTap) (ps : List PageLanes) (t : LaidTap) → Knows b ts ps t l (now (nodes .entry)) (now (facts .entry)) → Becomes (beginTap b ts ps (view stopIn (now (stops .entry)) claims) t news (stopLevelOf level)) (now (rerouters .entry)) (now («bus_wires» .entry)) e (now (rerouters .exit)) (now («bus_wires» .exit)) r) ⌝ }
+    ensures { λ r. ⌜ Spends 4 4 (now (rerouters .entry)) (now («bus_wires» .entry)) e (now (rerouters .exit)) (now («bus_wires» .exit)) r ⌝ }
+    ensures { λ r. ⌜ ((b : Board) (ts : List LaidTap) (ps : List PageLanes) (t : LaidTap) → LaneOf b ts ps t l → Becomes (beginTap b ts ps (told answers) t news (stopLevelOf level)) (now (rerouters .entry)) (now («bus_wires» .entry)) e (now (rerouters .exit)) (now («bus_wires» .exit)) r) ⌝ }
 {
     let group = news.group;
     let row = news.row;
     if group {
-        let grouped = start_group(
-            nodes,
-            facts,
-            node_nexts,
-            node_heads,
-            stops,
-            claim_nexts,
-            claim_heads,
-            claims,
-            rerouters,
-            bus_wires,
-            nexts,
-            heads,
-            e,
-            l,
-        );
+        let grouped = start_group(rerouters, bus_wires, e, l, answers);
         if row {
-            return start_row(
-                stops,
-                claim_nexts,
-                claim_heads,
-                claims,
-                rerouters,
-                bus_wires,
-                nexts,
-                heads,
-                grouped,
-                l,
-                level,
-            );
+            return start_row(rerouters, bus_wires, grouped, l, level, answers);
         }
         return grouped;
     }
     if row {
-        return start_row(
-            stops,
-            claim_nexts,
-            claim_heads,
-            claims,
-            rerouters,
-            bus_wires,
-            nexts,
-            heads,
-            e,
-            l,
-            level,
-        );
+        return start_row(rerouters, bus_wires, e, l, level, answers);
     }
     e
 }
 
-// One tap: its group, its row, its column, its delivery.
+// One tap: its group, its row, its gate-side rerouter, its delivery.
 pub(crate) fn emit_tap(
-    nodes: &[Record],
-    facts: &[WorkRow],
-    node_nexts: &[u32],
-    node_heads: &[u32],
-    stops: &[WorkRow],
-    claim_nexts: &[u32],
-    claim_heads: &[u32],
-    claims: usize,
     rerouters: &mut [RerouterRow],
     bus_wires: &mut [BusWireRow],
-    nexts: &mut [u32],
-    heads: &mut [u32],
     e: Emission,
     l: Lane,
     t: Tap,
     news: News,
     level: Level,
+    answers: Answers,
 ) -> Emission
-    requires { ⌜ Walkable (nodeBucket (now nodes) (now facts)) (length (now facts)) (now «node_nexts») (now «node_heads») (length (now nodes)) ⌝ }
-    requires { ⌜ Walkable (stopBucket (now stops)) (length (now stops)) (now «claim_nexts») (now «claim_heads») claims ⌝ }
-    requires { ⌜ Ready 5 6 (now rerouters) (now «bus_wires») (now nexts) (now heads) e ⌝ }
+    requires { ⌜ Ready 5 6 (now rerouters) (now «bus_wires») e ⌝ }
     requires { ⌜ LaneRanges l ⌝ }
     requires { ⌜ TapRanges t ⌝ }
     requires { ⌜ LevelRange level ⌝ }
-    ensures { λ r. ⌜ Spends 5 6 (now (rerouters .entry)) (now («bus_wires» .entry)) (now (nexts .entry)) (now (heads .entry)) e (now (rerouters .exit)) (now («bus_wires» .exit)) (now (nexts .exit)) (now (heads .exit)) r ⌝ }
-    ensures { λ r. ⌜ ((b : Board) (ts : List LaidTap) (ps : List PageLanes) → Knows b ts ps (tapOf t) l (now (nodes .entry)) (now (facts .entry)) → TapTarget b t → Becomes (tapEmitted b ts ps (view stopIn (now (stops .entry)) claims) (tapOf t) news (stopLevelOf level)) (now (rerouters .entry)) (now («bus_wires» .entry)) e (now (rerouters .exit)) (now («bus_wires» .exit)) r) ⌝ }
+    ensures { λ r. ⌜ Spends 5 6 (now (rerouters .entry)) (now («bus_wires» .entry)) e (now (rerouters .exit)) (now («bus_wires» .exit)) r ⌝ }
+    ensures { λ r. ⌜ ((b : Board) (ts : List LaidTap) (ps : List PageLanes) → LaneOf b ts ps (tapOf t) l → TapTarget b t → Becomes (tapEmitted b ts ps (told answers) (tapOf t) news (stopLevelOf level)) (now (rerouters .entry)) (now («bus_wires» .entry)) e (now (rerouters .exit)) (now («bus_wires» .exit)) r) ⌝ }
 {
-    let begun = begin(
-        nodes,
-        facts,
-        node_nexts,
-        node_heads,
-        stops,
-        claim_nexts,
-        claim_heads,
-        claims,
-        rerouters,
-        bus_wires,
-        nexts,
-        heads,
-        e,
-        l,
-        news,
-        level,
-    );
-    let column = news.column;
+    let begun = begin(rerouters, bus_wires, e, l, news, level, answers);
     match level {
         Level::Dropped => begun,
-        Level::Shared(x) => serve(
-            nodes,
-            facts,
-            node_nexts,
-            node_heads,
-            rerouters,
-            bus_wires,
-            nexts,
-            heads,
-            begun,
-            l,
-            t,
-            column,
-            x,
-        ),
-        Level::Own(x) => serve(
-            nodes,
-            facts,
-            node_nexts,
-            node_heads,
-            rerouters,
-            bus_wires,
-            nexts,
-            heads,
-            begun,
-            l,
-            t,
-            column,
-            x,
-        ),
+        Level::Shared(x) => serve(rerouters, bus_wires, begun, l, t, x, answers),
+        Level::Own(x) => serve(rerouters, bus_wires, begun, l, t, x, answers),
     }
 }

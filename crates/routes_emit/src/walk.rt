@@ -1,10 +1,7 @@
-// The second pass of `lay_bus` (`emit_lane`): heads, source rerouters, links, taps, gate-sides and deliveries, tap by tap in the order of laying.
+// The second pass of `lay_bus` (`emit_lane`): heads, source rerouters, links, taps, gate-sides and deliveries, tap by tap in the order of laying, each tap by the
+// answers to what it asked for.
+use crate::answers::answers_at;
 use crate::chain::Emission;
-use crate::tables::Reached;
-use crate::tables::lane_of;
-use crate::tables::news_at;
-use crate::tables::reach;
-use crate::tables::tap_at;
 use crate::tap::emit_tap;
 use base::ids::NodeId;
 use base::rows::BusWireRow;
@@ -15,10 +12,14 @@ use routes::bus::BusCount;
 use routes::bus::End;
 use routes::bus::Feed;
 use routes::levels::Level;
-use routes_cells::cells::empty_heads;
+use routes_taps::taps::Reached;
+use routes_taps::taps::lane_of;
+use routes_taps::taps::news_at;
+use routes_taps::taps::reach;
+use routes_taps::taps::tap_at;
 ghost use mathlib.Core.Path.{_≡_};
 ghost use mathlib.Core.List.{List, []};
-ghost use Prim.Native.Nat.{ℕ, _<_};
+ghost use Prim.Native.Nat.{ℕ, _+_, _*_, _<_, _≤_};
 ghost use lib.ListN.{length, getD};
 ghost use Rattle.board.specs.Board.{Board};
 ghost use Rattle.board.specs.Groups.{Tap as LaidTap};
@@ -26,10 +27,10 @@ ghost use Rattle.board.specs.Demands.{PageLanes};
 ghost use Rattle.base.specs.Views.{view};
 ghost use Rattle.board.specs.Tables.{tapIn};
 ghost use Rattle.routes.specs.Tables.{stopIn};
-ghost use Rattle.routes_cells.specs.Chains.{Walkable, stopBucket, nodeBucket};
 ghost use Rattle.routes.specs.Holding.{BusHeld, stopLevelOf};
-ghost use Rattle.routes.specs.Rerouters.{emitTap, emit};
-ghost use Rattle.routes_emit.specs.Emitting.{Ready, Spends, Becomes, LaneInRange, NextInRange, WentOn, Tables, TapOn, startOf, LaidInRange, RoomForTaps};
+ghost use Rattle.routes_taps.specs.Asking.{toldIn, tapBy, emitBy};
+ghost use Rattle.routes_taps.specs.Taps.{LaneInRange, NextInRange, WentOn, Tables, TapOn, LaidInRange};
+ghost use Rattle.routes_emit.specs.Emitting.{AnswersRoom, Ready, Spends, Becomes, startOf, RoomForTaps};
 
 // What the walk over the taps has come to.
 pub struct Walk {
@@ -47,25 +48,20 @@ fn emit_next(
     laid: &[WorkRow],
     k: usize,
     stops: &[WorkRow],
-    claims: usize,
-    node_nexts: &[u32],
-    node_heads: &[u32],
-    claim_nexts: &[u32],
-    claim_heads: &[u32],
+    asked: &[WorkRow],
+    flags: &[u8],
     rerouters: &mut [RerouterRow],
     bus_wires: &mut [BusWireRow],
-    nexts: &mut [u32],
-    heads: &mut [u32],
     w: Walk,
 ) -> Walk
-    requires { ⌜ Walkable (nodeBucket (now nodes) (now facts)) (length (now facts)) (now «node_nexts») (now «node_heads») (length (now nodes)) ⌝ }
-    requires { ⌜ Walkable (stopBucket (now stops)) (length (now stops)) (now «claim_nexts») (now «claim_heads») claims ⌝ }
-    requires { ⌜ Ready 5 6 (now rerouters) (now «bus_wires») (now nexts) (now heads) (w .emission) ⌝ }
+    requires { ⌜ Ready 5 6 (now rerouters) (now «bus_wires») (w .emission) ⌝ }
     requires { ⌜ LaneInRange (now pages) (now nodes) (now wires) (now facts) (now groups) (getD (getD (now laid) k []) 0 0) (getD (getD (now laid) k []) 1 0) ⌝ }
     requires { ⌜ NextInRange (now laid) k (now stops) (w .reached) ⌝ }
-    ensures { λ r. ⌜ Spends 5 6 (now (rerouters .entry)) (now («bus_wires» .entry)) (now (nexts .entry)) (now (heads .entry)) (w .emission) (now (rerouters .exit)) (now («bus_wires» .exit)) (now (nexts .exit)) (now (heads .exit)) (r .emission) ⌝ }
+    requires { ⌜ AnswersRoom (now asked) (now flags) (length (now nodes)) k ⌝ }
+    ensures { λ r. ⌜ Spends 5 6 (now (rerouters .entry)) (now («bus_wires» .entry)) (w .emission) (now (rerouters .exit)) (now («bus_wires» .exit)) (r .emission) ⌝ }
     ensures { λ r. ⌜ WentOn (now (laid .entry)) k (now (stops .entry)) (w .reached) (r .reached) ⌝ }
-    ensures { λ r. ⌜ ((b : Board) (ts : List LaidTap) (ps : List PageLanes) → Tables b ts ps (now (pages .entry)) (now (nodes .entry)) (now (wires .entry)) (now (facts .entry)) (now (groups .entry)) → TapOn b ts (getD (now (laid .entry)) k []) → Becomes (λ s. emitTap b ts ps (view stopIn (now (stops .entry)) claims) s (view tapIn (now (laid .entry)) k) (tapIn (getD (now (laid .entry)) k [])) (stopLevelOf (r .reached .level))) (now (rerouters .entry)) (now («bus_wires» .entry)) (w .emission) (now (rerouters .exit)) (now («bus_wires» .exit)) (r .emission)) ⌝ }
+    ensures { λ r. ⌜ ((b : Board) (ts : List LaidTap) (ps : List PageLanes) → Tables b ts ps (now (pages .entry)) (now (nodes .entry)) (now (wires .entry)) (now (facts .entry)) (now (groups .entry)) → TapOn b ts (getD (now (laid .entry)) k [])
+        → Becomes (λ s. tapBy b ts ps (toldIn (now (asked .entry)) (now (flags .entry)) (length (now (nodes .entry))) k) s (view tapIn (now (laid .entry)) k) (tapIn (getD (now (laid .entry)) k [])) (stopLevelOf (r .reached .level))) (now (rerouters .entry)) (now («bus_wires» .entry)) (w .emission) (now (rerouters .exit)) (now («bus_wires» .exit)) (r .emission)) ⌝ }
 {
     let t = tap_at(laid, k);
     let l = lane_of(pages, nodes, wires, facts, groups, t.page, t.group);
@@ -73,26 +69,9 @@ fn emit_next(
     let old = w.reached;
     let reached = reach(stops, old, news.row);
     let level = reached.level;
+    let answers = answers_at(asked, flags, nodes.len(), k);
     let e = w.emission;
-    let emission = emit_tap(
-        nodes,
-        facts,
-        node_nexts,
-        node_heads,
-        stops,
-        claim_nexts,
-        claim_heads,
-        claims,
-        rerouters,
-        bus_wires,
-        nexts,
-        heads,
-        e,
-        l,
-        t,
-        news,
-        level,
-    );
+    let emission = emit_tap(rerouters, bus_wires, e, l, t, news, level, answers);
     Walk {
         emission: emission,
         reached: reached,
@@ -139,23 +118,17 @@ pub fn emit_lanes(
     n: usize,
     stops: &[WorkRow],
     claims: usize,
-    node_nexts: &[u32],
-    node_heads: &[u32],
-    claim_nexts: &[u32],
-    claim_heads: &[u32],
+    asked: &[WorkRow],
+    flags: &[u8],
     rerouters: &mut [RerouterRow],
     bus_wires: &mut [BusWireRow],
-    nexts: &mut [u32],
-    heads: &mut [u32],
 ) -> BusCount
-    requires { ⌜ Walkable (nodeBucket (now nodes) (now facts)) (length (now facts)) (now «node_nexts») (now «node_heads») (length (now nodes)) ⌝ }
-    requires { ⌜ Walkable (stopBucket (now stops)) (length (now stops)) (now «claim_nexts») (now «claim_heads») claims ⌝ }
     requires { ⌜ LaidInRange (now pages) (now nodes) (now wires) (now facts) (now groups) (now laid) n (now stops) claims ⌝ }
-    requires { ⌜ RoomForTaps n (now rerouters) (now «bus_wires») (now nexts) (now heads) ⌝ }
+    requires { ⌜ RoomForTaps n (now rerouters) (now «bus_wires») ⌝ }
+    requires { ⌜ (n ≤ length (now asked)) × (length (now nodes) + 2 * n ≤ length (now flags)) ⌝ }
     ensures { λ r. ⌜ ((b : Board) (ts : List LaidTap) (ps : List PageLanes) → Tables b ts ps (now (pages .entry)) (now (nodes .entry)) (now (wires .entry)) (now (facts .entry)) (now (groups .entry)) → ((k : ℕ) → k < n → TapOn b ts (getD (now (laid .entry)) k []))
-        → BusHeld (emit b ts ps (view stopIn (now (stops .entry)) claims) (view tapIn (now (laid .entry)) n) (view stopIn (now (stops .entry)) claims) .bus) (now (rerouters .entry)) (now («bus_wires» .entry)) (now (rerouters .exit)) (now («bus_wires» .exit)) r) ⌝ }
+        → BusHeld (emitBy b ts ps (toldIn (now (asked .entry)) (now (flags .entry)) (length (now (nodes .entry)))) (view tapIn (now (laid .entry)) n) (view stopIn (now (stops .entry)) claims) .bus) (now (rerouters .entry)) (now («bus_wires» .entry)) (now (rerouters .exit)) (now («bus_wires» .exit)) r) ⌝ }
 {
-    empty_heads(heads);
     let mut w = start();
     let mut k: usize = 0;
     while k < n {
@@ -168,15 +141,10 @@ pub fn emit_lanes(
             laid,
             k,
             stops,
-            claims,
-            node_nexts,
-            node_heads,
-            claim_nexts,
-            claim_heads,
+            asked,
+            flags,
             rerouters,
             bus_wires,
-            nexts,
-            heads,
             w,
         );
         k += 1;

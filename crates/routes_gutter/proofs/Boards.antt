@@ -5,7 +5,8 @@ use mathlib.Core.Logic.{⊎-elim}
 use mathlib.Core.List.{List, [], List·Memᴰ as Mem, List·Memᴰ·cases-cons as cases, List·Memᴰ·not-nil as nowhere}
 use lib.ListN.{length}
 use Rattle.base.specs.Lists.{Found, none, at, fold, upto}
-use Rattle.board.specs.Board.{Board, xOf, yOf, targetNode, targetPort}
+use Rattle.board.specs.Board.{Board, pageOf, xOf, yOf, targetNode, targetPort}
+use Rattle.board.specs.Rows.{rowOf}
 use Rattle.board.specs.Groups.{Tap, tapFor, addWire, tapsOf}
 use Rattle.board.specs.Tables.{tapTarget}
 use Rattle.board_groups.proofs.TapLaws.{add-none, add-some}
@@ -14,6 +15,8 @@ use Rattle.board_groups.proofs.TapLaws.{add-none, add-some}
 pub record Stands (b : Board) (t : Tap) : Type 0 where
   pub target : ℕ
   pub carries : tapTarget b (t .wire) ≡ at target
+  pub page : t .page ≡ pageOf b target
+  pub row : t .row ≡ rowOf b target
   pub x : t .x ≡ xOf b target
   pub y : t .y ≡ yOf b target
   pub node : t .node ≡ targetNode b (t .wire)
@@ -22,7 +25,7 @@ pub record Stands (b : Board) (t : Tap) : Type 0 where
 module _ (b : Board) where
   new-stands : (n : ℕ) (ts : List Tap) (a : ℕ) → tapTarget b n ≡ at a → Stands b (tapFor b ts n a)
   unfolding tapFor
-  new-stands n ts a e = record { target = a; carries = e; x = refl; y = refl; node = refl; port = refl }
+  new-stands n ts a e = record { target = a; carries = e; page = refl; row = refl; x = refl; y = refl; node = refl; port = refl }
 
   stands-upto : (n : ℕ) (t : Tap) → Mem t (fold (addWire b) [] (upto n)) → Stands b t
   stands-upto zero t m = absurd (nowhere m)

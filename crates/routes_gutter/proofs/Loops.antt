@@ -34,7 +34,3 @@ zero-heads n h = (rw (length-replicate {A = ℕ} n 0) h, λ k l. getD-replicate 
 
 pub zero-marks : (n : ℕ) → 16384 ≤ n → NoMarks (replicate n 0)
 zero-marks n h = record { width = rw (length-replicate {A = ℕ} n 0) h; empty = λ k l. getD-replicate n k 0 0 (omega arith) }
-
-pub zero-room : (n k j : ℕ) (rerouters wires : List (List ℕ)) → n ≤ 8192 → 40960 ≤ k → 8192 ≤ j → 5 * n ≤ length rerouters → 6 * n ≤ length wires → RoomForTaps n rerouters wires (replicate k 0) (replicate j 0)
-zero-room n k j rerouters wires few h i rerouterRows wireRows =
-    record { rerouterRows = rerouterRows; links = rw (length-replicate {A = ℕ} k 0) (omega arith); wireRows = wireRows; buckets = rw (length-replicate {A = ℕ} j 0) i; numbers = omega arith }

@@ -73,7 +73,7 @@ module _ (most : Counts) (text : List ℕ) (lent : Lent) (low : WithinLibrary mo
                 pageRoom = omega arith;
                 wireRoom = (omega arith, omega arith, omega arith);
                 laidRoom = omega arith;
-                stopRoom = (omega arith, omega arith);
+                stopRoom = (omega arith, omega arith, omega arith);
                 busRoom = (omega arith, omega arith);
               };
         },

@@ -27,12 +27,12 @@ use Rattle.routes.specs.Stops.{isLaid, laidTaps}
 use Rattle.routes.specs.Levels.{Level, dropped, shared, own, keptAt, stopsOf}
 use Rattle.routes.specs.Tables.{GroupFacts, stopIn}
 use Rattle.routes_levels.specs.Laying.{TapsFit, Tabled, LaidFits, LaidFacts}
-use Rattle.routes_emit.specs.Emitting.{LowLevel, LaneInRange, LaidInRange, Tables, TapOn}
+use Rattle.routes_taps.specs.Taps.{LowLevel, LaneInRange, LaidInRange, Tables, TapOn}
 use Rattle.routes.specs.Plan.{busOf, laidGroups, groupCount}
 use Rattle.routes.specs.Rerouters.{TAP_RESERVE, emit}
 use Rattle.routes_levels.proofs.TapTables.{laid-facts}
 use Rattle.routes.proofs.Laid.{of-laid}
-use Rattle.routes_emit.proofs.Next.{stops-count}
+use Rattle.routes_taps.proofs.Reaching.{stops-count}
 use Rattle.routes_gutter.specs.Lay.{LanesReady}
 use Rattle.board.proofs.Reach.{REACH_MOST, top-most}
 use Rattle.routes_gutter.proofs.Boards.{Stands, tap-stands}
@@ -61,7 +61,7 @@ page-planned ps p g lane e = go (decLt p (length ps))
 -- A level is low enough where kept levels are.
 level-range : (l : Level) → ((x : ℕ) → keptAt l ≡ at x → x ≤ REACH_MOST) → LowLevel l
 level-range dropped h = tt
-level-range (shared x) h = tt
+level-range (shared x) h = let l = h x refl in omega arith
 level-range (own x) h = let l = h x refl in omega arith
 
 module _ {b : Board} {ps : List PageLanes} {pages nodes wires facts groups taps : List (List ℕ)} {m : ℕ} {laid stops marks rerouters busWires : List (List ℕ)}
@@ -225,7 +225,7 @@ module _ {b : Board} {ps : List PageLanes} {pages nodes wires facts groups taps 
     abbrev tapAt : ℕ → Tap
     tapAt k = tapIn (getD rows k [])
 
-    laid-at : (k : ℕ) → k < n → Mem (tapAt k) (tapsOf b) × (isLaid b (tapsOf b) ps (tapAt k) ≡ true)
+    pub laid-at : (k : ℕ) → k < n → Mem (tapAt k) (tapsOf b) × (isLaid b (tapsOf b) ps (tapAt k) ≡ true)
     laid-at k h = of-laid b (tapsOf b) ps (tapAt k) (subst (Mem (tapAt k)) are (view-mem tapIn rows n k h))
 
     pub laid-fits : LaidFits facts groups rows n

@@ -18,7 +18,7 @@ use Rattle.routes_gutter.specs.Lay.{LanesReady}
 
 -- The marks and the buffers are as long as is said of them.
 pub record BusLent (lent : Lent) (marks rerouters busWires ports : List (List ℕ)) : Type 0 where
-  pub marks-lent : 2 * lent .work ≤ length marks
+  pub marks-lent : 5 * lent .work ≤ length marks
   pub rerouters-lent : lent .rerouters ≤ length rerouters
   pub wires-lent : lent .«bus_wires» ≤ length busWires
   pub ports-lent : lent .ports ≤ length ports

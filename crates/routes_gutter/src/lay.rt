@@ -4,11 +4,12 @@ use base::rows::Record;
 use base::rows::RerouterRow;
 use base::rows::WorkRow;
 use routes::bus::BusCount;
-use routes_cells::cells::book_claims;
-use routes_cells::cells::book_nodes;
+use routes_beside::beside::answer_rows;
+use routes_columns::columns::ask_taps;
 use routes_emit::walk::emit_lanes;
 use routes_levels::levels::lane_stops;
 use routes_levels::stops::lay_taps;
+use routes_rows::book::CELLS_MOST;
 ghost use mathlib.Core.Path.{_≡_};
 ghost use mathlib.Core.List.{List, []};
 ghost use Prim.Native.Nat.{ℕ, _*_, _<_, _≤_};
@@ -25,8 +26,7 @@ ghost use Rattle.routes.specs.Plan.{busOf, groupCount, laidGroups};
 ghost use Rattle.routes.specs.Tables.{stopIn};
 ghost use Rattle.routes_levels.specs.Laying.{LaidFits, LaidFacts};
 ghost use Rattle.routes.specs.Holding.{BusHeld};
-ghost use Rattle.routes_emit.specs.Emitting.{LaidInRange, Tables, TapOn};
-ghost use Rattle.routes_gutter.specs.Lay.{LanesReady};
+ghost use Rattle.routes_gutter.specs.Lay.{LanesReady, LaidReady};
 
 // How many rows of the buffers are written, and how many groups are laid.
 pub struct LanesLaid {
@@ -55,7 +55,8 @@ fn lay_levels(
     counts.stops
 }
 
-// The rerouters and bus wires of the laid taps, with the board's bricks and the stops' claims chained.
+// The rerouters and bus wires of the laid taps: the columns are asked for first, then the rows, and what stands by the answers is written. The taps give way to
+// the questions, the marks to claims and then to a row's items.
 fn emit_laid(
     pages: &[Record],
     nodes: &[Record],
@@ -65,23 +66,31 @@ fn emit_laid(
     laid: &[WorkRow],
     n: usize,
     stops: &[WorkRow],
-    claims: usize,
+    s: usize,
+    asked: &mut [WorkRow],
+    marks: &mut [WorkRow],
     rerouters: &mut [RerouterRow],
     bus_wires: &mut [BusWireRow],
 ) -> BusCount
-    requires { ⌜ LaidInRange (now pages) (now nodes) (now wires) (now facts) (now groups) (now laid) n (now stops) claims ⌝ }
-    requires { ⌜ (length (now nodes) ≤ 4096) × (length (now nodes) ≤ length (now facts)) × (claims ≤ n) × (n ≤ 8192) × (5 * n ≤ length (now rerouters)) × (6 * n ≤ length (now «bus_wires»)) ⌝ }
-    ensures { λ r. ⌜ ((b : Board) (ts : List Tap) (ps : List PageLanes) → Tables b ts ps (now (pages .entry)) (now (nodes .entry)) (now (wires .entry)) (now (facts .entry)) (now (groups .entry)) → ((k : ℕ) → k < n → TapOn b ts (getD (now (laid .entry)) k []))
-        → BusHeld (emit b ts ps (view stopIn (now (stops .entry)) claims) (view tapIn (now (laid .entry)) n) (view stopIn (now (stops .entry)) claims) .bus) (now (rerouters .entry)) (now («bus_wires» .entry)) (now (rerouters .exit)) (now («bus_wires» .exit)) r) ⌝ }
+    requires { ⌜ ((b : Board) × (ps : List PageLanes) × (m : ℕ) × LaidReady b ps (now pages) (now nodes) (now wires) (now facts) (now groups) (now asked) m (now laid) n (now stops) s (now marks) (now rerouters) (now «bus_wires»)) ⌝ }
+    ensures { λ r. ⌜ ((b : Board) (ps : List PageLanes) (m : ℕ) → LaidReady b ps (now (pages .entry)) (now (nodes .entry)) (now (wires .entry)) (now (facts .entry)) (now (groups .entry)) (now (asked .entry)) m (now (laid .entry)) n (now (stops .entry)) s (now (marks .entry)) (now (rerouters .entry)) (now («bus_wires» .entry))
+        → BusHeld (busOf b ps) (now (rerouters .entry)) (now («bus_wires» .entry)) (now (rerouters .exit)) (now («bus_wires» .exit)) r) ⌝ }
 {
-    let mut node_nexts = [0u32; 4096];
-    let mut node_heads = [0u32; 8192];
-    book_nodes(nodes, facts, &mut node_nexts, &mut node_heads);
-    let mut claim_nexts = [0u32; 8192];
-    let mut claim_heads = [0u32; 8192];
-    book_claims(stops, claims, &mut claim_nexts, &mut claim_heads);
-    let mut nexts = [0u32; 40960];
-    let mut heads = [0u32; 8192];
+    ask_taps(
+        pages,
+        nodes,
+        wires,
+        facts,
+        groups,
+        laid,
+        n,
+        stops,
+        s,
+        marks,
+        asked,
+    );
+    let mut flags = [0u8; CELLS_MOST];
+    answer_rows(nodes, facts, laid, n, asked, marks, &mut flags);
     emit_lanes(
         pages,
         nodes,
@@ -91,15 +100,11 @@ fn emit_laid(
         laid,
         n,
         stops,
-        claims,
-        &node_nexts,
-        &node_heads,
-        &claim_nexts,
-        &claim_heads,
+        s,
+        asked,
+        &flags,
         rerouters,
         bus_wires,
-        &mut nexts,
-        &mut heads,
     )
 }
 
@@ -138,7 +143,7 @@ pub fn lay_lanes(
     wires: &[Record],
     facts: &[WorkRow],
     groups: &[WorkRow],
-    taps: &[WorkRow],
+    taps: &mut [WorkRow],
     m: usize,
     laid: &mut [WorkRow],
     stops: &mut [WorkRow],
@@ -151,7 +156,7 @@ pub fn lay_lanes(
         → BusHeld (busOf b ps) (now (rerouters .entry)) (now («bus_wires» .entry)) (now (rerouters .exit)) (now («bus_wires» .exit)) (r .count) × (r .groups ≡ laidGroups b ps)) ⌝ }
 {
     let n = lay_taps(nodes, facts, groups, taps, m, laid, marks);
-    let claims = lay_levels(facts, groups, laid, n, stops, marks);
+    let s = lay_levels(facts, groups, laid, n, stops, marks);
     let count = emit_laid(
         pages,
         nodes,
@@ -161,7 +166,9 @@ pub fn lay_lanes(
         laid,
         n,
         stops,
-        claims,
+        s,
+        taps,
+        marks,
         rerouters,
         bus_wires,
     );

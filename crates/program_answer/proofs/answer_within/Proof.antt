@@ -67,7 +67,7 @@ route-within-requires c κs =
     let a = s .args in
     let n = c .before .before .before .before .before .before .before .before .before .before .before .shortest-of in
     let w = work-room (n .result) (a .records .now) (a .facts .now) (a .taps .now) (a .groups .now) (a .demands .now) (a .keys .now) (a .marks .now) (n .ensures) in
-    let tw = w .twice in
+    let fm = w .fivefold in
     (w .lent, (s .pre, record { marks-lent = omega arith; rerouters-lent = omega arith; wires-lent = omega arith; ports-lent = omega arith }, omega arith))
 
 enum-known-number : tie.Need-enum-known-number

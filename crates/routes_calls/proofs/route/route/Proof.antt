@@ -37,7 +37,7 @@ route-within-requires c κs =
     let s = c .before .before .before .before .before .before .before .before .before .before .before .before .before .before in
     let n = c .before .before .before .before .before .before .before .before .before .before .before .before .shortest-of in
     let w = work s (n .result) (n .ensures) in
-    let tw = w .twice in (
+    let fm = w .fivefold in (
       w .lent,
       (subst (λ (m : Counts). WithinLibrary m) (sym (c .before .before .before .before .before .before .before .before .before .before .before .library-most .ensures)) within-library, record { marks-lent = omega arith; rerouters-lent = omega arith; wires-lent = omega arith; ports-lent = omega arith }, omega arith),
     )

@@ -12,9 +12,14 @@ same-length c = search needs
 
 returns : tie.Need-returns
 returns c =
-    let p = c .before in
-    let a = p .before .before .before .before .before .args in
-    delivered (a .bus-wires .now) _ (a .e) (a .t) (p .push-delivery .result) (p .push-delivery .kept .0) (p .push-delivery .ensures)
+    let p = c .before .push-delivery in
+    let a = c .before .before .before .before .before .before .args in
+    delivered (a .bus-wires .now) _ (a .e) (a .t) (p .result) (p .kept .0) (p .ensures)
 
 pub deliver-spec : {M : Type 1} → statement M
-deliver-spec = tie.close (tie.spec push-delivery-requires same-length returns)
+deliver-spec =
+    tie.close
+    (tie.spec
+    push-delivery-requires
+    same-length
+    returns)

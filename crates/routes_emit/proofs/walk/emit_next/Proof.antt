@@ -1,19 +1,18 @@
 -- `emit_next` meets its contract. Assumes nothing.
-use Rattle.routes_emit.proofs.Next.{knows-next, target-next, emit-as, went-on}
-use Rattle.routes_emit.proofs.Steps.{becomes-as}
-use Rattle.routes_emit.proofs.Lanes.{lane-ranges}
-use Rattle.routes_emit.specs.declared.tables.Tap.{Tap}
-use Rattle.routes.specs.Holding.{stopLevelOf}
-use Rattle.routes_emit.specs.Emitting.{LaneInRange, LaneRanges, TapRanges}
-use Rattle.routes.specs.Rerouters.{emitTap}
-use Rattle.routes.specs.Tables.{stopIn}
+use mathlib.Core.Path.{sym, subst, _∙_}
+use mathlib.Core.List.{[]}
+use lib.ListN.{length, getD}
 use Rattle.base.specs.Views.{view}
 use Rattle.board.specs.Tables.{tapIn}
-use lib.ListN.{getD}
-use native.Mathlib.Omega.{arith}
-use mathlib.Core.List.{[]}
-use mathlib.Core.Path.{sym, subst, _∙_}
+use Rattle.routes.specs.Holding.{stopLevelOf}
+use Rattle.routes_taps.specs.Asking.{toldIn, tapBy}
+use Rattle.routes_taps.specs.Taps.{LaneInRange, TapRanges}
+use Rattle.routes_taps.specs.declared.taps.Tap.{Tap}
+use Rattle.routes_taps.proofs.Reaching.{lane-next, target-next, went-on}
+use Rattle.routes_emit.proofs.Steps.{becomes-as}
+use Rattle.routes_emit.proofs.Next.{ranges-next, emit-as}
 use borrow.Author.Needs.{needs}
+use native.Mathlib.Omega.{arith}
 use Rattle.routes_emit.proofs.walk.emit_next.Statement.{statement}
 use Rattle.routes_emit.proofs.walk.emit_next.Tie as tie
 
@@ -21,35 +20,32 @@ tap-at-requires : tie.Need-tap-at-requires
 tap-at-requires c κs = search needs
 
 lane-of-requires : tie.Need-lane-of-requires
-lane-of-requires c κs = let s = c .before .before .before .before .before .before .before in let a = s .args in subst (λ (t : Tap). LaneInRange (a .pages .now) (a .nodes .now) (a .wires .now) (a .facts .now) (a .groups .now) (t .page) (t .group)) (sym (c .tap-at .ensures)) (s .pre .1 .1 .1 .0)
+lane-of-requires c κs = let s = c .before .before in let a = s .args in subst (λ (t : Tap). LaneInRange (a .pages .now) (a .nodes .now) (a .wires .now) (a .facts .now) (a .groups .now) (t .page) (t .group)) (sym (c .tap-at .ensures)) (s .pre .1 .0)
 
 news-at-requires : tie.Need-news-at-requires
-news-at-requires c κs = c .before .before .before .before .before .before .before .before .pre .1 .1 .1 .1 .onLaid
+news-at-requires c κs = c .before .before .before .pre .1 .1 .0 .onLaid
 
 reach-requires : tie.Need-reach-requires
-reach-requires c κs = λ y. c .before .before .before .before .before .before .before .before .before .before .pre .1 .1 .1 .1 .nextStop (sym (c .before .news-at .ensures .row) ∙ y) .0
+reach-requires c κs = λ y. c .before .before .before .before .before .pre .1 .1 .0 .nextStop (sym (c .before .news-at .ensures .row) ∙ y) .0
+
+answers-at-requires : tie.Need-answers-at-requires
+answers-at-requires c κs = c .before .before .before .before .before .before .pre .1 .1 .1
 
 emit-tap-requires : tie.Need-emit-tap-requires
 emit-tap-requires c κs =
-    let s = c .before .before .before .before .before .before .before .before .before .before .before .before .before .before .before .before in
+    let s = c .before .before .before .before .before .before .before .before .before .before in
     let a = s .args in
-    let n = s .pre .1 .1 .1 .1 in
-    let tap = c .before .before .before .before .before .before .before .before .before .tap-at in
-    let lane = c .before .before .before .before .before .before .before .before .lane-of in
-    let news = c .before .before .before .before .before .before .before .news-at in
-    let range : LaneInRange (a .pages .now) (a .nodes .now) (a .wires .now) (a .facts .now) (a .groups .now) (tap .result .page) (tap .result .group) = subst (λ (t : Tap). LaneInRange (a .pages .now) (a .nodes .now) (a .wires .now) (a .facts .now) (a .groups .now) (t .page) (t .group)) (sym (tap .ensures)) (s .pre .1 .1 .1 .0) in (
+    let n = s .pre .1 .1 .0 in
+    let tap = c .before .before .before .before .before .before .before .before .tap-at in
+    let lane = c .before .before .before .before .before .before .before .lane-of in
+    let news = c .before .before .before .before .before .before .news-at in
+    let next = c .before .before .before .before .reach in (
       s .pre .0,
       (
-        s .pre .1 .0,
+        ranges-next (a .pages .now) (a .nodes .now) (a .wires .now) (a .facts .now) (a .groups .now) (getD (a .laid .now) (a .k) []) (tap .result) (lane .result) (s .pre .1 .0) (tap .ensures) (lane .ensures),
         (
-          s .pre .1 .1 .0,
-          (
-            subst LaneRanges (sym (lane .ensures)) (lane-ranges (a .pages .now) (a .nodes .now) (a .wires .now) (a .facts .now) (a .groups .now) (tap .result .page) (tap .result .group) range),
-            (
-              subst TapRanges (sym (tap .ensures)) (record { y = n .tapRoom; row = λ z. let h = n .tapRow in omega arith }),
-              went-on (a .laid .now) (a .k) (a .stops .now) (a .w .reached) (c .before .before .before .before .before .reach .result) (news .result) (news .ensures) n (c .before .before .before .before .before .reach .ensures) .atStop .range,
-            ),
-          ),
+          subst TapRanges (sym (tap .ensures)) (record { y = n .tapRoom; row = λ z. let h = n .tapRow in omega arith }),
+          went-on (a .laid .now) (a .k) (a .stops .now) (a .w .reached) (next .result) (news .result) (news .ensures) n (next .ensures) .atStop .range,
         ),
       ),
     )
@@ -60,33 +56,25 @@ same-length c = search needs
 same-length-2 : tie.Need-same-length-2
 same-length-2 c = search needs
 
-same-length-3 : tie.Need-same-length-3
-same-length-3 c = search needs
-
-same-length-4 : tie.Need-same-length-4
-same-length-4 c = search needs
-
 returns : tie.Need-returns
 returns c =
-    let h = c .before .before .before .before .before .before in
-    let s = h .before .before .before .before .before .before .before .before .before .before .before .before .before .before .before .before .before in
+    let h = c .before .before .emit-tap in
+    let told = c .before .before .before .before .before .before .answers-at in
+    let next = c .before .before .before .before .before .before .before .reach in
+    let news = c .before .before .before .before .before .before .before .before .before .news-at in
+    let lane = c .before .before .before .before .before .before .before .before .before .before .lane-of in
+    let tap = c .before .before .before .before .before .before .before .before .before .before .before .tap-at in
+    let s = c .before .before .before .before .before .before .before .before .before .before .before .before .before in
     let a = s .args in
-    let n = s .pre .1 .1 .1 .1 in
-    let tap = h .before .before .before .before .before .before .before .before .before .before .tap-at in
-    let lane = h .before .before .before .before .before .before .before .before .before .lane-of in
-    let news = h .before .before .before .before .before .before .before .before .news-at in
-    let next = h .before .before .before .before .before .before .reach in
     let row = getD (a .laid .now) (a .k) [] in
-    let stops = view stopIn (a .stops .now) (a .claims) in (
-      h .emit-tap .ensures .0,
+    let before = view tapIn (a .laid .now) (a .k) in (
+      h .ensures .0,
       (
-        went-on (a .laid .now) (a .k) (a .stops .now) (a .w .reached) (next .result) (news .result) (news .ensures) n (next .ensures),
+        went-on (a .laid .now) (a .k) (a .stops .now) (a .w .reached) (next .result) (news .result) (news .ensures) (s .pre .1 .1 .0) (next .ensures),
         λ b ts ps k on.
-            becomes-as _ (λ s. emitTap b ts ps stops s (view tapIn (a .laid .now) (a .k)) (tapIn row) (stopLevelOf (next .result .level))) _ _ _ _ _ _
-            (h .emit-tap .ensures .1 b ts ps
-            (knows-next b ts ps (a .pages .now) (a .nodes .now) (a .wires .now) (a .facts .now) (a .groups .now) row (tap .result) (lane .result) k on (s .pre .1 .1 .1 .0) (tap .ensures) (lane .ensures))
-            (target-next b ts row (tap .result) on (tap .ensures)))
-            (λ x rows count. emit-as b ts ps stops (view tapIn (a .laid .now) (a .k)) row (tap .result) (news .result) (stopLevelOf (next .result .level)) x (tap .ensures) (news .ensures)),
+            becomes-as _ (λ x. tapBy b ts ps (toldIn (a .asked .now) (a .flags .now) (length (a .nodes .now)) (a .k)) x before (tapIn row) (stopLevelOf (next .result .level))) _ _ _ _ _ _
+            (h .ensures .1 b ts ps (lane-next b ts ps (a .pages .now) (a .nodes .now) (a .wires .now) (a .facts .now) (a .groups .now) row (tap .result) (lane .result) k on (s .pre .1 .0) (tap .ensures) (lane .ensures)) (target-next b ts row (tap .result) on (tap .ensures)))
+            (λ x. emit-as b ts ps (told .result) _ before row (tap .result) (news .result) (stopLevelOf (next .result .level)) x (told .ensures) (tap .ensures) (news .ensures)),
       ),
     )
 
@@ -98,9 +86,8 @@ emit-next-spec =
     lane-of-requires
     news-at-requires
     reach-requires
+    answers-at-requires
     emit-tap-requires
     same-length
     same-length-2
-    same-length-3
-    same-length-4
     returns)

@@ -71,7 +71,7 @@ ready c =
     let n = d .before .before .before .before .before .before .before .before .before .shortest-of .result in
     let w = work s n (d .before .before .before .before .before .before .before .before .before .shortest-of .ensures) in
     let km = p .kept .1 .1 .1 .1 .1 .1 .1 .1 .0 in
-    let tw = w .twice in
+    let fm = w .fivefold in
     rows-ready _ (a .text .now) (lentWith (length (a .rerouters .now)) (length (a .bus-wires .now)) (length (a .ports .now)) n) (subst (λ (m : Counts). WithinLibrary m) (sym (d .before .before .before .before .before .before .before .before .library-most .ensures)) within-library)
     (p .last .1 .1 .0) (p .last .1 .1 .1 .0) (p .last .1 .1 .1 .1 .0) (p .last .1 .1 .1 .1 .1 .0) (p .last .1 .1 .1 .1 .1 .1 .0) (p .last .1 .1 .1 .1 .1 .1 .1 .0) (p .last .1 .1 .1 .1 .1 .1 .1 .1 .0) (a .rerouters .now) (a .bus-wires .now) (a .ports .now) _
     (work-again n _ (w .lent) (p .kept .1 .1 .1 .0) (p .kept .1 .1 .1 .1 .0) (p .kept .1 .1 .1 .1 .1 .0) (p .kept .1 .1 .1 .1 .1 .1 .0) (p .kept .1 .1 .1 .1 .1 .1 .1 .0) (p .kept .1 .1 .1 .1 .1 .1 .1 .1 .0))
@@ -159,10 +159,10 @@ same-length-17 : tie.Need-same-length-17
 same-length-17 c = search needs
 
 same-length-18 : tie.Need-same-length-18
-same-length-18 c = c .before .before .before .before .before .before .before .before .before .before .before .before .before .before .before .before .before .before .before .before .before .before .before .before .before .before .before .before .plan-text .kept .1 .1 .0
+same-length-18 c = c .before .before .before .before .before .before .before .before .before .before .before .before .before .before .before .before .before .before .before .before .before .before .before .before .before .before .before .before .before .plan-text .kept .1 .1 .0
 
 same-length-19 : tie.Need-same-length-19
-same-length-19 c = c .before .before .before .before .before .before .before .before .before .before .before .before .before .before .before .before .before .before .before .before .before .before .before .before .before .before .before .before .plan-text .kept .1 .1 .1 .0
+same-length-19 c = c .before .before .before .before .before .before .before .before .before .before .before .before .before .before .before .before .before .before .before .before .before .before .before .before .before .before .before .before .before .plan-text .kept .1 .1 .1 .0
 
 same-length-20 : tie.Need-same-length-20
 same-length-20 c = search needs
@@ -181,13 +181,13 @@ same-length-24 c = search needs
 
 returns-3 : tie.Need-returns-3
 returns-3 c =
-    let e = c .before .before .before .before .before .before .before .before in
-    let d = c .before .before .before .before .before .before .before .before .before .before .before .before .before .before .before .before .before .before .before .before .before .before .before .before .before .before .before .before in
-    let s = c .before .before .before .before .before .before .before .before .before .before .before .before .before .before .before .before .before .before .before .before .before .before .before .before .before .before .before .before .before .before .before .before .before .before .before .before .before .before .before in
+    let e = c .before .before .before .before .before .before .before .before .before in
+    let d = c .before .before .before .before .before .before .before .before .before .before .before .before .before .before .before .before .before .before .before .before .before .before .before .before .before .before .before .before .before in
+    let s = c .before .before .before .before .before .before .before .before .before .before .before .before .before .before .before .before .before .before .before .before .before .before .before .before .before .before .before .before .before .before .before .before .before .before .before .before .before .before .before .before in
     let a = s .args in
-    let l = c .before .before .before .before .before .before .before .lay-and-settle in
+    let l = c .before .before .before .before .before .before .before .before .lay-and-settle in
     let q = l .ensures (told e .onBoard) (told e .lanes) (ready e .0) (ready e .1) in
-    lay-done (a .text .now) _ (c .before .before .before .before .before .before .before .before .before .before .before .before .before .before .before .before .before .before .before .before .before .before .before .before .before .before .before .before .before .before .before .before .before .before .before .before .library-most .ensures) (length (a .rerouters .now)) (length (a .bus-wires .now)) (length (a .ports .now)) (c .before .before .before .before .before .before .before .before .before .before .before .before .before .before .before .before .before .before .before .before .before .before .before .before .before .before .before .before .before .before .before .before .before .before .before .before .before .shortest-of .result) _ (c .before .before .before .before .before .before .before .before .before .before .before .before .before .before .before .before .before .before .before .before .before .before .before .before .before .before .before .before .before .before .before .before .before .before .before .before .before .shortest-of .ensures) (a .rerouters .now) (a .bus-wires .now) (a .ports .now)
+    lay-done (a .text .now) _ (c .before .before .before .before .before .before .before .before .before .before .before .before .before .before .before .before .before .before .before .before .before .before .before .before .before .before .before .before .before .before .before .before .before .before .before .before .before .library-most .ensures) (length (a .rerouters .now)) (length (a .bus-wires .now)) (length (a .ports .now)) (c .before .before .before .before .before .before .before .before .before .before .before .before .before .before .before .before .before .before .before .before .before .before .before .before .before .before .before .before .before .before .before .before .before .before .before .before .before .before .shortest-of .result) _ (c .before .before .before .before .before .before .before .before .before .before .before .before .before .before .before .before .before .before .before .before .before .before .before .before .before .before .before .before .before .before .before .before .before .before .before .before .before .before .shortest-of .ensures) (a .rerouters .now) (a .bus-wires .now) (a .ports .now)
     (told e .onBoard) (told e .lanes) (told e .is) (l .last .1 .1 .1 .1 .1 .1 .1 .1 .1 .0) (l .last .1 .1 .1 .1 .1 .1 .1 .1 .1 .1 .0) (l .last .1 .1 .1 .1 .1 .1 .1 .1 .1 .1 .1 .0) (l .result .bus) (l .result .groups) (q .0) (q .1)
 
 pub lay-bus-spec : {M : Type 1} → statement M

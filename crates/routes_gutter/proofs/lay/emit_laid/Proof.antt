@@ -1,60 +1,72 @@
--- The lanes emitted, with local chains.
-use lib.Dec.{lit≤}
+-- The columns asked for, the rows answered, the lanes emitted by the answers.
+use Prim.Native.Nat.{ℕ, _+_, _*_}
 use native.Mathlib.Omega.{arith}
-use Rattle.routes_gutter.proofs.Loops.{zero-heads, zero-room}
+use mathlib.Core.Path.{_≡_, subst}
+use mathlib.Core.List.{List}
+use lib.Dec.{lit≤}
+use lib.ListN.{length, replicate, length-replicate, getD-replicate}
+use Rattle.board.specs.Board.{Board}
+use Rattle.board.specs.Groups.{tapsOf}
+use Rattle.board.specs.Demands.{PageLanes}
+use Rattle.base.specs.Views.{view}
+use Rattle.board.specs.Tables.{tapIn}
+use Rattle.routes.specs.Bus.{Bus}
+use Rattle.routes.specs.Holding.{BusHeld}
+use Rattle.routes.specs.Tables.{stopIn}
+use Rattle.routes_taps.specs.Asking.{QuestionsIn}
+use Rattle.routes_gutter.specs.Lay.{LaidReady}
+use Rattle.routes_gutter.proofs.Supply.{few-nodes}
+use Rattle.routes_gutter.proofs.Emitted.{range, board-tables, taps-on, few-taps, room-to-ask, room-to-emit, can-answer, bus-emitted}
 use borrow.Author.Needs.{needs}
 use Rattle.routes_gutter.proofs.lay.emit_laid.Statement.{statement}
 use Rattle.routes_gutter.proofs.lay.emit_laid.Tie as tie
 
-slice-aggregate-book-nodes : tie.Need-slice-aggregate-book-nodes
-slice-aggregate-book-nodes c = search needs
+abbrev Given : tie.Start → Board → List PageLanes → ℕ → Type 0
+Given s b ps m =
+    let a = s .args in
+    LaidReady b ps (a .pages .now) (a .nodes .now) (a .wires .now) (a .facts .now) (a .groups .now) (a .asked .now) m (a .laid .now) (a .n) (a .stops .now) (a .s) (a .marks .now) (a .rerouters .now) (a .bus-wires .now)
 
-slice-aggregate-book-nodes-2 : tie.Need-slice-aggregate-book-nodes-2
-slice-aggregate-book-nodes-2 c = search needs
+abbrev start : tie.After-ask-taps → tie.Start
+start c = c .before .before .before
 
-book-nodes-requires : tie.Need-book-nodes-requires
-book-nodes-requires c κs = let p = c .before .before .pre .1 in let few = p .0 in (zero-heads 8192 (lit≤ tt), (p .1, omega arith, omega arith))
+abbrev questions : tie.After-ask-taps → List (List ℕ)
+questions c = c .ask-taps .last .1 .1 .1 .1 .1 .1 .1 .1 .1 .1 .0
 
-slice-aggregate-book-claims : tie.Need-slice-aggregate-book-claims
-slice-aggregate-book-claims c = search needs
+asked-for : (c : tie.After-ask-taps) (b : Board) (ps : List PageLanes) (m : ℕ) → Given (start c) b ps m
+    → QuestionsIn b (tapsOf b) ps (view stopIn (start c .args .stops .now) (start c .args .s)) (questions c) (view tapIn (start c .args .laid .now) (start c .args .n)) (view stopIn (start c .args .stops .now) (start c .args .s))
+asked-for c b ps m l = c .ask-taps .ensures b (tapsOf b) ps (board-tables l) (taps-on l)
 
-slice-aggregate-book-claims-2 : tie.Need-slice-aggregate-book-claims-2
-slice-aggregate-book-claims-2 c = search needs
+ask-taps-requires : tie.Need-ask-taps-requires
+ask-taps-requires c κs =
+    let l = c .before .before .pre .3 in
+    (range l, (l .fewer, few-taps l, room-to-ask l .0, room-to-ask l .1))
 
-book-claims-requires : tie.Need-book-claims-requires
-book-claims-requires c κs =
-    let s = c .before .before .before .before .before .before .before in
-    let p = s .pre .1 in
-    let on = s .pre .0 .onStops in
-    let claims = p .2 in
-    let few = p .3 in
-    (zero-heads 8192 (lit≤ tt), (on, omega arith, omega arith))
+slice-aggregate-answer-rows : tie.Need-slice-aggregate-answer-rows
+slice-aggregate-answer-rows c = search needs
+
+answer-rows-requires : tie.Need-answer-rows-requires
+answer-rows-requires c κs =
+    let q = c .before .before .before .before .before in
+    let p = start q .pre in
+    let kept = q .ask-taps .kept .1 .1 .1 .1 .1 .1 .1 .1 .1 in
+    can-answer (p .3) (questions q) (asked-for q (p .0) (p .1) (p .2) (p .3)) (q .ask-taps .last .1 .1 .1 .1 .1 .1 .1 .1 .1 .0) (replicate 20480 0) (kept .1 .0) (kept .0)
+    (rw (length-replicate {A = ℕ} 20480 0) (lit≤ tt)) (λ i h. getD-replicate 20480 i 0 0 h)
 
 slice-aggregate-emit-lanes : tie.Need-slice-aggregate-emit-lanes
 slice-aggregate-emit-lanes c = search needs
 
-slice-aggregate-emit-lanes-2 : tie.Need-slice-aggregate-emit-lanes-2
-slice-aggregate-emit-lanes-2 c = search needs
-
-slice-aggregate-emit-lanes-3 : tie.Need-slice-aggregate-emit-lanes-3
-slice-aggregate-emit-lanes-3 c = search needs
-
-slice-aggregate-emit-lanes-4 : tie.Need-slice-aggregate-emit-lanes-4
-slice-aggregate-emit-lanes-4 c = search needs
-
-slice-aggregate-emit-lanes-5 : tie.Need-slice-aggregate-emit-lanes-5
-slice-aggregate-emit-lanes-5 c = search needs
-
-slice-aggregate-emit-lanes-6 : tie.Need-slice-aggregate-emit-lanes-6
-slice-aggregate-emit-lanes-6 c = search needs
-
 emit-lanes-requires : tie.Need-emit-lanes-requires
 emit-lanes-requires c κs =
-    let claims = c .before .before .before .before .before .before .before .before .before .before in
-    let nodes = claims .before .before .before .before .before in
-    let s = nodes .before .before .before in
-    let p = s .pre .1 in
-    (nodes .book-nodes .ensures, (claims .book-claims .ensures, (s .pre .0, zero-room (s .args .n) 40960 8192 (s .args .rerouters .now) (s .args .bus-wires .now) (p .3) (lit≤ tt) (lit≤ tt) (p .4) (p .5))))
+    let w = c .before .before .before .before .before .before in
+    let q = w .before .before .before .before .before .before in
+    let l = start q .pre .3 in
+    let few-n = few-nodes (l .ready) in
+    let few-t = few-taps l in
+    let asked = q .ask-taps .kept .1 .1 .1 .1 .1 .1 .1 .1 .1 .1 .0 in
+    let room = room-to-ask l .0 in
+    let flags = w .answer-rows .kept .1 .1 .1 .1 .1 .1 .0 in
+    let all = length-replicate {A = ℕ} 20480 0 in
+    (range l, (room-to-emit l, (omega arith, omega arith)))
 
 same-length : tie.Need-same-length
 same-length c = search needs
@@ -62,26 +74,34 @@ same-length c = search needs
 same-length-2 : tie.Need-same-length-2
 same-length-2 c = search needs
 
+same-length-3 : tie.Need-same-length-3
+same-length-3 c = search needs
+
+same-length-4 : tie.Need-same-length-4
+same-length-4 c = search needs
+
 returns : tie.Need-returns
-returns c = search needs
+returns c =
+    let e = c .before .before in
+    let w = e .before .before .before .before .before .before .before in
+    let q = w .before .before .before .before .before .before in
+    let a = start q .args in
+    λ b ps m l.
+    subst (λ (bus : Bus). BusHeld bus (a .rerouters .now) (a .bus-wires .now) (e .emit-lanes .last .1 .1 .1 .1 .1 .1 .1 .1 .1 .1 .1 .0) (e .emit-lanes .last .1 .1 .1 .1 .1 .1 .1 .1 .1 .1 .1 .1 .0) (e .emit-lanes .result))
+    (bus-emitted l (questions q) (asked-for q b ps m l) (w .answer-rows .last .1 .1 .1 .1 .1 .1 .0) (w .answer-rows .ensures b (l .ready .nodes-are) (l .ready .nodes-known)))
+    (e .emit-lanes .ensures b (tapsOf b) ps (board-tables l) (taps-on l))
 
 pub emit-laid-spec : {M : Type 1} → statement M
 emit-laid-spec =
     tie.close
     (tie.spec
-    slice-aggregate-book-nodes
-    slice-aggregate-book-nodes-2
-    book-nodes-requires
-    slice-aggregate-book-claims
-    slice-aggregate-book-claims-2
-    book-claims-requires
+    ask-taps-requires
+    slice-aggregate-answer-rows
+    answer-rows-requires
     slice-aggregate-emit-lanes
-    slice-aggregate-emit-lanes-2
-    slice-aggregate-emit-lanes-3
-    slice-aggregate-emit-lanes-4
-    slice-aggregate-emit-lanes-5
-    slice-aggregate-emit-lanes-6
     emit-lanes-requires
     same-length
     same-length-2
+    same-length-3
+    same-length-4
     returns)

@@ -1,7 +1,7 @@
 -- The lanes of a planned board: each step's needs are supplied by what is known of the board.
 use Prim.Native.Nat.{ℕ}
 use native.Mathlib.Omega.{arith}
-use mathlib.Core.Path.{_≡_, subst, _∙_}
+use mathlib.Core.Path.{_≡_, _∙_}
 use mathlib.Core.List.{List}
 use Rattle.board.specs.Board.{Board}
 use Rattle.board.specs.Groups.{tapsOf}
@@ -11,10 +11,9 @@ use Rattle.board.specs.Tables.{tapIn}
 use Rattle.routes.specs.Stops.{laidTaps}
 use Rattle.routes.specs.Levels.{stopsOf}
 use Rattle.routes.specs.Tables.{stopIn}
-use Rattle.routes.specs.Bus.{Bus}
-use Rattle.routes.specs.Holding.{BusHeld}
-use Rattle.routes_gutter.specs.Lay.{LanesReady}
-use Rattle.routes_gutter.proofs.Supply.{few-nodes, few-wires, laid-are, taps-fit, tables, laid-fits, laid-known, laid-on, laid-range, bus-is, groups-laid}
+use Rattle.routes_gutter.specs.Lay.{LanesReady, LaidReady}
+use Rattle.routes_gutter.proofs.Supply.{laid-are, taps-fit, laid-fits, laid-known, groups-laid}
+use Rattle.routes_gutter.proofs.Emitted.{laid-ready}
 use borrow.Author.Needs.{needs}
 use Rattle.routes_gutter.proofs.lay.lay_lanes.Statement.{statement}
 use Rattle.routes_gutter.proofs.lay.lay_lanes.Tie as tie
@@ -26,13 +25,13 @@ Given s b ps =
     LanesReady b ps (a .pages .now) (a .nodes .now) (a .wires .now) (a .facts .now) (a .groups .now) (a .taps .now) (a .m) (a .laid .now) (a .stops .now) (a .marks .now) (a .rerouters .now) (a .bus-wires .now)
 
 abbrev start : tie.After-lay-taps → tie.Start
-start c = c .before .before .before
+start c = c .before .before .before .before
 
 abbrev tapped : tie.After-lay-levels → tie.After-lay-taps
 tapped c = c .before .before .before .before .before .before
 
 abbrev leveled : tie.After-emit-laid → tie.After-lay-levels
-leveled c = c .before .before .before .before .before .before .before
+leveled c = c .before .before .before .before .before .before .before .before .before
 
 abbrev rows : tie.After-lay-taps → List (List ℕ)
 rows c = c .lay-taps .last .1 .1 .1 .1 .1 .0
@@ -48,9 +47,20 @@ levels-are c b ps r =
     let t = tapped c in
     c .lay-levels .ensures .1 b ps (laid-known r (rows t) (t .lay-taps .result) (t .lay-taps .ensures .0) (t .lay-taps .kept .1 .1 .1 .1 .1 .0) (rows-are t b ps r))
 
+-- The taps laid and their stops, for the passes that follow.
+to-emit : (c : tie.After-lay-levels) (b : Board) (ps : List PageLanes) → Given (start (tapped c)) b ps
+    → (let a = start (tapped c) .args in
+    LaidReady b ps (a .pages .now) (a .nodes .now) (a .wires .now) (a .facts .now) (a .groups .now) (a .taps .now) (a .m) (rows (tapped c)) (tapped c .lay-taps .result) (levels c) (c .lay-levels .result) (c .lay-levels .last .1 .1 .1 .1 .1 .0) (a .rerouters .now) (a .bus-wires .now))
+to-emit c b ps r =
+    let t = tapped c in
+    let k = t .lay-taps .kept .1 .1 .1 .1 .1 in
+    let l = c .lay-levels .kept .1 .1 .1 .1 in
+    laid-ready r (rows t) (t .lay-taps .result) (t .lay-taps .ensures .0) (k .0) (rows-are t b ps r) (levels c) (c .lay-levels .result) (c .lay-levels .ensures .0) (l .0) (levels-are c b ps r)
+    (c .lay-levels .last .1 .1 .1 .1 .1 .0) (l .1 .0 ∙ k .1 .0)
+
 lay-taps-requires : tie.Need-lay-taps-requires
 lay-taps-requires c κs =
-    let r = c .before .before .pre .2 in
+    let r = c .before .before .before .pre .2 in
     let h = r .count in
     let l = r .laidRoom in
     let s = r .stopRoom .1 in
@@ -69,22 +79,13 @@ lay-levels-requires c κs =
 
 emit-laid-requires : tie.Need-emit-laid-requires
 emit-laid-requires c κs =
-    let v = c .before .before .before .before .before .before in
-    let t = tapped v in
-    let g = start t .pre in
-    let r = g .2 in
-    let few = t .lay-taps .ensures .0 in
-    let fewer = v .lay-levels .ensures .0 in
-    let h = r .count in
-    let w = few-wires r in
-    let l = r .busRoom in (
-      laid-range r (rows t) (t .lay-taps .result) few (t .lay-taps .kept .1 .1 .1 .1 .1 .0) (rows-are t (g .0) (g .1) r) (levels v) (v .lay-levels .result) fewer (v .lay-levels .kept .1 .1 .1 .1 .0) (levels-are v (g .0) (g .1) r),
-      (few-nodes r, r .nodeRoom, fewer, omega arith, omega (arith, l .0), omega (arith, l .1)),
-    )
+    let v = c .before .before .before .before .before .before .before .before in
+    let g = start (tapped v) .pre in
+    (g .0, g .1, start (tapped v) .args .m, to-emit v (g .0) (g .1) (g .2))
 
 count-groups-requires : tie.Need-count-groups-requires
 count-groups-requires c κs =
-    let t = tapped (leveled (c .before .before .before)) in
+    let t = tapped (leveled (c .before .before .before .before .before)) in
     let r = start t .pre .2 in
     let few = t .lay-taps .ensures .0 in
     let k = t .lay-taps .kept .1 .1 .1 .1 .1 .0 in
@@ -106,19 +107,17 @@ same-length-4 c = search needs
 same-length-5 : tie.Need-same-length-5
 same-length-5 c = search needs
 
+same-length-6 : tie.Need-same-length-6
+same-length-6 c = search needs
+
 returns : tie.Need-returns
 returns c =
-    let e = c .before .before .before .before in
+    let e = c .before .before .before .before .before .before in
     let v = leveled e in
     let t = tapped v in
-    λ b ps r.
-    let few = t .lay-taps .ensures .0 in
-    let long = t .lay-taps .kept .1 .1 .1 .1 .1 .0 in
-    let are = rows-are t b ps r in (
-      subst (λ (bus : Bus). BusHeld bus (start t .args .rerouters .now) (start t .args .bus-wires .now) (e .emit-laid .last .1 .1 .1 .1 .1 .1 .1 .1 .1 .0) (e .emit-laid .last .1 .1 .1 .1 .1 .1 .1 .1 .1 .1 .0) (e .emit-laid .result))
-          (bus-is r (rows t) (t .lay-taps .result) few long are (levels v) (v .lay-levels .result) (v .lay-levels .ensures .0) (v .lay-levels .kept .1 .1 .1 .1 .0) (levels-are v b ps r))
-          (e .emit-laid .ensures b (tapsOf b) ps (tables r) (laid-on r (rows t) (t .lay-taps .result) few long are)),
-      c .count-groups .ensures ∙ groups-laid r (rows t) (t .lay-taps .result) few long are,
+    λ b ps r. (
+      e .emit-laid .ensures b ps (start t .args .m) (to-emit v b ps r),
+      c .count-groups .ensures ∙ groups-laid r (rows t) (t .lay-taps .result) (t .lay-taps .ensures .0) (t .lay-taps .kept .1 .1 .1 .1 .1 .0) (rows-are t b ps r),
     )
 
 pub lay-lanes-spec : {M : Type 1} → statement M
@@ -134,4 +133,5 @@ lay-lanes-spec =
     same-length-3
     same-length-4
     same-length-5
+    same-length-6
     returns)

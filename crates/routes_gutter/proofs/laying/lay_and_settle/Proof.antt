@@ -14,8 +14,8 @@ lay-rows-requires c κs = search needs
 
 settle-ports-requires : tie.Need-settle-ports-requires
 settle-ports-requires c κs =
-    let d = c .before .before .before .before .before .before .before .before .before .lay-rows in
-    let s = c .before .before .before .before .before .before .before .before .before .before .before .before .before .before .before in
+    let d = c .before .before .before .before .before .before .before .before .before .before .lay-rows in
+    let s = c .before .before .before .before .before .before .before .before .before .before .before .before .before .before .before .before .before in
     let ready = s .pre .2 in
     let kd = d .kept .1 .1 .1 .1 .1 .1 .0 in
     let km = d .kept .1 .1 .1 .1 .1 .1 .1 .1 .0 in
@@ -41,10 +41,13 @@ same-length-5 c = search needs
 same-length-6 : tie.Need-same-length-6
 same-length-6 c = search needs
 
+same-length-7 : tie.Need-same-length-7
+same-length-7 c = search needs
+
 returns : tie.Need-returns
 returns c =
-    let d = c .before .before .before .before .before .before .before .before .before .before .before .before .before .lay-rows in
-    let s = c .before .before .before .before .before .before .before .before .before .before .before .before .before .before .before .before .before .before .before in
+    let d = c .before .before .before .before .before .before .before .before .before .before .before .before .before .before .lay-rows in
+    let s = c .before .before .before .before .before .before .before .before .before .before .before .before .before .before .before .before .before .before .before .before .before in
     let p = c .before .before .before .settle-ports in
     λ b ps ready room. (stands ready (d .ensures b ps ready .0) (s .args .ports .now) (p .last .1 .1 .1 .0) (p .result) (p .ensures), d .ensures b ps ready .1)
 
@@ -60,4 +63,5 @@ lay-and-settle-spec =
     same-length-4
     same-length-5
     same-length-6
+    same-length-7
     returns)

@@ -56,7 +56,7 @@ part-lay-lanes-end-2 c = let k = known (c .before .before .before .before .befor
 
 lay-lanes-requires : tie.Need-lay-lanes-requires
 lay-lanes-requires c κs =
-    let s = c .before .before .before .before .before .before .before .before .before .before .before .before .before in
+    let s = c .before .before .before .before .before .before .before .before .before .before .before .before .before .before in
     let k = known s in
     (s .pre .0, s .pre .1, rw (k .pages, k .nodes, k .wires) (s .pre .2 .ready))
 
@@ -75,12 +75,15 @@ same-length-4 c = search needs
 same-length-5 : tie.Need-same-length-5
 same-length-5 c = search needs
 
+same-length-6 : tie.Need-same-length-6
+same-length-6 c = search needs
+
 returns : tie.Need-returns
 returns c =
-    let s = c .before .before .before .before .before .before .before .before .before .before .before .before .before .before .before .before .before .before .before in
+    let s = c .before .before .before .before .before .before .before .before .before .before .before .before .before .before .before .before .before .before .before .before .before in
     λ b ps rd.
     let k = slices b (s .args .records .now) (s .args .counts) (rd .sections) (rd .counted) (rd .ready .accepted) in
-    c .before .before .before .before .before .lay-lanes .ensures b ps (rw (k .pages, k .nodes, k .wires) (rd .ready))
+    c .before .before .before .before .before .before .lay-lanes .ensures b ps (rw (k .pages, k .nodes, k .wires) (rd .ready))
 
 pub lay-rows-spec : {M : Type 1} → statement M
 lay-rows-spec =
@@ -106,4 +109,5 @@ lay-rows-spec =
     same-length-3
     same-length-4
     same-length-5
+    same-length-6
     returns)

@@ -1,0 +1,2 @@
+// The cells booked on a row: a lent slice of cells, one row of a page after the other.
+pub mod book;

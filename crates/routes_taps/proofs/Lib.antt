@@ -1,0 +1,5 @@
+pub mod Lanes
+pub mod Questions
+pub mod Reaching
+pub mod Answering
+pub mod Told
