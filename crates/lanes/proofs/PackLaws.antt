@@ -1,5 +1,5 @@
 -- Laws of the packing loop over key rows.
-use mathlib.Core.Path.{_≡_, refl, sym, ap, ap₂, _∙_}
+use mathlib.Core.Path.{_≡_, refl, sym, ap, ap₂, subst, _∙_}
 use mathlib.Core.List.{List, [], _∷_, _++_, map}
 use Prim.Native.Nat.{ℕ, suc, _+_, _≤_, _<_}
 use native.Mathlib.Numerals.{add-one}
@@ -8,7 +8,8 @@ use lib.ListN.{length, getD, take, drop, set, length-map, List·getD-map, drop-o
 use lib.Seq.{drop-cons, take-suc-set, getD-set-other, map-set-same, take-all}
 use borrow.Author.Tests.{lt-ltb, le-ltb}
 use Rattle.lanes.specs.Lanes.{Entry, full, laned, laneMost, laneFor, withTenant, packIn}
-use Rattle.lanes.specs.Keys.{entryOf, indexIn, laneIn, spread, lanesIn}
+use Rattle.lanes.specs.LaneCall.{rowMost}
+use Rattle.lanes.specs.Keys.{entryOf, indexIn, laneIn, Fitting, spread, lanesIn}
 
 -- the two ways of a step
 module _ (e : Entry) (es : List Entry) (ends lanes : List ℕ) where
@@ -36,7 +37,19 @@ module _ (row : List ℕ) (lane : ℕ) where
 
   pub entry-kept : entryOf (set row 7 lane) ≡ entryOf row
   unfolding entryOf
-  entry-kept = rw (lane-beside 2 (omega arith), lane-beside 3 (omega arith), lane-beside 4 (omega arith), lane-beside 5 (omega arith), lane-beside 6 (omega arith))
+  entry-kept = rw (lane-beside 1 (omega arith), lane-beside 3 (omega arith), lane-beside 4 (omega arith), lane-beside 5 (omega arith), lane-beside 6 (omega arith))
+
+-- key rows that hold the same entries fit alike
+module _ (keys₀ keys : List (List ℕ)) (same : map entryOf keys ≡ map entryOf keys₀) (fits : Fitting keys₀) (k : ℕ) (h : k < length keys) where
+  same-entry : entryOf (getD keys k []) ≡ entryOf (getD keys₀ k [])
+  same-entry = sym (List·getD-map entryOf keys k []) ∙ (ap (λ (l : List Entry). getD l k (entryOf [])) same ∙ List·getD-map entryOf keys₀ k [])
+
+  inside : k < length keys₀
+  inside = let e : length keys ≡ length keys₀ = sym (length-map keys entryOf) ∙ (ap length same ∙ length-map keys₀ entryOf) in omega arith
+
+  pub row-fits : (getD (getD keys k []) 4 0 ≤ rowMost) × (getD (getD keys k []) 5 0 ≤ rowMost)
+  unfolding entryOf
+  row-fits = subst (λ (e : Entry). (e .demand .first ≤ rowMost) × (e .demand .last ≤ rowMost)) (sym same-entry) (fits k inside)
 
 -- after k rows the definition goes on from the table and the lanes spread so far
 abbrev pub Rest : List (List ℕ) → List (List ℕ) → List ℕ → ℕ → Type 0

@@ -3,7 +3,7 @@ use mathlib.Core.Path.{_≡_, refl, sym, ap, _∙_}
 use mathlib.Core.Bool.{Bool, true, false, _||_}
 use mathlib.Core.Logic.{inl, inr}
 use mathlib.Core.List.{List, [], _∷_, map}
-use Prim.Native.Nat.{ℕ, zero, suc, _+_, _-_, _≤_, _<_}
+use Prim.Native.Nat.{ℕ, zero, suc, _+_, _≤_, _<_}
 use native.Mathlib.Omega.{arith}
 use lib.Dec.{ltb}
 use lib.ListN.{length, getD}
@@ -11,7 +11,7 @@ use borrow.Author.Tests.{ltb-false}
 use Rattle.base.specs.Sort.{lexLess, sorted, inserted, sortedRows}
 use Rattle.lanes.specs.Lanes.{Demand, noDemand, Entry, entries, span, ahead, ranked, packIn}
 use Rattle.lanes.specs.LaneCall.{rowMost, countMost, faulty, Sound}
-use Rattle.lanes.specs.Keys.{keyOf, entryOf, lanesIn, resultOf, Seated}
+use Rattle.lanes.specs.Keys.{rankOf, keyOf, entryOf, Fitting, lanesIn, resultOf, Seated}
 use Rattle.base.proofs.Bools.{clash}
 use Rattle.base.proofs.SortLaws.{lex-lt, lex-eq, lex-gt, Compared, below, same, above, compared, inserted-past, inserted-here}
 use Rattle.lanes.specs.declared.pack.Packing.{Packing}
@@ -37,7 +37,7 @@ allowed d h =
     let l = or-false (ltb rowMost (d .first)) (ltb rowMost (d .last)) (c .0) in
     record { rising = ltb-false (d .last) (d .first) (r .1); rows = ltb-false rowMost (d .last) (l .1); consumers = ltb-false countMost (d .consumers) (c .1) }
 
--- one column of two rows: the same numbers, or both taken from the most
+-- one column of two rows, and the rank, which stands for two
 module _ (xs ys xs′ ys′ : List ℕ) (rest : lexLess xs ys ≡ lexLess xs′ ys′) where
   column-as-is : (a b : ℕ) → lexLess (a ∷ xs) (b ∷ ys) ≡ lexLess (a ∷ xs′) (b ∷ ys′)
   column-as-is a b = go (compared a b)
@@ -47,34 +47,38 @@ module _ (xs ys xs′ ys′ : List ℕ) (rest : lexLess xs ys ≡ lexLess xs′ 
       go (same h) = lex-eq a b xs ys h ∙ (rest ∙ sym (lex-eq a b xs′ ys′ h))
       go (above h) = lex-gt a b xs ys h ∙ sym (lex-gt a b xs′ ys′ h)
 
-  column-turned : (m a b : ℕ) → a ≤ m → b ≤ m → lexLess ((m - a) ∷ xs) ((m - b) ∷ ys) ≡ lexLess (b ∷ xs′) (a ∷ ys′)
-  column-turned m a b ha hb = go (compared b a)
+  rank-turned : (d e : Demand) → Allowed d → Allowed e → lexLess (rankOf d ∷ xs) (rankOf e ∷ ys) ≡ lexLess (span e ∷ e .consumers ∷ xs′) (span d ∷ d .consumers ∷ ys′)
+  rank-turned d e ad ae = go (compared (span e) (span d)) (compared (e .consumers) (d .consumers))
     where
-      go : Compared b a → lexLess ((m - a) ∷ xs) ((m - b) ∷ ys) ≡ lexLess (b ∷ xs′) (a ∷ ys′)
-      go (below h) = lex-lt (m - a) (m - b) xs ys (omega arith) ∙ sym (lex-lt b a xs′ ys′ h)
-      go (same h) = lex-eq (m - a) (m - b) xs ys (omega arith) ∙ (rest ∙ sym (lex-eq b a xs′ ys′ h))
-      go (above h) = lex-gt (m - a) (m - b) xs ys (omega arith) ∙ sym (lex-gt b a xs′ ys′ h)
+      below-rank : span e < span d → rankOf d < rankOf e
+      below-rank h = omega (arith, ad .rows, ae .consumers)
 
--- the columns of a key row behind its index, from its order on, and from the rank of its consumers on
+      above-rank : span d < span e → rankOf e < rankOf d
+      above-rank h = omega (arith, ae .rows, ad .consumers)
+
+      go : Compared (span e) (span d) → Compared (e .consumers) (d .consumers) → lexLess (rankOf d ∷ xs) (rankOf e ∷ ys) ≡ lexLess (span e ∷ e .consumers ∷ xs′) (span d ∷ d .consumers ∷ ys′)
+      go (below h) k = lex-lt (rankOf d) (rankOf e) xs ys (below-rank h) ∙ sym (lex-lt (span e) (span d) (e .consumers ∷ xs′) (d .consumers ∷ ys′) h)
+      go (above h) k = lex-gt (rankOf d) (rankOf e) xs ys (above-rank h) ∙ sym (lex-gt (span e) (span d) (e .consumers ∷ xs′) (d .consumers ∷ ys′) h)
+      go (same h) (below k) = lex-lt (rankOf d) (rankOf e) xs ys (omega (arith, h, k, ad .consumers)) ∙ sym (lex-eq (span e) (span d) (e .consumers ∷ xs′) (d .consumers ∷ ys′) h ∙ lex-lt (e .consumers) (d .consumers) xs′ ys′ k)
+      go (same h) (same k) = lex-eq (rankOf d) (rankOf e) xs ys (omega (arith, h, k)) ∙ (rest ∙ sym (lex-eq (span e) (span d) (e .consumers ∷ xs′) (d .consumers ∷ ys′) h ∙ lex-eq (e .consumers) (d .consumers) xs′ ys′ k))
+      go (same h) (above k) = lex-gt (rankOf d) (rankOf e) xs ys (omega (arith, h, k, ae .consumers)) ∙ sym (lex-eq (span e) (span d) (e .consumers ∷ xs′) (d .consumers ∷ ys′) h ∙ lex-gt (e .consumers) (d .consumers) xs′ ys′ k)
+
+-- the columns of a key row behind its index, and from its order on
 abbrev beyond : Entry → List ℕ
 beyond e = e .demand .first ∷ e .demand .last ∷ e .demand .consumers ∷ 0 ∷ []
 
 abbrev by-order : Entry → List ℕ
-by-order e = e .demand .order ∷ e .index ∷ beyond e
-
-abbrev by-consumers : Entry → List ℕ
-by-consumers e = (countMost - e .demand .consumers) ∷ by-order e
+by-order e = e .demand .order ∷ 0 ∷ e .index ∷ beyond e
 
 -- key rows compare as their demands do, the one given later against the one given earlier
 pub keys-agree : (x y : Entry) → x .index < y .index → Allowed (x .demand) → Allowed (y .demand) → Agrees ahead lexLess keyOf x y
 unfolding keyOf ahead lexLess
 keys-agree x y h ax ay =
+    let i : lexLess (0 ∷ y .index ∷ beyond y) (0 ∷ x .index ∷ beyond x) ≡ lexLess [] [] =
+    lex-eq 0 0 (y .index ∷ beyond y) (x .index ∷ beyond x) refl ∙ lex-gt (y .index) (x .index) (beyond y) (beyond x) h in
     let o : lexLess (by-order y) (by-order x) ≡ lexLess (y .demand .order ∷ []) (x .demand .order ∷ []) =
-    column-as-is (y .index ∷ beyond y) (x .index ∷ beyond x) [] [] (lex-gt (y .index) (x .index) (beyond y) (beyond x) h) (y .demand .order) (x .demand .order) in
-    let c : lexLess (by-consumers y) (by-consumers x) ≡ lexLess (x .demand .consumers ∷ y .demand .order ∷ []) (y .demand .consumers ∷ x .demand .order ∷ []) =
-    column-turned (by-order y) (by-order x) (y .demand .order ∷ []) (x .demand .order ∷ []) o countMost (y .demand .consumers) (x .demand .consumers) (ay .consumers) (ax .consumers) in
-    column-turned (by-consumers y) (by-consumers x) (x .demand .consumers ∷ y .demand .order ∷ []) (y .demand .consumers ∷ x .demand .order ∷ []) c rowMost (span (y .demand)) (span (x .demand))
-    (omega (arith, ay .rows)) (omega (arith, ax .rows))
+    column-as-is (0 ∷ y .index ∷ beyond y) (0 ∷ x .index ∷ beyond x) [] [] i (y .demand .order) (x .demand .order) in
+    rank-turned (by-order y) (by-order x) (y .demand .order ∷ []) (x .demand .order ∷ []) o (y .demand) (x .demand) ay ax
 
 -- the entries of a list: their indices rise from the first one's, and each has the demand at its index
 pub entries-all : (P : Entry → Type 0) (i : ℕ) (d : Demand) (ds : List Demand) → ((j : ℕ) → j < length ds → P (record { index = i + j; demand = getD ds j d })) → All P (entries i ds)
@@ -122,6 +126,21 @@ keys-from i (d ∷ ds) (suc j) k h e = keys-from (suc i) ds j k (omega arith) (o
 pub key-at : (ds : List Demand) (i : ℕ) (key : List ℕ) (d : Demand) → i < length ds → key ≡ keyOf (record { index = i; demand = d }) → d ≡ getD ds i noDemand
     → key ≡ getD (map keyOf (entries 0 ds)) i []
 key-at ds i key d h k e = k ∙ (ap (λ (x : Demand). keyOf (record { index = i; demand = x })) e ∙ sym (keys-from 0 ds i i h (omega arith)))
+
+-- the key rows of demands that are not faulty fit, and a sort leaves it at that
+pub fitting-keys : (ds : List Demand) → Sound ds → (keys : List (List ℕ)) → keys ≡ map keyOf (entries 0 ds) → Fitting keys
+unfolding keyOf entryOf
+fitting-keys ds sound keys made k h =
+    let b : k < length ds = omega (arith, h, ap length made, length-keys 0 ds) in
+    let a : Allowed (getD ds k noDemand) = allowed (getD ds k noDemand) (sound k b) in
+    rw (made, keys-from 0 ds k k b (omega arith)) (omega (arith, a .rising, a .rows), a .rows)
+
+pub fitting-sorted : (keys : List (List ℕ)) → Fitting keys → Fitting (sortedRows keys)
+unfolding sortedRows
+fitting-sorted keys fits = all-at Fits [] (sorted lexLess keys) (all-sorted lexLess Fits keys (all-of Fits [] keys fits))
+  where
+    Fits : List ℕ → Type 0
+    Fits row = (entryOf row .demand .first ≤ rowMost) × (entryOf row .demand .last ≤ rowMost)
 
 -- every demand is among the entries, under its index
 entries-any : (i : ℕ) (d : Demand) (ds : List Demand) (j : ℕ) → j < length ds → Any (λ e. (e .index ≡ i + j) × (e .demand ≡ getD ds j d)) (entries i ds)

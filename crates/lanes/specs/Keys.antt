@@ -1,6 +1,6 @@
 -- How the code holds demands in rows of eight numbers.
 use mathlib.Core.Path.{_≡_}
-use Prim.Native.Nat.{ℕ, _-_, _<_}
+use Prim.Native.Nat.{ℕ, _+_, _-_, _*_, _≤_, _<_}
 use mathlib.Core.List.{List, [], _∷_, map}
 use lib.ListN.{length, getD, set, take}
 use Rattle.lanes.specs.Lanes.{Demand, Entry, span, entries, Packed, full, laned, packIn, packed}
@@ -17,11 +17,15 @@ demandIn d = record { first = d .first; last = d .last; consumers = d .consumers
 unfoldable pub demandOf : List ℕ → Demand
 demandOf row = record { first = getD row 0 0; last = getD row 1 0; consumers = getD row 2 0; order = getD row 3 0 }
 
--- a key row: both ranks count down from the most, so rising rows are demands in the order of L2
+-- a demand's rank counts down from the most, span before consumers
+abbrev pub rankOf : Demand → ℕ
+rankOf d = (rowMost - span d) * (countMost + 1) + (countMost - d .consumers)
+
+-- a key row: rising rows are demands in the order of L2
 unfoldable pub keyOf : Entry → List ℕ
 keyOf e =
     let d : Demand = e .demand in
-    (rowMost - span d) ∷ (countMost - d .consumers) ∷ d .order ∷ e .index ∷ d .first ∷ d .last ∷ d .consumers ∷ 0 ∷ []
+    rankOf d ∷ d .order ∷ 0 ∷ e .index ∷ d .first ∷ d .last ∷ d .consumers ∷ 0 ∷ []
 
 abbrev pub indexIn : List ℕ → ℕ
 indexIn key = getD key 3 0
@@ -31,7 +35,11 @@ laneIn key = getD key 7 0
 
 unfoldable pub entryOf : List ℕ → Entry
 entryOf key =
-    record { index = indexIn key; demand = record { first = getD key 4 0; last = getD key 5 0; consumers = getD key 6 0; order = getD key 2 0 } }
+    record { index = indexIn key; demand = record { first = getD key 4 0; last = getD key 5 0; consumers = getD key 6 0; order = getD key 1 0 } }
+
+-- the rows of every key row's demand are rows of a page, which an entry of the lane table holds
+abbrev pub Fitting : List (List ℕ) → Type 0
+Fitting keys = (k : ℕ) → k < length keys → (entryOf (getD keys k []) .demand .first ≤ rowMost) × (entryOf (getD keys k []) .demand .last ≤ rowMost)
 
 -- the lanes that key rows hold, each put to the element at its row's index
 module _ {A : Type 0} (put : A → ℕ → A) (d : A) where

@@ -1,4 +1,4 @@
-// Packing demands into lanes over key rows: rank by span, rank by consumers, order, index, first row, last row, consumers, lane.
+// Packing demands into lanes over key rows: rank by span and consumers, order, 0, index, first row, last row, consumers, lane.
 use base::rows::WorkRow;
 ghost use mathlib.Core.Path.{_≡_};
 ghost use mathlib.Core.Bool.{false};
@@ -6,7 +6,7 @@ ghost use Prim.Native.Nat.{_≤_};
 ghost use lib.ListN.{length, set};
 ghost use Rattle.lanes.specs.LaneCall.{faulty};
 ghost use Rattle.base.specs.Sort.{sortedRows};
-ghost use Rattle.lanes.specs.Keys.{keyOf, demandIn, indexIn, laneIn, Seated};
+ghost use Rattle.lanes.specs.Keys.{keyOf, demandIn, indexIn, laneIn, Fitting, Seated};
 use crate::table::LANE_MOST;
 use crate::table::LaneTable;
 use crate::table::Seat;
@@ -32,15 +32,16 @@ pub(crate) struct BusDemand {
     pub order: u32,
 }
 
-// L2: a demand's key row. Both ranks count down from the most, so that rows in rising order are demands as they are packed.
+// L2: a demand's key row. Its rank counts down from the most, span before consumers, so that rows in rising order are demands as
+// they are packed.
 pub(crate) fn key_row(d: BusDemand, index: u32) -> [u32; 8]
     requires { ⌜ faulty (demandIn d) ≡ false ⌝ }
     ensures { λ r. ⌜ r ≡ keyOf (record { index = index; demand = demandIn d }) ⌝ }
 {
     [
-        ROW_MOST - (d.last - d.first),
-        COUNT_MOST - d.consumers,
+        (ROW_MOST - (d.last - d.first)) * (COUNT_MOST + 1) + (COUNT_MOST - d.consumers),
         d.order,
+        0,
         index,
         d.first,
         d.last,
@@ -67,6 +68,7 @@ fn with_lane(key: [u32; 8], lane: u32) -> [u32; 8]
 
 // Gives each key row in turn its lane, in its last column.
 fn seat_keys(keys: &mut [WorkRow]) -> Packing
+    requires { ⌜ Fitting (now keys) ⌝ }
     ensures { λ r. ⌜ Seated (now (keys .entry)) (now (keys .exit)) r ⌝ }
 {
     let mut table = LaneTable {
@@ -76,7 +78,7 @@ fn seat_keys(keys: &mut [WorkRow]) -> Packing
     let mut k: usize = 0;
     while k < keys.len() {
         let row = keys[k];
-        let taken = take_lane(table, row[4], row[5]);
+        let taken = take_lane(table, row[4] as u16, row[5] as u16);
         let seat = taken.seat;
         let Seat::Lane(lane) = seat else {
             return Packing::Full(index_in(row));
@@ -90,7 +92,7 @@ fn seat_keys(keys: &mut [WorkRow]) -> Packing
 
 // Sorts the key rows and gives each its lane.
 pub(crate) fn pack_keys(keys: &mut [WorkRow], spare: &mut [WorkRow]) -> Packing
-    requires { ⌜ length (now keys) ≤ length (now spare) ⌝ }
+    requires { ⌜ (length (now keys) ≤ length (now spare)) × Fitting (now keys) ⌝ }
     ensures { λ r. ⌜ Seated (sortedRows (now (keys .entry))) (now (keys .exit)) r ⌝ }
 {
     sort_rows(keys, spare);

@@ -9,6 +9,7 @@ use Rattle.lanes.specs.Keys.{PackedNumbers}
 use Rattle.lanes.specs.declared.pack.Packing.the-variants.{Lanes}
 use Rattle.lanes.proofs.NumberLaws.{length-demands}
 use Rattle.lanes.proofs.AnswerLaws.{index-within, numbers-laned, numbers-full}
+use Rattle.lanes.proofs.RankLaws.{fitting-keys}
 use borrow.Author.Needs.{needs}
 use Rattle.lanes.proofs.packed_numbers.Statement.{statement}
 use Rattle.lanes.proofs.packed_numbers.Tie as tie
@@ -17,7 +18,7 @@ keys-of-numbers-requires : tie.Need-keys-of-numbers-requires
 keys-of-numbers-requires c κs = search needs
 
 pack-keys-requires : tie.Need-pack-keys-requires
-pack-keys-requires c κs = search needs
+pack-keys-requires c κs = (search needs, fitting-keys (demandsOf (c .before .before .before .before .before .before .before .args .demands .now)) (c .before .before .before .before .before .before .before .pre .0 .2) (c .before .before .before .keys-of-numbers .last .1 .0) (c .before .before .before .keys-of-numbers .ensures))
 
 enum-known-count : tie.Need-enum-known-count
 enum-known-count c = search needs

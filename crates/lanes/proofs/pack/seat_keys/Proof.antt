@@ -8,8 +8,9 @@ use lib.ListN.{length, getD, length-set}
 use lib.Seq.{length-take-le}
 use Rattle.lanes.specs.Keys.{entryOf, spread, lanesIn}
 use Rattle.lanes.specs.Lanes.{laneMost, Packed}
+use Rattle.lanes.specs.LaneCall.{rowMost}
 use Rattle.lanes.specs.Table.{openEnds}
-use Rattle.lanes.proofs.PackLaws.{Rest, rest-done, rest-full, rest-more, same-more}
+use Rattle.lanes.proofs.PackLaws.{row-fits, Rest, rest-done, rest-full, rest-more, same-more}
 use Rattle.lanes.proofs.StepLaws.{took-none-of, took-which, took-below, took-ends}
 use Rattle.lanes.proofs.pack.seat_keys.Statement.{statement}
 use Rattle.lanes.proofs.pack.seat_keys.Tie as tie
@@ -31,11 +32,20 @@ mul-row c = search needs
 slice-copy-out-row : tie.Need-slice-copy-out-row Inv-loop μ-loop
 slice-copy-out-row c = search needs
 
+fits : (c : tie.After-row Inv-loop μ-loop) → (getD (getD (c .before .before .loop .keys) (c .before .before .loop .k) []) 4 0 ≤ rowMost) × (getD (getD (c .before .before .loop .keys) (c .before .before .loop .k) []) 5 0 ≤ rowMost)
+fits c = row-fits (c .before .before .before .args .keys .now) (c .before .before .loop .keys) (c .before .before .loop .inv .3) (c .before .before .before .pre) (c .before .before .loop .k) (omega arith)
+
 array-read-take-lane : tie.Need-array-read-take-lane Inv-loop μ-loop
 array-read-take-lane c = search needs
 
+cast-take-lane : tie.Need-cast-take-lane Inv-loop μ-loop
+cast-take-lane c = omega (arith, fits c .0)
+
 array-read-take-lane-2 : tie.Need-array-read-take-lane-2 Inv-loop μ-loop
 array-read-take-lane-2 c = search needs
+
+cast-take-lane-2 : tie.Need-cast-take-lane-2 Inv-loop μ-loop
+cast-take-lane-2 c = omega (arith, fits c .1)
 
 take-lane-requires : tie.Need-take-lane-requires Inv-loop μ-loop
 take-lane-requires c κs = search needs
@@ -104,7 +114,9 @@ seat-keys-spec =
     mul-row
     slice-copy-out-row
     array-read-take-lane
+    cast-take-lane
     array-read-take-lane-2
+    cast-take-lane-2
     take-lane-requires
     enum-known-seat
     enum-told

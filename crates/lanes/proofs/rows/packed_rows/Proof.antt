@@ -7,6 +7,7 @@ use lib.ListN.{length, length-map}
 use Rattle.lanes.specs.Keys.{demandOf, PackedRows}
 use Rattle.lanes.specs.declared.pack.Packing.the-variants.{Lanes}
 use Rattle.lanes.proofs.AnswerLaws.{index-within, rows-laned, rows-full}
+use Rattle.lanes.proofs.RankLaws.{fitting-keys}
 use borrow.Author.Needs.{needs}
 use Rattle.lanes.proofs.rows.packed_rows.Statement.{statement}
 use Rattle.lanes.proofs.rows.packed_rows.Tie as tie
@@ -15,7 +16,7 @@ keys-of-rows-requires : tie.Need-keys-of-rows-requires
 keys-of-rows-requires c κs = search needs
 
 pack-keys-requires : tie.Need-pack-keys-requires
-pack-keys-requires c κs = search needs
+pack-keys-requires c κs = (search needs, fitting-keys (map demandOf (c .before .before .before .before .before .before .args .demands .now)) (c .before .before .before .before .before .before .pre .0 .2) (c .before .before .before .keys-of-rows .last .1 .0) (c .before .before .before .keys-of-rows .ensures .made))
 
 enum-known-count : tie.Need-enum-known-count
 enum-known-count c = search needs
