@@ -7,7 +7,7 @@ use routes::bus::BusCount;
 use routes_beside::beside::answer_rows;
 use routes_columns::columns::ask_taps;
 use routes_emit::walk::emit_lanes;
-use routes_levels::levels::lane_stops;
+use routes_levels::laying::lane_stops;
 use routes_levels::stops::lay_taps;
 use routes_rows::book::CELLS_MOST;
 ghost use mathlib.Core.Path.{_≡_};
