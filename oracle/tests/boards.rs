@@ -39,7 +39,7 @@ fn larger_boards() {
 
 #[test]
 fn full_boards_stay_within_the_limits() {
-    for size in r#gen::BOARD_SIZES {
+    for size in [&r#gen::BOARD_SIZES[..], &r#gen::worst::NAMES].concat() {
         let sheet = r#gen::sheet(5, 0, size).expect("the size is known");
         assert!(board::parse(&sheet, &Limits::LIBRARY).is_ok(), "{size}");
     }

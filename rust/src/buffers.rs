@@ -162,7 +162,7 @@ impl Buffers {
         let told = calls::plan_bus(sheet, pages, work);
         accepted(told.refusal, told.place)?;
         self.held.pages = told.pages;
-        self.held.wires = lines_of(b'W', sheet);
+        self.held.wires = wires_of(sheet);
         Ok(pages_of(&self.pages[..told.pages]))
     }
 
@@ -201,7 +201,7 @@ impl Buffers {
         accepted(told.refusal, told.place)?;
         self.hold(sheet, told.rerouters, told.bus_wires, told.ports);
         self.held.laid = told.groups;
-        self.held.pages = lines_of(b'P', sheet);
+        self.held.pages = pages_of_sheet(sheet);
         Ok(self.plan())
     }
 
@@ -228,7 +228,7 @@ impl Buffers {
             bus_wires,
             ports,
         };
-        self.held.wires = lines_of(b'W', sheet);
+        self.held.wires = wires_of(sheet);
     }
 
     /// The bus that the buffers hold.
@@ -262,6 +262,32 @@ fn accepted(refusal: usize, line: usize) -> Result<(), Refusal> {
     Refusal::of(refusal, line).map_or(Ok(()), Err)
 }
 
+/// The pages of an accepted sheet: its first lines.
+fn pages_of_sheet(sheet: &[u8]) -> usize {
+    let lines = sheet.split(|b| *b == b'\n');
+    lines.take_while(|line| line.first() == Some(&b'P')).count()
+}
+
+/// The wires of an accepted sheet: its last lines, so that where they begin is
+/// found by halves.
+fn wires_of(sheet: &[u8]) -> usize {
+    let line_of = |at: usize| {
+        let before = sheet[..at].iter().rposition(|b| *b == b'\n');
+        before.map_or(0, |end| end + 1)
+    };
+    let (mut low, mut high) = (0, sheet.len());
+    while low < high {
+        let start = line_of(low.midpoint(high));
+        if sheet[start] == b'W' {
+            high = start;
+        } else {
+            let length = sheet[start..].iter().position(|b| *b == b'\n');
+            low = length.map_or(sheet.len(), |n| start + n + 1);
+        }
+    }
+    sheet[low..].iter().filter(|b| **b == b'\n').count()
+}
+
 /// How many lines of a sheet begin with a letter: of an accepted sheet, how
 /// many records of that section there are.
 pub(crate) fn lines_of(letter: u8, sheet: &[u8]) -> usize {
@@ -281,6 +307,25 @@ mod tests {
         assert_eq!(lines_of(b'W', b"W"), 1);
         assert_eq!(lines_of(b'W', b"P\t0\t0\nW\t1\nWW\n W\n"), 2);
         assert_eq!(lines_of(b'P', b"P\t0\t0\nW\t1\nWW\n W\n"), 1);
+    }
+
+    #[test]
+    fn wires_and_pages_are_found() {
+        let sections = ["P\t0\t0\n", "N\t1\n", "X\t1\t2\n", "W\t1\t1\t2\t1\n"];
+        let few = [0, 1, 2, 3, 9];
+        for pages in few {
+            for nodes in few {
+                for execs in few {
+                    for wires in few {
+                        let counts = [pages, nodes, execs, wires];
+                        let parts = sections.iter().zip(counts);
+                        let sheet: String = parts.map(|(line, n)| line.repeat(n)).collect();
+                        assert_eq!(wires_of(sheet.as_bytes()), wires);
+                        assert_eq!(pages_of_sheet(sheet.as_bytes()), pages);
+                    }
+                }
+            }
+        }
     }
 
     #[test]

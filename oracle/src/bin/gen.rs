@@ -7,7 +7,9 @@ use std::io::Write;
 
 const USAGE: &str = "gen SEED COUNT SIZE
 SIZE: tiny program medium full many-lanes damaged lanes
-      full-typical full-random hot-rows tall-lanes crowded-corners";
+      full-typical full-random hot-rows tall-lanes crowded-corners
+      aligned-ports aligned-groups aligned-levels one-exec deep-chips one-row
+      one-lane one-sink all-corners";
 
 fn main() -> std::io::Result<()> {
     let args: Vec<String> = std::env::args().collect();

@@ -21,7 +21,10 @@ fn main() -> std::io::Result<()> {
     let damaged = records::damaged();
     let lists = records::lists();
     fs::create_dir_all(dir)?;
-    fs::write(dir.join("boards.txt"), records::cases_by(&boards.sheets, answer))?;
+    fs::write(
+        dir.join("boards.txt"),
+        records::cases_by(&boards.sheets, answer),
+    )?;
     fs::write(dir.join("damaged.txt"), records::cases_by(&damaged, answer))?;
     fs::write(dir.join("lanes.txt"), records::list_cases(&lists))?;
     fs::write(

@@ -6,6 +6,7 @@ pub mod lanes;
 pub mod mood;
 pub mod nasty;
 pub mod wires;
+pub mod worst;
 
 use crate::board::Board;
 use crate::rng::Rng;
@@ -33,10 +34,13 @@ pub fn board(seed: u64, i: u64, size: &str) -> Option<Board> {
         "hot-rows" => nasty::hot_rows(rng),
         "tall-lanes" => nasty::tall_lanes(rng),
         "crowded-corners" => nasty::crowded_corners(rng),
-        _ => {
-            let mood = mood::Mood::new(rng, size)?;
-            random_board(rng, &mood)
-        }
+        _ => match worst::board(size) {
+            Some(board) => board,
+            None => {
+                let mood = mood::Mood::new(rng, size)?;
+                random_board(rng, &mood)
+            }
+        },
     })
 }
 

@@ -4,7 +4,7 @@
 use crate::board::*;
 use crate::rng::Rng;
 
-fn brick(id: u32, half: (i32, i32), at: (i32, i32), row: (usize, i32)) -> Node {
+pub(super) fn brick(id: u32, half: (i32, i32), at: (i32, i32), row: (usize, i32)) -> Node {
     Node {
         id,
         kind: 0,
@@ -18,7 +18,7 @@ fn brick(id: u32, half: (i32, i32), at: (i32, i32), row: (usize, i32)) -> Node {
     }
 }
 
-fn wire(source: (u32, u16), target: (u32, u16)) -> Wire {
+pub(super) fn wire(source: (u32, u16), target: (u32, u16)) -> Wire {
     let port = |(node, port): (u32, u16)| Port { node, port };
     Wire {
         source: port(source),
@@ -26,7 +26,7 @@ fn wire(source: (u32, u16), target: (u32, u16)) -> Wire {
     }
 }
 
-fn page(min_y: i32, z: i32) -> Page {
+pub(super) fn page(min_y: i32, z: i32) -> Page {
     let min_y = Some(min_y);
     Page { min_y, z }
 }

@@ -7,6 +7,7 @@ pub mod differ;
 pub mod handed;
 pub mod lists;
 pub mod plain;
+pub mod plot;
 pub mod reading;
 pub mod room;
 pub mod sheets;

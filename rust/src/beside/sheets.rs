@@ -7,13 +7,14 @@ use oracle::{Limits, r#gen};
 /// The sizes that `differ` takes besides the generator's boards.
 pub const OTHERS: [&str; 5] = ["damaged", "scratched", "to-the-most", "lanes", "handed"];
 
-/// Sheet `i` of a seed and size, or `None` where the word names no size.
+/// Sheet `i` of a seed and size, or `None` where the word names no size and no
+/// file.
 pub fn sheet(seed: u64, i: u64, size: &str) -> Option<Vec<u8>> {
     let rng = &mut Rng::for_item(seed, i);
     match size {
         "to-the-most" => Some(to_the_most(rng)),
         "scratched" => Some(scratched(rng, r#gen::sheet(seed, i, "tiny")?)),
-        _ => r#gen::sheet(seed, i, size),
+        _ => r#gen::sheet(seed, i, size).or_else(|| std::fs::read(size).ok()),
     }
 }
 

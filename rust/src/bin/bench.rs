@@ -5,7 +5,7 @@ use oracle::{Board, Limits, board, r#gen, harness, lanes};
 use original::layout::bus::allocate_lanes;
 use panzhyqur::beside::room::{Lending, Room, Way};
 use panzhyqur::beside::truth::Truth;
-use panzhyqur::beside::{plain, typed};
+use panzhyqur::beside::{plain, plot, typed};
 use panzhyqur::calls::{self, Counts};
 use panzhyqur::stack::with_stack;
 use panzhyqur::{self as ours, Buffers};
@@ -15,19 +15,22 @@ use std::process::ExitCode;
 use std::time::Instant;
 
 const USAGE: &str = "\
-bench [--quick] [--seed N] [--into FILE]: the library and the original side by side
+bench [--quick] [--seed N] [--into FILE] [--plot FILE]: the library and the original side by side
 
 Times both on the same full boards in one run, the reading of text apart and
-together, then over boards of 512 to 8,192 wires, then the reading of a sheet and
-the lane call alone. The calls are timed in turn, so that what else runs slows all
-alike; the shortest run counts. The plans of the boards are compared too.
+together, then the boards that are drawn against the library's own steps, then
+boards of 512 to 8,192 wires, typical ones and the worst one, then the reading of a
+sheet, the three calls one by one and the lane call alone. The calls are timed in
+turn, so that what else runs slows all alike; the shortest run counts. The plans of
+the boards are compared too.
 
 --quick      fewer runs, and without crowded corners, which take the original more
              than a minute (it has one run there, and no comparison: `differ 1 1
              crowded-corners` compares)
 --seed N     of the boards (1)
 --into FILE  puts the tables between the lines `<!-- tables -->` and
-             `<!-- end of tables -->` of a file, else to standard output";
+             `<!-- end of tables -->` of a file, else to standard output
+--plot FILE  writes the growth as a picture (SVG)";
 
 const BOARDS: [(&str, &str); 5] = [
     ("full-typical", "full, typical"),
@@ -37,6 +40,11 @@ const BOARDS: [(&str, &str); 5] = [
     (SLOW, "crowded corners"),
 ];
 const SLOW: &str = "crowded-corners";
+/// Of the boards drawn against the library's steps, those on which the
+/// original takes many seconds.
+const TOO_SLOW: [&str; 2] = ["one-sink", "all-corners"];
+/// The one of them that takes the library longest.
+const WORST: &str = "all-corners";
 /// Wires of the boards that grow, with their pages and rows.
 const GROWTH: [(usize, u32, u32); 5] = [
     (512, 1, 32),
@@ -58,6 +66,7 @@ fn main() -> ExitCode {
     let mut quick = false;
     let mut seed = 1;
     let mut into = None;
+    let mut plot = None;
     let mut words = std::env::args().skip(1);
     while let Some(word) = words.next() {
         match word.as_str() {
@@ -74,10 +83,19 @@ fn main() -> ExitCode {
                 Some(file) => into = Some(file),
                 None => return bad("--into asks for a file"),
             },
+            "--plot" => match words.next() {
+                Some(file) => plot = Some(file),
+                None => return bad("--plot asks for a file"),
+            },
             other => return bad(&format!("no such word: {other}")),
         }
     }
-    let tables = with_stack(|| tables(seed, quick));
+    let (tables, lines) = with_stack(|| tables(seed, quick));
+    if let Some(file) = plot
+        && let Err(why) = std::fs::write(&file, plot::growth(&lines))
+    {
+        return bad(&format!("{file}: {why}"));
+    }
     let Some(file) = into else {
         print!("{tables}");
         return ExitCode::SUCCESS;
@@ -216,7 +234,8 @@ fn is_same(sheet: &[u8]) -> bool {
     Truth::of(sheet).faults(&found, &lending).is_empty()
 }
 
-fn tables(seed: u64, quick: bool) -> String {
+/// The tables, and the lines of the plot.
+fn tables(seed: u64, quick: bool) -> (String, Vec<plot::Line>) {
     let effort = if quick {
         Effort {
             rounds: 20,
@@ -234,14 +253,19 @@ fn tables(seed: u64, quick: bool) -> String {
         "Seed {seed}; the shortest of at most {} runs, taken in turn; milliseconds.",
         effort.rounds
     );
-    full_boards(&mut out, seed, quick, effort);
-    growth(&mut out, seed, effort);
+    let typical = full_boards(&mut out, seed, quick, effort);
+    worst_boards(&mut out, typical, effort);
+    let mut lines = growth(&mut out, seed, effort);
+    lines.push(growth_of_worst(&mut out, effort));
     reading(&mut out, seed, effort);
+    three_calls(&mut out, seed, effort);
     lane_call(&mut out, seed, effort);
-    out
+    (out, lines)
 }
 
-fn full_boards(out: &mut String, seed: u64, quick: bool, effort: Effort) {
+/// The full boards; what `route` takes on the typical one comes back.
+fn full_boards(out: &mut String, seed: u64, quick: bool, effort: Effort) -> f64 {
+    let mut typical = f64::MAX;
     out.push_str(
         "
 **Full boards**
@@ -268,6 +292,9 @@ fn full_boards(out: &mut String, seed: u64, quick: bool, effort: Effort) {
         } else {
             times(&board, effort)
         };
+        if size == BOARDS[0].0 {
+            typical = t.route;
+        }
         let same = match slow {
             true => "not compared here",
             false if is_same(&sheet) => "equal",
@@ -288,6 +315,60 @@ fn full_boards(out: &mut String, seed: u64, quick: bool, effort: Effort) {
             t.route / t.original
         );
     }
+    typical
+}
+
+/// The boards drawn against the library's own steps, beside the typical one.
+fn worst_boards(out: &mut String, typical: f64, effort: Effort) {
+    out.push_str(
+        "
+**Boards drawn against the library's steps**
+
+| Board | Wires | Rerouters | `route` | to full typical | Original: three calls | Plans |
+|---|---|---|---|---|---|---|
+",
+    );
+    for name in r#gen::worst::NAMES {
+        eprintln!("{name}");
+        let board = r#gen::worst::board(name).expect("a name of the list");
+        let slow = TOO_SLOW.contains(&name);
+        let (route, rerouters) = route_time(&board, effort);
+        let (original, same) = if slow {
+            ("seconds".into(), "not compared here")
+        } else {
+            let body = harness::prepare(&board);
+            let once = &mut || {
+                black_box(harness::run_prepared(black_box(&body)));
+            };
+            let [original] = in_turn(
+                Effort {
+                    rounds: 3,
+                    ..effort
+                },
+                [once],
+            );
+            let same = is_same(&board.sheet());
+            (ms(original), if same { "equal" } else { "DIFFER" })
+        };
+        let _ = writeln!(
+            out,
+            "| {name} | {} | {rerouters} | {} | {:.1} | {original} | {same} |",
+            board.wires.len(),
+            ms(route),
+            route / typical
+        );
+    }
+}
+
+/// What `route` takes on a board, and how many rerouters it lays.
+fn route_time(board: &Board, effort: Effort) -> (f64, usize) {
+    let sheet = board.sheet();
+    let mut buffers = Buffers::for_limits(&ours::Limits::LIBRARY);
+    let call = &mut || {
+        black_box(buffers.route(black_box(&sheet)).is_ok());
+    };
+    let [route] = in_turn(effort, [call]);
+    (route, buffers.bus().nodes().len())
 }
 
 /// One run each of what takes long: the original from text is the sum.
@@ -339,7 +420,11 @@ fn slow_times(board: &Board, once: Effort) -> Times {
     }
 }
 
-fn growth(out: &mut String, seed: u64, effort: Effort) {
+fn growth(out: &mut String, seed: u64, effort: Effort) -> Vec<plot::Line> {
+    let mut lines = [
+        ("route", Vec::new()),
+        ("the original's three calls", Vec::new()),
+    ];
     out.push_str(
         "
 **Growth**: typical boards
@@ -365,6 +450,87 @@ fn growth(out: &mut String, seed: u64, effort: Effort) {
             each(t.route),
             ms(t.original),
             each(t.original)
+        );
+        lines[0].1.push((wires as f64, t.route));
+        lines[1].1.push((wires as f64, t.original));
+    }
+    let named = |(name, points): (&str, _)| plot::Line {
+        name: format!("{name}, typical boards"),
+        points,
+    };
+    lines.map(named).into()
+}
+
+fn growth_of_worst(out: &mut String, effort: Effort) -> plot::Line {
+    let _ = write!(
+        out,
+        "
+**Growth**: the first wires of {WORST}
+
+| Wires | Rerouters | `route` | µs a wire |
+|---|---|---|---|
+"
+    );
+    let mut points = Vec::new();
+    for (wires, _, _) in GROWTH {
+        let mut board = r#gen::worst::board(WORST).expect("a name of the list");
+        board.wires.truncate(wires);
+        let (route, rerouters) = route_time(&board, effort);
+        points.push((wires as f64, route));
+        let each = route * 1e3 / wires as f64;
+        let _ = writeln!(out, "| {wires} | {rerouters} | {} | {each:.2} |", ms(route));
+    }
+    plot::Line {
+        name: format!("route, {WORST}"),
+        points,
+    }
+}
+
+/// The three calls one after the other, each of which reads the sheet.
+fn three_calls(out: &mut String, seed: u64, effort: Effort) {
+    out.push_str(
+        "
+**The three calls one after the other**, each from the text
+
+| Board | `plan_bus` | `lay_bus` | `lay_mini_bus` | all three | Original: three calls | to it |
+|---|---|---|---|---|---|---|
+",
+    );
+    for (size, name) in &BOARDS[..2] {
+        let board = r#gen::board(seed, 0, size).expect("a size of the generator");
+        let sheet = board.sheet();
+        let body = harness::prepare(&board);
+        let [mut one, mut two, mut three] =
+            [(); 3].map(|()| Buffers::for_limits(&ours::Limits::LIBRARY));
+        let [plan, lay, sum, original] = in_turn(
+            effort,
+            [
+                &mut || {
+                    black_box(one.plan_bus(black_box(&sheet)).is_ok());
+                },
+                &mut || {
+                    black_box(two.lay_bus(black_box(&sheet)).is_ok());
+                },
+                &mut || {
+                    black_box(three.plan_bus(black_box(&sheet)).is_ok());
+                    black_box(three.lay_bus(black_box(&sheet)).is_ok());
+                    black_box(three.lay_mini_bus(black_box(&sheet)).is_ok());
+                },
+                &mut || {
+                    black_box(harness::run_prepared(black_box(&body)));
+                },
+            ],
+        );
+        let mini = sum - plan - lay;
+        let _ = writeln!(
+            out,
+            "| {name} | {} | {} | {} | {} | {} | {:.2} |",
+            ms(plan),
+            ms(lay),
+            ms(mini),
+            ms(sum),
+            ms(original),
+            sum / original
         );
     }
 }

@@ -1,9 +1,11 @@
 //! differ SEED COUNT SIZE: see USAGE.
 
 use oracle::r#gen::BOARD_SIZES;
+use oracle::r#gen::worst::NAMES;
 use panzhyqur::beside::differ::{Difference, Memory, run};
 use panzhyqur::beside::sheets;
 use panzhyqur::stack::with_stack;
+use std::path::Path;
 use std::process::ExitCode;
 use std::time::Instant;
 
@@ -23,7 +25,10 @@ long. What differs is shrunk and printed, and the status is then 1.
 
 SIZE    tiny program medium full many-lanes
         full-typical full-random hot-rows tall-lanes crowded-corners
+        aligned-ports aligned-groups aligned-levels one-exec deep-chips one-row
+        one-lane one-sink all-corners
         damaged scratched to-the-most
+        a file that holds a sheet
         lanes   demand lists through the lane call
         handed  `lay_mini_bus` on buffers with any content and counts that fit,
                 just fit or are at fault, some with a 513th lane besides: its
@@ -67,7 +72,7 @@ fn main() -> ExitCode {
     let one = [(size.as_str(), 1)];
     let runs: &[(&str, u64)] = match size.as_str() {
         "all" => &ALL,
-        size if BOARD_SIZES.contains(&size) || sheets::OTHERS.contains(&size) => &one,
+        size if is_known(size) => &one,
         _ => return bad(&format!("no such size: {size}")),
     };
     let different = with_stack(|| {
@@ -79,6 +84,11 @@ fn main() -> ExitCode {
     });
     println!("differ: {different}");
     ExitCode::from(u8::from(different > 0))
+}
+
+fn is_known(size: &str) -> bool {
+    let listed: [&[&str]; 3] = [&BOARD_SIZES, &NAMES, &sheets::OTHERS];
+    listed.iter().any(|list| list.contains(&size)) || Path::new(size).is_file()
 }
 
 fn one_run(seed: u64, count: u64, size: &str, memory: Memory) -> usize {
