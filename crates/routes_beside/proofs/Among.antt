@@ -12,14 +12,17 @@ use Rattle.base.specs.Lists.{any}
 use Rattle.base.specs.Runs.{Ordered}
 use Rattle.board.specs.Rows
 use Rattle.board.specs.Tables.{flag}
+use Rattle.routes_rows.proofs.InTurn.{among, after, stepIf, at-its-turn}
 use Rattle.routes_rows.specs.Booking.{itemCell, keyOf, orderAt, clearOf, begins, takes, onRow, book, bookedAfter, takenAt, flagsAfter}
 
 module _ (items : List (List ℕ)) (bricks : ℕ) where
+  -- An item books its cell where it is a brick or clear of what is booked.
+  abbrev bookItem : ℕ → List Rows.Cell → List Rows.Cell
+  bookItem i booked = book (ltb i bricks || clearOf booked (itemCell items i)) (itemCell items i) booked
+
   -- The cells that the items before i have booked on the row of a key, newest first.
   abbrev pub bookedAmong : ℕ → ℕ → List Rows.Cell
-  bookedAmong key zero = []
-  bookedAmong key (suc i) =
-      book (eqb (keyOf items i) key && (ltb i bricks || clearOf (bookedAmong key i) (itemCell items i))) (itemCell items i) (bookedAmong key i)
+  bookedAmong = among items [] bookItem
 
   abbrev pub taken : ℕ → Bool
   taken i = ltb i bricks || clearOf (bookedAmong (keyOf items i) i) (itemCell items i)
@@ -27,50 +30,28 @@ module _ (items : List (List ℕ)) (bricks : ℕ) where
   -- Whether one of the cells passes a test, with one item more.
   pub any-next : (f : Rows.Cell → Bool) (key i : ℕ)
       → any f (bookedAmong key (suc i)) ≡ ((eqb (keyOf items i) key && (ltb i bricks || clearOf (bookedAmong key i) (itemCell items i))) && f (itemCell items i)) || any f (bookedAmong key i)
-  any-next f key i = go (eqb (keyOf items i) key && (ltb i bricks || clearOf (bookedAmong key i) (itemCell items i)))
+  any-next f key i = go (eqb (keyOf items i) key)
     where
-      go : (t : Bool) → any f (book t (itemCell items i) (bookedAmong key i)) ≡ (t && f (itemCell items i)) || any f (bookedAmong key i)
-      go true = refl
+      one : (t : Bool) → any f (book t (itemCell items i) (bookedAmong key i)) ≡ (t && f (itemCell items i)) || any f (bookedAmong key i)
+      one true = refl
+      one false = refl
+
+      go : (s : Bool) → any f (stepIf items [] bookItem s i (bookedAmong key i)) ≡ ((s && (ltb i bricks || clearOf (bookedAmong key i) (itemCell items i))) && f (itemCell items i)) || any f (bookedAmong key i)
+      go true = one (ltb i bricks || clearOf (bookedAmong key i) (itemCell items i))
       go false = refl
 
-  -- Items of other rows book nothing there.
-  pub passed-over : (key i : ℕ) → (keyOf items i ≡ key → ⊥) → bookedAmong key (suc i) ≡ bookedAmong key i
-  passed-over key i other =
-      ap (λ t. book (t && (ltb i bricks || clearOf (bookedAmong key i) (itemCell items i))) (itemCell items i) (bookedAmong key i)) (ne-eqb (keyOf items i) key other)
-
-  all-passed : (key a i : ℕ) → a ≤ i → ((j : ℕ) → a ≤ j → j < i → keyOf items j ≡ key → ⊥) → bookedAmong key i ≡ bookedAmong key a
-  all-passed key a zero h other = ap (bookedAmong key) (let z : zero ≡ a = omega arith in z)
-  all-passed key a (suc i) h other = go (eqb a (suc i)) refl (λ l. all-passed key a i l (λ j s t. other j s (omega arith)))
-    where
-      go : (t : Bool) → eqb a (suc i) ≡ t → (a ≤ i → bookedAmong key i ≡ bookedAmong key a) → bookedAmong key (suc i) ≡ bookedAmong key a
-      go true e ih = ap (bookedAmong key) (sym (eqb-true a (suc i) e))
-      go false e ih = let l : a ≤ i = omega (arith, eqb-false a (suc i) e) in passed-over key i (other i l (omega arith)) ∙ ih l
+  after-same : (p : ℕ) → bookedAfter items bricks p ≡ after items [] bookItem p
+  unfolding bookedAfter
+  after-same zero = refl
+  after-same (suc p) = ap (λ l. bookItem (orderAt items p) (onRow (begins items p) l)) (after-same p)
 
   module _ (keys n count : ℕ) (o : Ordered (keyOf items) (orderAt items) keys n count) where
     -- Where the item that comes p-th is asked, its row's state is what the items before it have booked.
-    pub at-its-turn : (p : ℕ) → p < count → onRow (begins items p) (bookedAfter items bricks p) ≡ bookedAmong (keyOf items (orderAt items p)) (orderAt items p)
-    unfolding bookedAfter
-    at-its-turn zero h = sym (all-passed (keyOf items (orderAt items 0)) 0 (orderAt items 0) (omega arith) (λ j s l. o .first h j l))
-    at-its-turn (suc p) h = go (eqb (keyOf items a) (keyOf items i)) refl (at-its-turn p (omega arith))
-      where
-        a : ℕ
-        a = orderAt items p
-
-        i : ℕ
-        i = orderAt items (suc p)
-
-        go : (t : Bool) → eqb (keyOf items a) (keyOf items i) ≡ t → onRow (begins items p) (bookedAfter items bricks p) ≡ bookedAmong (keyOf items a) a
-            → onRow (not t) (bookedAfter items bricks (suc p)) ≡ bookedAmong (keyOf items i) i
-        go false e ih = sym (all-passed (keyOf items i) 0 i (omega arith) (λ j s l. o .begins p h (eqb-false (keyOf items a) (keyOf items i) e) j l))
-        go true e ih =
-            let same : keyOf items a ≡ keyOf items i = eqb-true (keyOf items a) (keyOf items i) e in
-            ap (λ l. book (takes items bricks l p) (itemCell items a) l) ih
-            ∙ (ap (λ t. book (t && taken a) (itemCell items a) (bookedAmong (keyOf items a) a)) (sym (eq-eqb (keyOf items a) (keyOf items a) refl))
-            ∙ (sym (all-passed (keyOf items a) (suc a) i (let l = o .next p h same in omega arith) (λ j s l. o .between p h same j (omega arith) l))
-            ∙ ap (λ k. bookedAmong k i) same))
+    booked-at-its-turn : (p : ℕ) → p < count → onRow (begins items p) (bookedAfter items bricks p) ≡ bookedAmong (keyOf items (orderAt items p)) (orderAt items p)
+    booked-at-its-turn p h = ap (onRow (begins items p)) (after-same p) ∙ at-its-turn items [] bookItem keys n count o p h
 
     at-its-taking : (p : ℕ) → p < count → takenAt items bricks p ≡ taken (orderAt items p)
-    at-its-taking p h = ap (λ l. takes items bricks l p) (at-its-turn p h)
+    at-its-taking p h = ap (λ l. takes items bricks l p) (booked-at-its-turn p h)
 
     module _ (flags : List ℕ) (room : n ≤ length flags) where
       length-flags : (p : ℕ) → length (flagsAfter items bricks p flags) ≡ length flags

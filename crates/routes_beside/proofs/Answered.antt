@@ -18,7 +18,7 @@ use Rattle.routes_beside.proofs.Keys.{key-below}
 use Rattle.routes_beside.proofs.Filled.{same-items}
 use Rattle.routes_beside.proofs.Told.{rows-told}
 
-item-few : (last : ℕ) (t : Bool) (c : Rows.Cell) (key : ℕ) (r : List ℕ) → ItemIs last t c key r → (t ≡ true → key < last) → getD r 6 0 ≤ last
+pub item-few : (last : ℕ) (t : Bool) (c : Rows.Cell) (key : ℕ) (r : List ℕ) → ItemIs last t c key r → (t ≡ true → key < last) → getD r 6 0 ≤ last
 item-few last true c key r it below = let e = it .keyed refl in let h = below refl in omega arith
 item-few last false c key r it below = let e = it .absent refl in omega arith
 

@@ -27,7 +27,7 @@ module _ (last : ℕ) (t : Bool) (c : Rows.Cell) (key : ℕ) (r : List ℕ) wher
       record { cell = λ y. let z : _≡_ {A = ℕ} 0 1 = cc in absurd (omega arith); keyed = λ y. let z : _≡_ {A = ℕ} 0 1 = cc in absurd (omega arith); absent = λ n. it }
 
   -- Column 7 is no part of an item.
-  same-item : (r′ : List ℕ) → ((k : ℕ) → k < 7 → getD r′ k 0 ≡ getD r k 0) → ItemIs last t c key r → ItemIs last t c key r′
+  pub same-item : (r′ : List ℕ) → ((k : ℕ) → k < 7 → getD r′ k 0 ≡ getD r k 0) → ItemIs last t c key r → ItemIs last t c key r′
   same-item r′ same it =
       record {
         cell = λ y. (λ w. record { x0 = same 0 (omega arith) w; x1 = same 1 (omega arith) w; y0 = same 2 (omega arith) w; y1 = same 3 (omega arith) w }) ∙ it .cell y;

@@ -77,7 +77,7 @@ module _ (nodes : List (List ℕ)) where
         let next = before-next nodes k in
         omega arith
 
-    pub summed-few : (k : ℕ) → k ≤ 64 → length nodes ≤ 4096 → sums (λ j. getD counts j 0) k ≤ 20480
+    pub summed-few : (k : ℕ) → k ≤ 64 → length nodes ≤ 4096 → sums (λ j. getD counts j 0) k ≤ 45056
     summed-few k h few = let e = summed k h in let m = before-most nodes k in omega arith
 
     pub summed-bases : (bases : List ℕ) → length bases ≡ 64 → ((k : ℕ) → k < 64 → getD bases k 0 ≡ sums (λ j. getD counts j 0) k) → Bases nodes bases

@@ -26,7 +26,7 @@ fn count_page(counts: &mut [u32], page: u32)
 }
 
 // How many nodes have a row on each page.
-fn count_pages(nodes: &[Record], counts: &mut [u32])
+pub fn count_pages(nodes: &[Record], counts: &mut [u32])
     requires { ⌜ (length (now nodes) ≤ 4096) × (length (now counts) ≡ 64) × ((p : ℕ) → p < 64 → getD (now counts) p 0 ≡ 0) ⌝ }
     ensures { λ _. ⌜ ((p : ℕ) → p < 64 → getD (now (counts .exit)) p 0 ≡ countOn (now (nodes .entry)) p) ⌝ }
 {
@@ -38,7 +38,7 @@ fn count_pages(nodes: &[Record], counts: &mut [u32])
 }
 
 // The first key of each page: how many nodes have a row on the pages before it.
-fn page_bases(nodes: &[Record], bases: &mut [u32])
+pub fn page_bases(nodes: &[Record], bases: &mut [u32])
     requires { ⌜ (length (now nodes) ≤ 4096) × (length (now bases) ≡ 64) × ((p : ℕ) → p < 64 → getD (now bases) p 0 ≡ 0) ⌝ }
     ensures { λ _. ⌜ Bases (now (nodes .entry)) (now (bases .exit)) ⌝ }
 {
@@ -47,7 +47,7 @@ fn page_bases(nodes: &[Record], bases: &mut [u32])
 }
 
 // The item of a cell at x and y, so many halves wide and high, on a row of a page.
-fn item(bases: &[u32], page: u32, row: u32, x: u32, y: u32, half_x: u32, half_y: u32) -> WorkRow
+pub fn item(bases: &[u32], page: u32, row: u32, x: u32, y: u32, half_x: u32, half_y: u32) -> WorkRow
     requires { ⌜ (page < length (now bases)) × (getD (now bases) page 0 + row ≤ 4096) ⌝ }
     requires { ⌜ (x + 2 * «half_x» < 4294967296) × (y + 2 * «half_y» < 4294967296) ⌝ }
     ensures { λ r. ⌜ (cellIn r ≡ record { x0 = x; x1 = x + 2 * «half_x»; y0 = y; y1 = y + 2 * «half_y» }) × (getD r 6 0 ≡ getD (now (bases .entry)) page 0 + row) ⌝ }
@@ -58,7 +58,7 @@ fn item(bases: &[u32], page: u32, row: u32, x: u32, y: u32, half_x: u32, half_y:
 }
 
 // What is no item has the key that does not come.
-fn no_item(last: usize) -> WorkRow
+pub fn no_item(last: usize) -> WorkRow
     requires { ⌜ last ≤ 4096 ⌝ }
     ensures { λ r. ⌜ getD r 6 0 ≡ last ⌝ }
 {
@@ -98,7 +98,7 @@ fn asked_item(asks: u32, page: u32, row: u32, x: u32, y: u32, bases: &[u32], las
     no_item(last)
 }
 
-fn fill_bricks(nodes: &[Record], facts: &[WorkRow], bases: &[u32], items: &mut [WorkRow])
+pub fn fill_bricks(nodes: &[Record], facts: &[WorkRow], bases: &[u32], items: &mut [WorkRow])
     requires { ⌜ BricksAskable (now nodes) (now facts) ⌝ }
     requires { ⌜ Bases (now nodes) (now bases) × (length (now nodes) ≤ length (now items)) ⌝ }
     ensures { λ _. ⌜ ((i : ℕ) → i < length (now (nodes .entry)) → BrickItem (now (nodes .entry)) (now (facts .entry)) (now (items .exit)) i) ⌝ }

@@ -1,15 +1,13 @@
 -- What the corner pass asks for, of the bus that `lay_bus` leaves in the buffers: it finds its rows, its suppressed ports and its room.
-use Prim.Native.Nat.{ℕ, zero, suc, _+_, _-_, _*_, _≤_, _<_}
+use Prim.Native.Nat.{ℕ, suc, _+_, _-_, _*_, _≤_, _<_}
 use native.Mathlib.Omega.{arith}
 use mathlib.Core.Path.{_≡_, refl, sym, ap, _∙_, subst}
-use mathlib.Core.Bool.{Bool, true, false, _&&_}
+use mathlib.Core.Bool.{Bool, true, false}
 use mathlib.Core.List.{List, [], _∷_, _++_, map, reverse, List·Memᴰ, List·Memᴰ·head, List·Memᴰ·tail}
-use lib.Dec.{leb}
-use lib.ListN.{length, getD, set, take, drop, length-set, length-append, length-map, length-drop}
+use lib.ListN.{length, drop, length-set, length-append, length-map, length-drop}
 use lib.Seq.{drop-append-add, drop-drop}
 use borrow.Author.Tests.{le-leb}
-use Rattle.sheet.specs.Table.{libraryMost}
-use Rattle.base.specs.Lists.{any, keep}
+use Rattle.base.specs.Lists.{any}
 use Rattle.board.specs.Board.{Board}
 use Rattle.board.specs.Accepted.{Accepted}
 use Rattle.board.specs.Demands.{PageLanes, planned, planLanes}
@@ -17,18 +15,16 @@ use Rattle.base.specs.Views.{view}
 use Rattle.base.proofs.Bools.{clash}
 use Rattle.base.proofs.Lists.{count-none, none-counted, count-reverse, byTest}
 use Rattle.base.proofs.Views.{view-take}
-use Rattle.routes.specs.Bus.{Bus, Rerouter, BusWire, Port, insertPort, place, deliver, samePort, portOf, muted}
+use Rattle.routes.specs.Bus.{Bus, Rerouter, Port, insertPort, samePort, portOf, muted}
 use Rattle.routes.specs.Buffers.{rerouterRow, wireRow, portRow, portIn, portsHeld}
 use Rattle.routes.specs.Tables.{writtenOver}
-use Rattle.routes_cells.specs.Chains.{Fits, RowsOf, CellRows}
-use Rattle.routes_cells.proofs.Placing.{rows-more}
 use Rattle.routes.specs.Corners.{turnable, corners}
 use Rattle.routes.specs.Plan.{busOf, finished}
-use Rattle.routes.specs.Holding.{BusHeld}
 use Rattle.routes.specs.Route.{Room}
 use Rattle.routes.proofs.Room.{room-to-turn, room-finished}
-use Rattle.routes_corners.specs.Handed.{Mutes, Handed}
+use Rattle.routes_corners.specs.Handed.{Mutes, Fits, CellRows, Handed}
 use Rattle.routes_corners.specs.Turning.{hasRoom}
+use Rattle.routes_corners.proofs.HandedLaws.{cells-more}
 use Rattle.routes_ports.specs.Ports.{targets, suppress, portsSet}
 use Rattle.routes_ports.specs.Settling.{portsOver, portLess}
 use Rattle.routes_ports.proofs.SetLaws.{set-again}
@@ -50,7 +46,7 @@ cells-written : (l : List Rerouter) (old : List (List ℕ)) → length l ≤ len
 cells-written [] old h fit = tt
 cells-written (k ∷ l) old h fit =
     let room : length l < length (writtenOver rerouterRow l old) = let e = length-written rerouterRow l old in omega arith in
-    rows-more Fits l (writtenOver rerouterRow l old) k (length l) refl room (fit k (List·Memᴰ·head refl)) (cells-written l old (omega arith) (λ x m. fit x (List·Memᴰ·tail m)))
+    cells-more l (writtenOver rerouterRow l old) k room (fit k (List·Memᴰ·head refl)) (cells-written l old (omega arith) (λ x m. fit x (List·Memᴰ·tail m)))
 
 -- The corner pass leaves the rerouters that there were.
 pub record Longer (bus later : Bus) : Type 0 where

@@ -1,55 +1,63 @@
 -- From the tables that planning leaves to what the corner pass asks for.
 use Prim.Native.Nat.{ℕ, _+_, _*_, _≤_, _<_}
 use native.Mathlib.Omega.{arith}
-use mathlib.Core.Path.{_≡_, refl}
+use mathlib.Core.Path.{_≡_}
 use mathlib.Core.Bool.{true}
 use mathlib.Core.List.{List}
 use lib.ListN.{length}
 use Rattle.sheet.specs.declared.Counts.{Counts}
-use Rattle.sheet.specs.Table.{MISSING, HALF_MOST}
-use Rattle.board.specs.Board.{Board, field}
-use Rattle.board.specs.Rows.{turned, sizeX, brickCell}
+use Rattle.sheet.specs.Table.{HALF_MOST}
+use Rattle.board.specs.Board.{Board, field, hasRow}
+use Rattle.board.specs.Rows.{turned, sizeX, sizeY, brickCell}
 use Rattle.board.specs.Planning.{records}
-use Rattle.board.specs.Accepted.{Accepted}
-use Rattle.board.specs.Tables.{NodeFacts}
+use Rattle.board.specs.Accepted.{Accepted, Y_HIGH}
+use Rattle.board.specs.Tables.{NodeFacts, nodesAlone}
 use Rattle.board.specs.Walk.{countsIn}
 use Rattle.base.proofs.Lists.{byTest}
 use Rattle.board_plan.specs.declared.Lent.{Lent}
 use Rattle.board_plan.specs.TextPlan.{fitsLent, FactsHold}
 use Rattle.board_plan.proofs.Fitting.{fits-all}
-use Rattle.routes_cells.specs.Chains.{boardWith}
-use Rattle.routes_corners.specs.Turning.{BoardFits}
-use Rattle.routes_corners.proofs.TurnLaws.{on-page}
-use Rattle.board.proofs.Reach.{end-most}
-use Rattle.routes_gutter.specs.Bus.{BusLent}
+use Rattle.board.proofs.Reach.{REACH_MOST, end-most}
 use Rattle.routes.specs.declared.bus.BusCounts.{BusCounts}
+use Rattle.routes_beside.specs.Beside.{BrickInRange}
+use Rattle.routes_corners.specs.Turning.{InEdge, BoardFits}
+use Rattle.routes_gutter.specs.Bus.{BusLent}
+use Rattle.routes_gutter.proofs.Askable.{page-small, row-there}
 use Rattle.routes_calls.specs.Turn.{TurnReady}
 
--- A brick's cell needs the nodes alone.
-cell-end : (b : Board) (i : ℕ) → brickCell b i .x1 < MISSING → brickCell (boardWith (b .nodes)) i .x1 < MISSING
-unfolding brickCell
-cell-end b i h = h
-
--- S11: by the greatest half size no brick's cell is wider.
-cell-wide : (b : Board) → Accepted b → (i : ℕ) → brickCell (boardWith (b .nodes)) i .x1 ≤ field (b .nodes) i 8 + 2000
-unfolding brickCell
-cell-wide b r i =
-    let half : sizeX b i ≤ 2 * HALF_MOST = byTest (λ n. 2 * n ≤ 2 * HALF_MOST) (turned b i) (λ e. omega (arith, r .halfY i)) (λ e. omega (arith, r .halfX i)) in
-    omega arith
-
 module _ (b : Board) (a : Accepted b) where
+  -- S11: by the greatest half size no brick's cell is wider or higher.
+  brick-sizes : (i : ℕ) → (sizeX b i ≤ 2 * HALF_MOST) × (sizeY b i ≤ 2 * HALF_MOST)
+  brick-sizes i = (
+    byTest (λ n. 2 * n ≤ 2 * HALF_MOST) (turned b i) (λ e. omega (arith, a .halfY i)) (λ e. omega (arith, a .halfX i)),
+    byTest (λ n. 2 * n ≤ 2 * HALF_MOST) (turned b i) (λ e. omega (arith, a .halfX i)) (λ e. omega (arith, a .halfY i)),
+  )
+
+  -- How far the cell of a node with a row reaches; it needs the nodes alone.
+  cell-ends : (i : ℕ) → hasRow b i ≡ true
+      → (brickCell (nodesAlone (b .nodes)) i .x1 ≤ REACH_MOST) × (brickCell (nodesAlone (b .nodes)) i .x1 ≤ field (b .nodes) i 8 + 2 * HALF_MOST) × (brickCell (nodesAlone (b .nodes)) i .y1 ≤ Y_HIGH + 2 * HALF_MOST)
+  unfolding brickCell
+  cell-ends i has = let y = a .y i (a .rowPlaced i has) in let size = brick-sizes i in (end-most b a i has, omega (arith, size), omega (arith, size))
+
+  brick-in-range : (facts : List (List ℕ)) → NodeFacts b facts → (i : ℕ) → i < length (b .nodes) → hasRow b i ≡ true → BrickInRange (b .nodes) facts i
+  brick-in-range facts known i h has =
+      let ends = cell-ends i has in
+      let row = row-there b a i h has in
+      let number = known .rows i h has in
+      record { page = page-small b a i h has; row = omega arith; endX = omega (arith, ends); endY = omega (arith, ends) }
+
+  in-edge : (i : ℕ) → hasRow b i ≡ true → InEdge (b .nodes) i
+  in-edge i has = let ends = cell-ends i has in let y = a .y i (a .rowPlaced i has) in record { low = omega (arith, ends); wide = ends .1; flat = omega arith }
+
   pub board-fits : (facts : List (List ℕ)) → NodeFacts b facts → length (b .nodes) ≤ length facts → length (b .wires) ≤ length facts
       → BoardFits (b .pages) (b .nodes) (b .wires) facts
   board-fits facts known nf wf =
-      let fp = a .fewPages in
-      let fn = a .fewNodes in
       record {
-        pagesFew = omega arith;
-        nodesFew = fn;
         wiresFew = a .fewWires;
-        factsLong = nf;
         endsLong = wf;
-        onPages = λ i h g. on-page b (b .pages) (b .nodes) facts refl known (omega arith) i h g (a .pageThere i h g) (cell-end b i (let e = end-most b a i g in omega arith)) (cell-wide b a i);
+        bricks = record { few = a .fewNodes; onFacts = nf; inRange = brick-in-range facts known };
+        onPages = a .pageThere;
+        inside = λ i h. in-edge i;
       }
 
 -- What a planned board finds lent.

@@ -20,7 +20,7 @@ pub record TurnReady (b : Board) (rows : List (List ℕ)) (counts : Counts) (fac
   pub fits : BoardFits (b .pages) (b .nodes) (b .wires) facts
   pub nodes-known : NodeFacts b facts
   pub wires-known : WireFacts b facts
-  pub lent : Lent (length (b .wires)) rerouters busWires ports marks held
+  pub lent : Lent (length (b .nodes)) (length (b .wires)) rerouters busWires ports marks held
 
 -- A board of an accepted sheet with its facts: what tells which wires may turn.
 pub record RowsKnown (b : Board) (rows : List (List ℕ)) (counts : Counts) (facts : List (List ℕ)) : Type 0 where

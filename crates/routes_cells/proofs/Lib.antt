@@ -1,4 +1,3 @@
 pub mod Asking
-pub mod Placing
 pub mod RowTests
 pub mod Walks

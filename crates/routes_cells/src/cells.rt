@@ -1,32 +1,12 @@
-// Claims, and what the corner pass asks for: the stops, the board's bricks and the rerouters are each chained by bucket, so that no crowded row or tall lane
-// makes a question slow.
-use base::numbers::MISSING;
+// Claims on spans of the lanes' columns: the stops are chained by bucket, so that no tall lane makes a question slow.
 use base::numbers::ORIGIN;
-use base::rows::Record;
-use base::rows::RerouterRow;
 use base::rows::WorkRow;
 ghost use mathlib.Core.Path.{_≡_};
-ghost use mathlib.Core.Bool.{true, false};
-ghost use Prim.Native.Nat.{suc, _+_, _*_, _<_, _≤_};
+ghost use Prim.Native.Nat.{suc, _<_, _≤_};
 ghost use lib.ListN.{length, getD, set};
-ghost use Rattle.board.specs.Rows.{brickCell};
 ghost use Rattle.routes.specs.Stops.{near as nearTo};
 ghost use Rattle.routes.specs.Buffers.{inward as inwardOf};
-ghost use Rattle.routes_cells.specs.Chains.{cellOf, bucketOf, rerouterBucket, stopBucket, nodeBucket, stopClaims, boardWith, Walkable, inBucket, nearBuckets, Empty};
-
-// A cell, half-open; of 64 bits, so that no end wraps.
-pub struct Cell {
-    pub x0: u64,
-    pub x1: u64,
-    pub y0: u64,
-    pub y1: u64,
-}
-
-// What is asked of the rerouters: a head or link near x in a lane's column, or a cell beside a row that overlaps that of a rerouter at x, y.
-pub enum Wanted {
-    Column { page: u32, lane: u32, x: u32 },
-    Beside { page: u32, row: u32, x: u32, y: u32 },
-}
+ghost use Rattle.routes_cells.specs.Chains.{bucketOf, halfOf, stopBucket, stopClaims, Walkable, inBucket, nearBuckets, Empty};
 
 const BUCKETS: u64 = 8192;
 
@@ -55,7 +35,7 @@ pub fn bucket(page: u32, key: u32, half: u64) -> usize
 
 // The bucket of a coordinate's own half.
 fn bucket_at(page: u32, key: u32, c: u32) -> usize
-    ensures { λ r. ⌜ r ≡ bucketOf page key (Rattle.routes_cells.specs.Chains.halfOf c) ⌝ }
+    ensures { λ r. ⌜ r ≡ bucketOf page key (halfOf c) ⌝ }
 {
     bucket(page, key, (c as u64 + 2) / 2)
 }
@@ -67,19 +47,6 @@ pub fn chain(nexts: &mut [u32], heads: &mut [u32], k: usize, n: usize)
 {
     nexts[n] = heads[k];
     heads[k] = (n + 1) as u32;
-}
-
-fn rerouter_bucket(rerouters: &[RerouterRow], i: usize) -> usize
-    requires { ⌜ i < length (now rerouters) ⌝ }
-    ensures { λ r. ⌜ r ≡ rerouterBucket (now (rerouters .entry)) i ⌝ }
-{
-    let page = rerouters[i][7];
-    let row = rerouters[i][9];
-    if row == MISSING {
-        let lane = rerouters[i][8];
-        return bucket_at(page, lane, inward(rerouters[i][0]));
-    }
-    bucket_at(page, row, inward(rerouters[i][1]))
 }
 
 // Whether a stop's own level claims a span that is near x in the lane's column.
@@ -154,35 +121,6 @@ pub fn claim_near(
     )
 }
 
-fn cell_of_size(x: u32, y: u32, half_x: u32, half_y: u32) -> Cell
-    ensures { λ r. ⌜ cellOf r ≡ record { x0 = x; x1 = x + 2 * «half_x»; y0 = y; y1 = y + 2 * «half_y» } ⌝ }
-{
-    let left = x as u64;
-    let low = y as u64;
-    Cell {
-        x0: left,
-        x1: left + 2 * half_x as u64,
-        y0: low,
-        y1: low + 2 * half_y as u64,
-    }
-}
-
-// C3: a brick's cell.
-pub fn brick_cell(nodes: &[Record], i: usize) -> Cell
-    requires { ⌜ i < length (now nodes) ⌝ }
-    ensures { λ r. ⌜ cellOf r ≡ brickCell (boardWith (now (nodes .entry))) i ⌝ }
-{
-    let half_x = nodes[i][5];
-    let half_y = nodes[i][6];
-    let rotation = nodes[i][7];
-    let x = nodes[i][8];
-    let y = nodes[i][9];
-    if (rotation == 1) | (rotation == 3) {
-        return cell_of_size(x, y, half_y, half_x);
-    }
-    cell_of_size(x, y, half_x, half_y)
-}
-
 // Chains that hold nothing yet.
 pub fn empty_heads(heads: &mut [u32])
     requires { ⌜ 8192 ≤ length (now heads) ⌝ }
@@ -192,20 +130,6 @@ pub fn empty_heads(heads: &mut [u32])
     while k < 8192 {
         heads[k] = 0;
         k += 1;
-    }
-}
-
-// The board's bricks, chained by page and row.
-pub fn book_nodes(nodes: &[Record], facts: &[WorkRow], nexts: &mut [u32], heads: &mut [u32])
-    requires { ⌜ Empty (now heads) ⌝ }
-    requires { ⌜ (length (now nodes) ≤ length (now facts)) × (length (now nodes) ≤ length (now nexts)) × (length (now nodes) < 4294967295) ⌝ }
-    ensures { λ _. ⌜ Walkable (nodeBucket (now (nodes .entry)) (now (facts .entry))) (length (now (facts .entry))) (now (nexts .exit)) (now (heads .exit)) (length (now (nodes .entry))) ⌝ }
-{
-    let mut i: usize = 0;
-    while i < nodes.len() {
-        let k = bucket(nodes[i][10], facts[i][0], 0);
-        chain(nexts, heads, k, i);
-        i += 1;
     }
 }
 
@@ -221,14 +145,4 @@ pub fn book_claims(stops: &[WorkRow], n: usize, nexts: &mut [u32], heads: &mut [
         chain(nexts, heads, k, i);
         i += 1;
     }
-}
-
-// The rerouter just written, chained.
-pub fn book_rerouter(rerouters: &[RerouterRow], nexts: &mut [u32], heads: &mut [u32], n: usize)
-    requires { ⌜ Walkable (rerouterBucket (now rerouters)) (length (now rerouters)) (now nexts) (now heads) n ⌝ }
-    requires { ⌜ (n < length (now rerouters)) × (n < length (now nexts)) × (n < 4294967295) ⌝ }
-    ensures { λ _. ⌜ Walkable (rerouterBucket (now (rerouters .entry))) (length (now (rerouters .entry))) (now (nexts .exit)) (now (heads .exit)) (suc n) ⌝ }
-{
-    let k = rerouter_bucket(rerouters, n);
-    chain(nexts, heads, k, n);
 }

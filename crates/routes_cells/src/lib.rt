@@ -1,3 +1,2 @@
-// Claims, bricks and rerouters chained by bucket, and rerouters placed there.
+// Claims on the lanes' columns, chained by bucket.
 pub mod cells;
-pub mod place;

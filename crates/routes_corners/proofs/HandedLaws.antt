@@ -1,26 +1,23 @@
 -- The bus that buffers hold: its rows are the buffers' rows, and its suppressed ports are those handed in.
 use Prim.Native.Nat.{ℕ, zero, suc, _≤_, _<_}
-use mathlib.Core.Path.{_≡_, refl, ap, sym, subst, _∙_}
+use mathlib.Core.Path.{_≡_, refl, ap, sym, _∙_}
 use mathlib.Core.Bool.{Bool, true, false, _&&_, _||_}
-use mathlib.Core.List.{List, [], _∷_, _++_}
+use mathlib.Core.List.{List, [], _∷_}
 use native.Mathlib.Omega.{arith}
-use lib.Dec.{eqb}
+use lib.Dec.{eqb, ltb}
 use lib.ListN.{length, getD, set}
-use lib.Seq.{set-getD}
-use borrow.Author.Tests.{eqb-true, eqb-false}
-use Rattle.sheet.specs.Table.{MISSING}
+use lib.Seq.{getD-set-same, getD-set-other}
+use borrow.Author.Tests.{eqb-true}
 use Rattle.board.specs.Board.{Board}
 use Rattle.base.specs.Lists.{any}
 use Rattle.base.specs.Views.{view}
-use Rattle.base.proofs.Lists.{same-two}
+use Rattle.base.proofs.Bools.{and-left, and-right}
 use Rattle.base.proofs.Views.{length-view}
-use Rattle.routes.specs.Bus.{End, port, rerouter, Carries, onward, delivery, Port, samePort, portOf, muted}
-use Rattle.routes.specs.Buffers.{rerouterRow, wireRow, inward, rerouterIn, wireIn, portIn, Row, Rows}
+use Rattle.routes.specs.Bus.{Rerouter, Port, insertPort, samePort, portOf, muted}
+use Rattle.routes.specs.Buffers.{rerouterRow, wireRow, inward, rerouterIn, wireIn, portIn, Rows}
 use Rattle.routes.proofs.Rows.{rerouter-row, wire-row, written-own}
-use Rattle.routes_cells.specs.Chains.{CellRows}
 use Rattle.routes.specs.declared.bus.BusCounts.{BusCounts}
-use Rattle.routes_corners.specs.Handed.{portsIn, busIn, Mutes, Handed}
-use Rattle.routes_corners.proofs.CornerLaws.{port-in}
+use Rattle.routes_corners.specs.Handed.{portsIn, busIn, Mutes, Fits, CellRows, Handed}
 
 inward-fits : (c : ℕ) → inward c < 4294967296
 inward-fits c = omega arith
@@ -32,6 +29,42 @@ cells-own table (suc n) rows = (
   record { xFits = inward-fits (getD (getD table n []) 0 0); yFits = inward-fits (getD (getD table n []) 1 0) },
   cells-own table n (λ i h. rows i (omega arith)),
 )
+
+-- One rerouter more: its row is written behind those that there are.
+cells-kept : (l : List Rerouter) (table : List (List ℕ)) (n : ℕ) (row : List ℕ) → length l ≤ n → CellRows l table → CellRows l (set table n row)
+cells-kept [] table n row h rows = tt
+cells-kept (k ∷ l) table n row h rows = (getD-set-other table n (length l) row [] (λ z. omega arith) ∙ rows .0, rows .1, cells-kept l table n row (omega arith) (rows .2))
+
+pub cells-more : (l : List Rerouter) (table : List (List ℕ)) (k : Rerouter) → length l < length table → Fits k → CellRows l table → CellRows (k ∷ l) (set table (length l) (rerouterRow k))
+cells-more l table k room fits rows = (getD-set-same table (length l) (rerouterRow k) [] room, fits, cells-kept l table (length l) (rerouterRow k) (omega arith) rows)
+
+-- A port put in is there, and others are there as before.
+or-swap : (s t r : Bool) → s || (t || r) ≡ t || (s || r)
+or-swap true true r = refl
+or-swap true false r = refl
+or-swap false t r = refl
+
+or-twice : (t r : Bool) → t || r ≡ t || (t || r)
+or-twice true r = refl
+or-twice false r = refl
+
+port-in : (s p : Port) (l : List Port) → any (samePort s) (insertPort p l) ≡ samePort s p || any (samePort s) l
+port-in s p [] = refl
+port-in s p (q ∷ l) =
+    go (ltb (p .node) (q .node) || (eqb (p .node) (q .node) && ltb (p .port) (q .port))) (samePort p q) refl (port-in s p l)
+  where
+    same : samePort p q ≡ true → samePort s p ≡ samePort s q
+    same e =
+        let nodes : p .node ≡ q .node = eqb-true (p .node) (q .node) (and-left (eqb (p .node) (q .node)) (eqb (p .port) (q .port)) e) in
+        let ports : p .port ≡ q .port = eqb-true (p .port) (q .port) (and-right (eqb (p .node) (q .node)) (eqb (p .port) (q .port)) e) in
+        λ i. eqb (s .node) (nodes i) && eqb (s .port) (ports i)
+
+    go : (less equal : Bool) → samePort p q ≡ equal → any (samePort s) (insertPort p l) ≡ samePort s p || any (samePort s) l
+        → any (samePort s) (elim less as (λ _. List Port) [ true ↦ p ∷ q ∷ l | false ↦ elim equal as (λ _. List Port) [ true ↦ q ∷ l | false ↦ q ∷ insertPort p l ] ])
+        ≡ samePort s p || (samePort s q || any (samePort s) l)
+    go true equal e below = refl
+    go false true e below = or-twice (samePort s q) (any (samePort s) l) ∙ ap (λ t. t || (samePort s q || any (samePort s) l)) (sym (same e))
+    go false false e below = ap (λ t. samePort s q || t) below ∙ or-swap (samePort s q) (samePort s p) (any (samePort s) l)
 
 -- A port is among those inserted exactly where it is among those handed in.
 ports-own : (s : Port) (rows : List (List ℕ)) (n : ℕ) → any (samePort s) (portsIn rows n) ≡ any (samePort s) (view portIn rows n)

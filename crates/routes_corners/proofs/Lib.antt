@@ -1,6 +1,9 @@
-pub mod Blocking
 pub mod CornerLaws
-pub mod CornerSteps
+pub mod Finding
 pub mod PortLaws
 pub mod HandedLaws
 pub mod TurnLaws
+pub mod Writing
+pub mod Listing
+pub mod Answering
+pub mod ByRows

@@ -1,14 +1,13 @@
 -- The bus that buffers hold, whatever numbers are in them.
 use Prim.Native.Nat.{ℕ, zero, suc, _<_}
 use mathlib.Core.Path.{_≡_}
-use mathlib.Core.List.{List, []}
+use mathlib.Core.List.{List, [], _∷_}
 use lib.ListN.{length, getD}
 use Rattle.board.specs.Board.{Board}
 use Rattle.base.specs.Lists.{any}
 use Rattle.base.specs.Views.{view}
-use Rattle.routes.specs.Bus.{Bus, Port, insertPort, samePort, portOf, muted}
-use Rattle.routes.specs.Buffers.{rerouterIn, wireIn, portIn}
-use Rattle.routes_cells.specs.Chains.{CellRows}
+use Rattle.routes.specs.Bus.{Rerouter, Bus, Port, insertPort, samePort, portOf, muted}
+use Rattle.routes.specs.Buffers.{rerouterRow, rerouterIn, wireIn, portIn}
 use Rattle.routes.specs.Holding.{BusHeld}
 use Rattle.routes.specs.declared.bus.BusCount.{BusCount}
 use Rattle.routes.specs.declared.bus.BusCounts.{BusCounts}
@@ -25,6 +24,16 @@ busIn rerouters busWires ports held =
 -- The suppressed ports of a bus are the first u handed in.
 abbrev pub Mutes : Board → Bus → List (List ℕ) → ℕ → Type 0
 Mutes b bus ports u = (w : ℕ) → w < length (b .wires) → muted b bus w ≡ any (samePort (portOf b w)) (view portIn ports u)
+
+-- A rerouter's coordinates are of 32 bits: so its row holds them.
+pub record Fits (k : Rerouter) : Type 0 where
+  pub xFits : k .x < 4294967296
+  pub yFits : k .y < 4294967296
+
+-- The table's rows are those of such rerouters.
+abbrev pub CellRows : List Rerouter → List (List ℕ) → Type 0
+CellRows [] table = Unit {0}
+CellRows (k ∷ l) table = (getD table (length l) [] ≡ rerouterRow k) × Fits k × CellRows l table
 
 -- The buffers hold a bus.
 pub record Handed (bus : Bus) (old oldWires rerouters busWires : List (List ℕ)) (count : BusCount) : Type 0 where

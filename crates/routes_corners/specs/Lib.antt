@@ -1,5 +1,7 @@
-pub mod Blocked
+pub mod Answering
 pub mod CornerTables
 pub mod Handed
+pub mod Listing
 pub mod Ports
 pub mod Turning
+pub mod Writing

@@ -1,5 +1,9 @@
+pub mod InTurn
 pub mod Again
+pub mod Blocking
 pub mod Cells
+pub mod Deciding
+pub mod EntryLaws
 pub mod Local
 pub mod Turns
 pub mod Typed

@@ -1,6 +1,6 @@
 -- A local array of cells: it is written by `[cell; n]`, is a row of cells from then on, and is room again when it is freed. Each law is for every n, so that no length is ever computed. Assumes `Given`.
 use mathlib.Core.Path.{_≡_, refl}
-use Prim.Native.Nat.{ℕ, zero, suc}
+use Prim.Native.Nat.{ℕ, zero, suc, _≤_}
 use native.Mathlib.Omega.{arith}
 use mathlib.Core.List.{List, [], _∷_}
 use lib.Dec.{T}
@@ -34,8 +34,8 @@ use Rattle.routes_rows.proofs.Typed.{R, cellTy, mach, Good, makes, copy
 pub big : {M : Type 1} {𝓤 : URA M} {H : Heap 𝓤} {A : Atoms 𝓤} {K : Type 0} {W : Given 𝓤 H A} {Γ : List (Item 𝓤)} {E : Env 𝓤 H} → K → {w : Width} {n : ℕ} → Fits w n → Opd K W Γ E (intBig w n) (vint w n)
 big {𝓤 = 𝓤} t {w} {n} z = record { go = λ Kt h. via 𝓤 (Kt (vint w n)) h (guardI 𝓤 (Fits w n) (Kt (vint w n)) z) }
 
--- 20,480 cells have room
-pub roomy : (n : ℕ) → n ≡ 20480 → Room R n
+-- so few cells have room
+pub roomy : (n : ℕ) → n ≤ 20480 → Room R n
 roomy n e = (omega (arith, e), omega (arith, e))
 
 each-good : (d : Cell) → Good d → (n : ℕ) → shadow (each Cell (R .own) (replicate n d) (replicate n (mach d)))

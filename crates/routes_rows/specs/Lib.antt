@@ -1,1 +1,4 @@
+pub mod Blocked
 pub mod Booking
+pub mod Entries
+pub mod Turning

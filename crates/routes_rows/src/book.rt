@@ -2,6 +2,7 @@
 // where it is clear of them.
 use base::rows::WorkRow;
 ghost use mathlib.Core.Path.{_≡_};
+ghost use mathlib.Core.Bool.{true, false};
 ghost use Prim.Native.Nat.{ℕ, _<_, _≤_};
 ghost use lib.Dec.{ltb};
 ghost use lib.ListN.{length, set};
@@ -28,7 +29,7 @@ pub fn cells_overlap(a: Cell, b: Cell) -> bool
 }
 
 // The cell of the item that comes p-th.
-fn item_cell(items: &[WorkRow], p: usize) -> Cell
+pub fn item_cell(items: &[WorkRow], p: usize) -> Cell
     requires { ⌜ (p < length (now items)) × (orderAt (now items) p < length (now items)) ⌝ }
     ensures { λ r. ⌜ cellOf r ≡ itemCell (now (items .entry)) (orderAt (now (items .entry)) p) ⌝ }
 {
@@ -55,7 +56,7 @@ fn begins(items: &[WorkRow], p: usize) -> bool
 }
 
 // How many cells stand on the row before the item that comes p-th, where n stood on the row of the one before it: none where a row begins.
-fn count_before(items: &[WorkRow], p: usize, n: usize) -> usize
+pub fn count_before(items: &[WorkRow], p: usize, n: usize) -> usize
     requires { ⌜ (p < length (now items)) × ((q : ℕ) → q ≤ p → orderAt (now items) q < length (now items)) ⌝ }
     ensures { λ r. ⌜ r ≡ unless (beginsRow (now (items .entry)) p) n ⌝ }
 {
@@ -66,7 +67,7 @@ fn count_before(items: &[WorkRow], p: usize, n: usize) -> usize
 }
 
 // How many of the n cells before it the item that comes p-th is held to: a brick to none.
-fn count_tested(items: &[WorkRow], p: usize, bricks: usize, n: usize) -> usize
+pub fn count_tested(items: &[WorkRow], p: usize, bricks: usize, n: usize) -> usize
     requires { ⌜ (p < length (now items)) × (orderAt (now items) p < length (now items)) ⌝ }
     ensures { λ r. ⌜ r ≡ unless (ltb (orderAt (now (items .entry)) p) bricks) n ⌝ }
 {
@@ -93,9 +94,9 @@ fn is_clear(cells: &[Cell], n: usize, c: Cell) -> bool
 }
 
 // A cell is written behind the first n, where it is to be.
-fn append(cells: &mut [Cell], n: usize, c: Cell, yes: bool)
-    requires { ⌜ n < length (now cells) ⌝ }
-    ensures { λ _. ⌜ (length (now (cells .exit)) ≡ length (now (cells .entry))) × (firstCells (now (cells .exit)) (countAfter yes n) ≡ book yes (cellOf c) (firstCells (now (cells .entry)) n)) ⌝ }
+pub fn append(cells: &mut [Cell], n: usize, c: Cell, yes: bool)
+    requires { ⌜ (yes ≡ true → n < length (now cells)) ⌝ }
+    ensures { λ _. ⌜ (length (now (cells .exit)) ≡ length (now (cells .entry))) × (firstCells (now (cells .exit)) (countAfter yes n) ≡ book yes (cellOf c) (firstCells (now (cells .entry)) n)) × (yes ≡ false → now (cells .exit) ≡ now (cells .entry)) ⌝ }
 {
     if yes {
         cells[n] = c;

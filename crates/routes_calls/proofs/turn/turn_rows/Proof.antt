@@ -59,7 +59,7 @@ turn-corners-requires : tie.Need-turn-corners-requires
 turn-corners-requires c κs =
     let s = c .before .before .before .before .before .before .before .before .before .before .before in
     let k = known s in
-    (rw (k .pages, k .nodes, k .wires) (s .pre .1 .fits), rw (k .wires) (s .pre .1 .lent))
+    (rw (k .pages, k .nodes, k .wires) (s .pre .1 .fits), rw (k .nodes, k .wires) (s .pre .1 .lent))
 
 same-length : tie.Need-same-length
 same-length c = search needs

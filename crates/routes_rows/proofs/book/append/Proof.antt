@@ -39,6 +39,7 @@ use denote.Triple.Spec.{Meets, tripleOf}
 use denote.Triple.Table.{entered}
 use denote.Triple.Walked.{says, needs, Stays, stay-slice, stay-none, walkOf, Walks, ends-at, walked, goes-slice, goes-none, walk-meets}
 use denote.Exit.{yes}
+use Rattle.base.proofs.Bools.{clash}
 use Rattle.routes_rows.specs.Booking.{cellOf, book, noCell, firstCells, countAfter}
 use Rattle.routes_rows.specs.declared.book.Cell.{Cell}
 use Rattle.routes_rows.proofs.Cells.{appended}
@@ -51,15 +52,19 @@ use Rattle.routes_rows.proofs.book.append.Code.Mir as parts
 
 -- what is said of the last list
 abbrev Said : List Cell → ℕ → Cell → Bool → List Cell → Type 0
-Said ys n c t zs = (length zs ≡ length ys) × (firstCells zs (countAfter t n) ≡ book t (cellOf c) (firstCells ys n))
+Said ys n c t zs = (length zs ≡ length ys) × (firstCells zs (countAfter t n) ≡ book t (cellOf c) (firstCells ys n)) × (t ≡ false → zs ≡ ys)
+
+is-true : (t : Bool) → T t → t ≡ true
+is-true true _ = refl
+is-true false h = absurd h
 
 written : (ys : List Cell) (n : ℕ) (c : Cell) (t : Bool) → n < length ys → T t → Said ys n c t (set ys n c)
-written ys n c true l _ = (length-set ys n c, appended ys n c l)
+written ys n c true l _ = (length-set ys n c, appended ys n c l, λ e. clash refl e)
 written ys n c false l h = absurd h
 
 left : (ys : List Cell) (n : ℕ) (c : Cell) (t : Bool) → T (not t) → Said ys n c t ys
 left ys n c true h = absurd h
-left ys n c false _ = (refl, refl)
+left ys n c false _ = (refl, refl, λ _. refl)
 
 abbrev Arg : Type 0
 Arg = RefT (List Cell) × (ℕ × (Cell × (Bool × Unit {0})))
@@ -98,7 +103,7 @@ module _ {M : Type 1} (𝓤 : URA M) (H : Heap 𝓤) (A : Atoms 𝓤) (W : Given
       frame ! $ fjoin ! $ pureI ! (at-slice R (at-list zs) (at .0)) (tt, (tt, tt)) (ap (λ (m : ℕ). sliceVal (b, o) m ∷ []) (sym (said .0)), subst (Room R) (sym (said .0)) gn) $ fjoin ! $ fjoin ! $ frame ! $
       feqI ! (List Val) (vunit ∷ []) (vunit ∷ []) refl $ done !
 
-  module _ (C : Calls 𝓤 H) (Λ : Loops 𝓤 H) (gn : Room R (length ys)) (gi : n < 2 ^ 64) (is : Good c) (l : n < length ys) where
+  module _ (C : Calls 𝓤 H) (Λ : Loops 𝓤 H) (gn : Room R (length ys)) (gi : n < 2 ^ 64) (is : Good c) (asked : t ≡ true → n < length ys) where
     module _ (l₀ l₁ l₂ l₃ l₄ l₅ l₆ l₇ : ℕ) where
       abbrev En : Env 𝓤 H
       En = (tyUnit, l₀) ∷ (mutTy (named 0), l₁) ∷ (tyInt w64, l₂) ∷ (cellTy, l₃) ∷ (tyBool, l₄) ∷ (tyBool, l₅) ∷ (tyInt w64, l₆) ∷ (tyPtr, l₇) ∷ []
@@ -118,8 +123,8 @@ module _ {M : Type 1} (𝓤 : URA M) (H : Heap 𝓤) (A : Atoms 𝓤) (W : Given
           move ! (18 ∷ 19 ∷ []) $ free1 ! $ move ! (16 ∷ 17 ∷ []) $ free1 ! $ move ! (14 ∷ 15 ∷ []) $ free1 ! $ move ! (12 ∷ 13 ∷ []) $ free1 ! $ move ! (10 ∷ 11 ∷ []) $ free1 ! $ move ! (8 ∷ 9 ∷ []) $ free1 ! $ move ! (6 ∷ 7 ∷ []) $ free1 ! $ move ! (4 ∷ 5 ∷ []) $ free1 ! $ free0 ! $
           by ! (exits zs gn said)
 
-    bytes : n * 16 < 2 ^ 64
-    bytes = let h : length ys * 16 < 2 ^ 63 = gn .1 in omega (arith, h, l)
+    bytes : n < length ys → n * 16 < 2 ^ 64
+    bytes l = let h : length ys * 16 < 2 ^ 63 = gn .1 in omega (arith, h, l)
 
     walk : ent 𝓤 (onEntry 𝓤 H A own.signature (κ, tt) (q, tt) x at) (WpFn 𝓤 H C Λ code.function (sliceVal (b, o) (length ys) ∷ vint w64 n ∷ mach c ∷ vbool t ∷ []) Post)
     walk =
@@ -131,8 +136,8 @@ module _ {M : Type 1} (𝓤 : URA M) (H : Heap 𝓤) (A : Atoms 𝓤) (W : Given
         move ! (16 ∷ 17 ∷ []) $ split ! $ move ! (2 ∷ []) $ fsplit ! $ fsplit ! $ drop ! $ fsplit ! $ move ! (0 ∷ 1 ∷ 3 ∷ 2 ∷ 4 ∷ []) $ move ! (4 ∷ []) $ drop ! $
         -- [obs; the borrow; the token; the others; _7; …; _6; …; _5; …; _4; …; _3; …; _2; …; _1; …; room for _0; …]
         first ! $ branches ! (load ! (from ! (stop !)) (look ! 8 refl))
-        (λ held.
-        assigns ! (bin ! (load ! (from ! (stop !)) (look ! 14 refl)) (lit ! tt) (record { fits = bytes })) (from ! (stop !)) (init ! 6 refl (tt, record { fits = bytes })) $
+        (λ held. let l : n < length ys = asked (is-true t held) in
+        assigns ! (bin ! (load ! (from ! (stop !)) (look ! 14 refl)) (lit ! tt) (record { fits = bytes l })) (from ! (stop !)) (init ! 6 refl (tt, record { fits = bytes l })) $
         assigns ! (bin ! (load ! (from ! (fld ! refl (stop !))) (look-in ! 16 (sub ! 0 refl (whole !)))) (load ! (from ! (stop !)) (look ! 6 refl)) tt) (from ! (stop !)) (init ! 4 refl (tt, tt)) $
         rewrite ! 4 (λ (p : ℕ). ‵ (fat fullShare tyPtr l₇ 0 (vptr b p))) (sym (place-is 16 o n)) refl $
         opens-slice ! tt R ys b o $ elem-out ! R (Is R) (seen 𝓤 H A) vals tells fullShare ys n noCell b o l (λ _.
@@ -147,7 +152,7 @@ module _ {M : Type 1} (𝓤 : URA M) (H : Heap 𝓤) (A : Atoms 𝓤) (W : Given
 module _ {M : Type 1} (𝓤 : URA M) (H : Heap 𝓤) (A : Atoms 𝓤) (W : Given 𝓤 H A) (at-mem : Memory → SProp 𝓤) (run : Routine → Fun 𝓤) where
   append-walks : (C : Calls 𝓤 H) (Λ : Loops 𝓤 H) → Walks 𝓤 H A own.ended stayed (WpFn 𝓤 H C Λ code.function) (own.clauses 𝓤 H A at-mem run)
   append-walks C Λ = walked 𝓤 H A own.ended stayed (own.clauses 𝓤 H A at-mem run) (WpFn 𝓤 H C Λ code.function) (λ κs. (slice-vals, (uint-vals w64, (vals, (bool-vals, tt))))) (λ κs. (mut-slice-tells (named 0) (κs .0) R, (uint-tells w64, (tells, (bool-tells, tt)))))
-      (λ κs qs bounds a g are. needs 𝓤 (a .1 .0 < length (now (a .0))) _
+      (λ κs qs bounds a g are. needs 𝓤 (a .1 .1 .1 .0 ≡ true → a .1 .0 < length (now (a .0))) _
       (walk 𝓤 H A W at-mem run (κs .0) (qs .0) (a .0 .ptr .0) (a .0 .ptr .1) (a .0 .name) (a .0 .now) (a .1 .0) (a .1 .1 .0) (a .1 .1 .1 .0) C Λ (are .0 .0 .1) (are .1 .0 .1) (are .1 .1 .0)))
 
 append-meets : {M : Type 1} (𝓤 : URA M) (H : Heap 𝓤) (A : Atoms 𝓤) → Given 𝓤 H A → (at-mem : Memory → SProp 𝓤) (run : Routine → Fun 𝓤) (𝓣 : Tables 𝓤 H)

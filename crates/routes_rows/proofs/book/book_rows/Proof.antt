@@ -4,7 +4,7 @@
 use mathlib.Core.Path.{_≡_, refl, sym, _∙_, ap, subst}
 use Prim.Native.Nat.{ℕ, zero, suc, _+_, _-_, _<_, _≤_, _^_}
 use native.Mathlib.Omega.{arith}
-use mathlib.Core.Bool.{Bool}
+use mathlib.Core.Bool.{Bool, false}
 use mathlib.Core.List.{List, [], _∷_}
 use mathlib.Core.Logic.{_⊎_, inl, inr}
 use mathlib.Core.WellFounded.{WellFounded, InvImage·wf}
@@ -198,7 +198,7 @@ module _ {M : Type 1} (𝓤 : URA M) (H : Heap 𝓤) (A : Atoms 𝓤) (W : Given
   ClearOf cs n c t = t ≡ clearOf (firstCells cs n) (cellOf c)
 
   abbrev Appended : List Cell → ℕ → Cell → Bool → List Cell → Type 0
-  Appended cs n c t zs = (length zs ≡ length cs) × (firstCells zs (countAfter t n) ≡ book t (cellOf c) (firstCells cs n))
+  Appended cs n c t zs = (length zs ≡ length cs) × (firstCells zs (countAfter t n) ≡ book t (cellOf c) (firstCells cs n)) × (t ≡ false → zs ≡ cs)
 
   abbrev Noted : ℕ → List ℕ → ℕ → Bool → List ℕ → ℕ → Type 0
   Noted p fs n t gs r = (gs ≡ set fs (orderAt xs p) (flag t)) × (r ≡ countAfter t n)
@@ -249,7 +249,7 @@ module _ {M : Type 1} (𝓤 : URA M) (H : Heap 𝓤) (A : Atoms 𝓤) (W : Given
   goes-ap : (l α : ℕ) (γ : GName) (cs : List Cell) (n : ℕ) (c : Cell) (t : Bool) → n < 2 ^ 64 → Good c → n < length cs
       → ent 𝓤 (sep 𝓤 (A .lft (α ∷ []) fullShare) (sem 𝓤 H A (MutSlice (named 0) (α ∷ []) R .own (cells-at l γ cs) (cells-val l cs ∷ [])))) (AP 𝓤 H A at-mem run .pre (to-ap l α γ cs n c t))
   goes-ap l α γ cs n c t n-fits is asked =
-      qed W (‵ (flft (α ∷ []) fullShare) ∷ ‵ (MutSlice (named 0) (α ∷ []) R .own (cells-at l γ cs) (cells-val l cs ∷ [])) ∷ []) ∵ says ! asked $ nothing ! $ move ! (1 ∷ 0 ∷ []) $ join ! $
+      qed W (‵ (flft (α ∷ []) fullShare) ∷ ‵ (MutSlice (named 0) (α ∷ []) R .own (cells-at l γ cs) (cells-val l cs ∷ [])) ∷ []) ∵ says ! (λ _. asked) $ nothing ! $ move ! (1 ∷ 0 ∷ []) $ join ! $
       nothing ! $ owned ! bool (Is bool) (bool-makes 𝓤 H A W) t (vbool t ∷ []) refl $ fjoin ! $ owned ! R (Is R) (makes 𝓤 H A) c (mach c ∷ []) is $ fjoin ! $ owned ! usize (Is usize) (uint-makes 𝓤 H A W w64) n (vint w64 n ∷ []) (refl, n-fits) $ fjoin ! $ move ! (2 ∷ 0 ∷ []) $ fjoin ! $ move ! (1 ∷ 0 ∷ []) $ done !
 
   goes-nt : (p α : ℕ) (γ : GName) (fs : List ℕ) (n : ℕ) (t : Bool) → p < 2 ^ 64 → n < 2 ^ 64 → (p < length xs) × (orderAt xs p < length fs) × (n < 20480)
@@ -451,7 +451,7 @@ module _ {M : Type 1} (𝓤 : URA M) (H : Heap 𝓤) (A : Atoms 𝓤) (W : Given
           small = lit< tt
 
           room : Room R (length cs)
-          room = roomy (length cs) (b .room)
+          room = roomy (length cs) (let h : length cs ≡ 20480 = b .room in omega (arith, h))
 
           flags-room : Room u8 (length fs)
           flags-room = subst (Room u8) (sym (b .long)) gf

@@ -1,0 +1,466 @@
+-- A level found by what is booked, and what is known after so many items: what is read off the items and the answers is asked alike as what the definition has booked, the slice holds the first cells of the row at hand, and the answers
+-- are those of the definition. Assumes nothing.
+use Prim.Native.Nat.{ℕ, zero, suc, _+_, _-_, _*_, _≤_, _<_}
+use mathlib.Core.Path.{_≡_, refl, ap, ap₂, sym, subst, _∙_}
+use mathlib.Core.Bool.{Bool, true, false, not, _&&_, _||_}
+use mathlib.Core.List.{List, [], _∷_}
+use native.Mathlib.Omega.{arith}
+use native.Mathlib.Numerals.{add-one}
+use lib.Dec.{eqb, ltb, leb}
+use lib.ListN.{length, getD, set, length-set}
+use lib.Seq.{getD-set-same}
+use borrow.Author.Tests.{ne-eqb, ltb-true, ltb-false, lt-ltb, le-ltb}
+use Rattle.sheet.specs.Table.{MISSING}
+use Rattle.base.specs.Lists.{Found, none, at, any, keep}
+use Rattle.base.proofs.Bools.{never, either-right, pick-true, pick-false}
+use Rattle.board.specs.Rows
+use Rattle.board.specs.Rows.{cellsOverlap, rerouterCell}
+use Rattle.board.specs.Tables.{held}
+use Rattle.routes.specs.Levels.{levelsIn, lowest, lighter, lightest}
+use Rattle.routes_levels.specs.Laying.{levelAnswer}
+use Rattle.routes_levels.specs.declared.levels.Found.{Found as LevelFound}
+use Rattle.routes_levels.specs.declared.levels.Found.the-variants.{None, At}
+use Rattle.routes_levels.proofs.Searches.{found-at, found-none}
+use Rattle.routes_rows.specs.Booking.{cellOf, itemCell, orderAt, begins, book, noCell, firstCells, unless, countAfter}
+use Rattle.routes_rows.specs.Blocked.{countIn, levelNo, cornerCell, blocked, Blocks, cellsMeet, Spread, NoEnds, NoEndsPast}
+use Rattle.routes_rows.specs.Turning.{Entry, sinkX, sinkEnd, cornerY, sinkIn, classIn, clearAt, loadAt, ofClass, levelAt, bookCorner, bookItem, entriesOn, entriesAfter, answerIf, answersAfter}
+use Rattle.routes_rows.specs.Entries.{SLICE_MOST, inSlice, LEVELS_END, levelIn, cellEntry, blank, cornerBox, cornerEntry, entryFor, seen, rowBefore, spanOf, spanFor, BlockedBy, BlockedFor, levelBy, TellsClear, Askable, RowFits, Decidable, Decided, TurnsFit}
+use Rattle.routes_rows.specs.declared.book.Cell.{Cell}
+use Rattle.routes_rows.proofs.Blocking.{none-beyond, leb-not}
+use Rattle.routes_rows.proofs.EntryLaws.{row-kept}
+
+-- ---- a level that is found lies in the span
+lowest-within : (free : ℕ → Bool) (x n l : ℕ) → lowest free x n ≡ at l → (l + 2 ≤ x + 2 * n) × (0 < n)
+lowest-within free x zero l e = never cc
+lowest-within free x (suc n) l e = go (free x) e (lowest-within free (x + 2) n l)
+  where
+    go : (t : Bool) → elim t [ true ↦ at x | false ↦ lowest free (x + 2) n ] ≡ at l → (lowest free (x + 2) n ≡ at l → (l + 2 ≤ x + 2 + 2 * n) × (0 < n)) → (l + 2 ≤ x + 2 * suc n) × (0 < suc n)
+    go true q ih = let same : x ≡ l = cc in (omega (arith, same), omega arith)
+    go false q ih = let h = ih q .0 in (omega (arith, h), omega arith)
+
+lightest-within : (ok : ℕ → Bool) (load : ℕ → ℕ) (x n l : ℕ) → lightest ok load x n ≡ at l → (l + 2 ≤ x + 2 * n) × (0 < n)
+lightest-within ok load x zero l e = never cc
+lightest-within ok load x (suc n) l e = (go (ok x) (lightest ok load (x + 2) n) refl e (λ k q. lightest-within ok load (x + 2) n k q .0), omega arith)
+  where
+    Within : Type 0
+    Within = (k : ℕ) → lightest ok load (x + 2) n ≡ at k → k + 2 ≤ x + 2 + 2 * n
+
+    chosen : (k : ℕ) (t : Bool) → k + 2 ≤ x + 2 + 2 * n → elim t [ true ↦ at x | false ↦ at k ] ≡ at l → l + 2 ≤ x + 2 * suc n
+    chosen k true h q = let same : x ≡ l = cc in omega (arith, same)
+    chosen k false h q = let same : k ≡ l = cc in omega (arith, same, h)
+
+    best : (f : Found) → lightest ok load (x + 2) n ≡ f → lighter load x f ≡ at l → Within → l + 2 ≤ x + 2 * suc n
+    best none i q w = let same : x ≡ l = cc in omega (arith, same)
+    best (at k) i q w = chosen k (leb (load x) (load k)) (w k i) q
+
+    go : (t : Bool) (f : Found) → lightest ok load (x + 2) n ≡ f → elim t [ true ↦ lighter load x (lightest ok load (x + 2) n) | false ↦ lightest ok load (x + 2) n ] ≡ at l → Within → l + 2 ≤ x + 2 * suc n
+    go true f i q w = best f i (ap (lighter load x) (sym i) ∙ q) w
+    go false f i q w = let h = w l q in omega (arith, h)
+
+module _ (booked : List Entry) (span : Cell) (sink class : ℕ) where
+  abbrev low : Found
+  low = lowest (λ l. eqb (loadAt booked sink l) 0 && clearAt booked (span .y0) l) (span .x0) (countIn span)
+
+  abbrev light : Found
+  light = lightest (clearAt booked (span .y0)) (loadAt booked sink) (span .x0) (countIn span)
+
+  ways : (f : Found) → ofClass booked class ≡ false → low ≡ f → levelBy booked span sink class ≡ elim f [ at l ↦ at l | none ↦ light ]
+  unfolding levelBy
+  ways f o e = pick-false (ofClass booked class) none _ o ∙ (λ i. elim (e i) as (λ _. Found) [ at l ↦ at l | none ↦ light ])
+
+  taken : ofClass booked class ≡ true → levelBy booked span sink class ≡ none
+  unfolding levelBy
+  taken o = pick-true (ofClass booked class) none _ o
+
+  pub level-taken : {r : Bool} → r ≡ ofClass booked class → r ≡ true → None ≡ levelAnswer (levelBy booked span sink class)
+  level-taken is o = sym (ap levelAnswer (taken (sym is ∙ o)))
+
+  pub level-lowest : {r : Bool} {found : LevelFound} {l : ℕ} → r ≡ ofClass booked class → r ≡ false → found ≡ levelAnswer low → found ≡ At l → At l ≡ levelAnswer (levelBy booked span sink class)
+  level-lowest {l = l} is o e q = sym (ap levelAnswer (ways (at l) (sym is ∙ o) (found-at low l (sym q ∙ e))))
+
+  pub level-lightest : {r : Bool} {found best : LevelFound} → r ≡ ofClass booked class → r ≡ false → found ≡ levelAnswer low → found ≡ None → best ≡ levelAnswer light → best ≡ levelAnswer (levelBy booked span sink class)
+  level-lightest is o e q f = f ∙ sym (ap levelAnswer (ways none (sym is ∙ o) (found-none low (sym q ∙ e))))
+
+  level-within : (l : ℕ) → At l ≡ levelAnswer (levelBy booked span sink class) → l + 2 ≤ span .x1
+  level-within l e = go (ofClass booked class) refl low refl (found-at (levelBy booked span sink class) l e)
+    where
+      inside : (l + 2 ≤ span .x0 + 2 * countIn span) × (0 < countIn span) → l + 2 ≤ span .x1
+      inside h = let a = h .0 in let b = h .1 in omega (arith, a, b)
+
+      go : (t : Bool) → ofClass booked class ≡ t → (f : Found) → low ≡ f → levelBy booked span sink class ≡ at l → l + 2 ≤ span .x1
+      go true o f q is = let z : none ≡ at l = sym (taken o) ∙ is in never cc
+      go false o none q is = inside (lightest-within (clearAt booked (span .y0)) (loadAt booked sink) (span .x0) (countIn span) l (sym (ways none o q) ∙ is))
+      go false o (at k) q is = inside (lowest-within (λ l. eqb (loadAt booked sink l) 0 && clearAt booked (span .y0) l) (span .x0) (countIn span) l (q ∙ sym (ways (at k) o q) ∙ is))
+
+level-by : (items : List (List ℕ)) (booked : List Entry) (i : ℕ) → levelAt items booked i ≡ levelBy booked (spanOf items i) (sinkIn items i) (classIn items i)
+unfolding levelAt levelBy
+level-by items booked i = refl
+
+-- The ends of a span, spread, tell what is clear of the entries.
+pub ends-tell : (span : Cell) (booked : List Entry) (ends ends′ : List ℕ) (count : ℕ) → span .y1 ≡ span .y0 + 2 → count ≡ countIn span → BlockedBy span booked ends → Spread count ends ends′ → TellsClear span (clearAt booked (span .y0)) ends′
+ends-tell span booked ends ends′ count high counts b s k low =
+    leb-not (getD ends′ k 0) (levelNo span k) ∙ ap not (s .tells k (levelNo span k) (omega (arith, low, counts)) ∙ b k low)
+    ∙ (λ i. not (any (λ e. cellsOverlap (e .cell) (record { x0 = levelNo span k; x1 = levelNo span k + 2; y0 = span .y0; y1 = high i })) booked))
+
+-- ---- no end past the levels of a question
+pub past-corner : (items : List (List ℕ)) (first i : ℕ) (ends : List ℕ) → first ≤ i → NoEndsPast (countIn (spanFor items first i)) ends → NoEndsPast (countIn (spanOf items i)) ends
+past-corner items first i ends l past = subst (λ (s : Cell). NoEndsPast (countIn s) ends) (pick-false (ltb i first) noCell (spanOf items i) (le-ltb i first l)) past
+
+-- ---- a level told is read again
+level-told : (f : Found) → ((l : ℕ) → f ≡ at l → l < LEVELS_END) → levelIn (held f) ≡ f
+level-told none few = pick-false (ltb MISSING LEVELS_END) (at MISSING) none (le-ltb MISSING LEVELS_END (omega arith))
+level-told (at l) few = pick-true (ltb l LEVELS_END) (at l) none (lt-ltb l LEVELS_END (few l refl))
+
+-- ---- an item decided: a cell, or a question
+module _ (items : List (List ℕ)) (p first : ℕ) (ends answers ends′ : List ℕ) (c : Cell) where
+  abbrev i : ℕ
+  i = orderAt items p
+
+  abbrev f : Found
+  f = levelAt items (rowBefore items first answers p) i
+
+  pub decided-cell : i < first → cellOf c ≡ itemCell items i → NoEndsPast (countIn (spanFor items first i)) ends → Decided items p first ends answers ends answers c
+  decided-cell l e past =
+      let b : ltb i first ≡ true = lt-ltb i first l in
+      record {
+        cell = e ∙ sym (ap (λ (x : Entry). x .cell) (pick-true (ltb i first) (cellEntry items i) (cornerEntry items i f) b));
+        endsLong = refl;
+        noEnds = λ k low. let none : countIn (spanFor items first i) ≡ 0 = ap countIn (pick-true (ltb i first) noCell (spanOf items i) b) in past k (omega (arith, none)) low;
+        told = sym (ap (λ t. answerIf t answers (i - first) (held f)) b);
+        within = λ h. absurd (omega (arith, h, l));
+      }
+
+  decided-corner : (level : ℕ) → first ≤ i → level ≡ held f → cellOf c ≡ cornerBox (cornerY items i) (levelIn level) → ((l : ℕ) → f ≡ at l → l < LEVELS_END) → length ends′ ≡ length ends → NoEnds ends′
+      → Decided items p first ends answers ends′ (set answers (i - first) level) c
+  decided-corner level l is e few long zeros =
+      let b : ltb i first ≡ false = le-ltb i first l in
+      record {
+        cell = e ∙ ap (cornerBox (cornerY items i)) (ap levelIn is ∙ level-told f few) ∙ sym (ap (λ (x : Entry). x .cell) (pick-false (ltb i first) (cellEntry items i) (cornerEntry items i f) b));
+        endsLong = long;
+        noEnds = zeros;
+        told = ap (set answers (i - first)) is ∙ sym (ap (λ t. answerIf t answers (i - first) (held f)) b);
+        within = λ _. few;
+      }
+
+  -- by the level found in the question's span, and told
+  pub decided-by : (span : Cell) (found : LevelFound) (level : ℕ) → first ≤ i → span ≡ spanOf items i → span .x1 ≤ MISSING → found ≡ levelAnswer (levelBy (rowBefore items first answers p) span (sinkIn items i) (classIn items i))
+      → ((g : Found) → found ≡ levelAnswer g → level ≡ held g) → cellOf c ≡ cornerBox (cornerY items i) (levelIn level) → length ends′ ≡ length ends → NoEnds ends′ → Decided items p first ends answers ends′ (set answers (i - first) level) c
+  decided-by span found level l spans top by told e long zeros = decided-corner level l (told f is) e few long zeros
+    where
+      is : found ≡ levelAnswer f
+      is = by ∙ ap (λ (s : Cell). levelAnswer (levelBy (rowBefore items first answers p) s (sinkIn items i) (classIn items i))) spans ∙ sym (ap levelAnswer (level-by items (rowBefore items first answers p) i))
+
+      few : (k : ℕ) → f ≡ at k → k < LEVELS_END
+      few k q = let h = level-within (rowBefore items first answers p) span (sinkIn items i) (classIn items i) k (sym (ap levelAnswer q) ∙ sym is ∙ by) in omega (arith, h, top)
+
+-- ---- entries that are asked alike: blanks tell nothing
+pub record Alike (b e : List Entry) : Type 0 where
+  pub cells : (d : Rows.Cell) → any (λ x. cellsOverlap (x .cell) d) b ≡ any (λ x. cellsOverlap (x .cell) d) e
+  pub loads : (sink level : ℕ) → (sink ≡ MISSING → ⊥) → loadAt b sink level ≡ loadAt e sink level
+  pub classes : (class : ℕ) → (class ≡ MISSING → ⊥) → ofClass b class ≡ ofClass e class
+
+alike-none : Alike [] []
+alike-none = record { cells = λ d. refl; loads = λ s l h. refl; classes = λ c h. refl }
+
+alike-more : (b e : List Entry) (x : Entry) → Alike b e → Alike (x ∷ b) (x ∷ e)
+alike-more b e x h =
+    record {
+      cells = λ d. ap (λ t. cellsOverlap (x .cell) d || t) (h .cells d);
+      loads = λ s l has. go (eqb (x .sink) s && eqb (x .cell .x0) l) s l (h .loads s l has);
+      classes = λ c has. ap (λ t. eqb (x .class) c || t) (h .classes c has);
+    }
+  where
+    K : List Entry → ℕ → ℕ → List Entry
+    K l s level = keep (λ y. eqb (y .sink) s && eqb (y .cell .x0) level) l
+
+    go : (t : Bool) (s l : ℕ) → length (K b s l) ≡ length (K e s l) → length {A = Entry} (elim t [ true ↦ x ∷ K b s l | false ↦ K b s l ]) ≡ length {A = Entry} (elim t [ true ↦ x ∷ K e s l | false ↦ K e s l ])
+    go true s l q = ap suc q
+    go false s l q = q
+
+alike-blank : (b e : List Entry) → Alike b e → Alike (blank ∷ b) e
+unfolding cellsOverlap
+alike-blank b e h =
+    record {
+      cells = λ d. rw (le-ltb (d .x0) 0 (omega arith)) (h .cells d);
+      loads = λ s l has.
+          ap (λ (t : Bool). length {A = Entry} (elim (t && eqb 0 l) [ true ↦ blank ∷ keep (λ x. eqb (x .sink) s && eqb (x .cell .x0) l) b | false ↦ keep (λ x. eqb (x .sink) s && eqb (x .cell .x0) l) b ]))
+          (ne-eqb MISSING s (λ q. has (sym q))) ∙ h .loads s l has;
+      classes = λ c has. rw (ne-eqb MISSING c (λ q. has (sym q))) (h .classes c has);
+    }
+
+alike-level : (items : List (List ℕ)) (i : ℕ) (b e : List Entry) → Askable items i → Alike b e → levelAt items b i ≡ levelAt items e i
+unfolding levelAt
+alike-level items i b e a h = λ j.
+    elim (h .classes (classIn items i) (a .hasClass) j) as (λ _. Found) [
+      | true ↦ none
+      | false ↦
+          elim (lowest (λ l. eqb (h .loads (sinkIn items i) l (a .hasSink) j) 0 && not (h .cells (rerouterCell l (cornerY items i)) j)) (sinkX items i) (levelsIn (sinkX items i) (sinkEnd items i))) as (λ _. Found)
+          [ at l ↦ at l | none ↦ lightest (λ l. not (h .cells (rerouterCell l (cornerY items i)) j)) (λ l. h .loads (sinkIn items i) l (a .hasSink) j) (sinkX items i) (levelsIn (sinkX items i) (sinkEnd items i)) ]
+    ]
+
+alike-corner : (items : List (List ℕ)) (i : ℕ) (b e : List Entry) (f : Found) → Alike b e → Alike (cornerEntry items i f ∷ b) (bookCorner items i f e)
+alike-corner items i b e none h = alike-blank b e h
+alike-corner items i b e (at l) h = alike-more b e (cornerEntry items i (at l)) h
+
+alike-item : (items : List (List ℕ)) (first i : ℕ) (b e : List Entry) → (first ≤ i → Askable items i) → Alike b e → Alike (entryFor items first i (levelAt items b i) ∷ b) (bookItem items first i e)
+alike-item items first i b e asks h = go (ltb i first) refl
+  where
+    go : (t : Bool) → ltb i first ≡ t → Alike (elim t [ true ↦ cellEntry items i | false ↦ cornerEntry items i (levelAt items b i) ] ∷ b)
+        (elim t [ true ↦ record { cell = itemCell items i; sink = MISSING; class = MISSING } ∷ e | false ↦ bookCorner items i (levelAt items e i) e ])
+    go true q = alike-more b e (cellEntry items i) h
+    go false q =
+        subst (λ (f : Found). Alike (cornerEntry items i (levelAt items b i) ∷ b) (bookCorner items i f e)) (alike-level items i b e (asks (ltb-false i first q)) h)
+        (alike-corner items i b e (levelAt items b i) h)
+
+alike-row : (t : Bool) (b e : List Entry) → Alike b e → Alike (entriesOn t b) (entriesOn t e)
+alike-row true b e h = alike-none
+alike-row false b e h = h
+
+-- ---- the slice: n cells of the row count, and it holds the first; each is an entry's, and where it holds all n they overlap what the entries do
+abbrev meets : List Rows.Cell → Rows.Cell → Bool
+meets l d = any (λ c. cellsOverlap c d) l
+
+abbrev met : List Entry → Rows.Cell → Bool
+met l d = any (λ e. cellsOverlap (e .cell) d) l
+
+pub record Holds (n : ℕ) (l : List Rows.Cell) (booked : List Entry) : Type 0 where
+  pub some : (d : Rows.Cell) → any (λ c. cellsOverlap c d) l ≡ true → any (λ e. cellsOverlap (e .cell) d) booked ≡ true
+  pub whole : n ≤ SLICE_MOST → (d : Rows.Cell) → any (λ c. cellsOverlap c d) l ≡ any (λ e. cellsOverlap (e .cell) d) booked
+
+holds-none : (n : ℕ) → Holds n [] []
+holds-none n = record { some = λ d t. t; whole = λ h d. refl }
+
+holds-row : (cells : List Cell) (n before : ℕ) (t : Bool) (booked : List Entry) → before ≡ unless t n → Holds n (firstCells cells (inSlice n)) booked → Holds before (firstCells cells (inSlice before)) (entriesOn t booked)
+holds-row cells n before true booked q h = subst (λ (k : ℕ). Holds k (firstCells cells (inSlice k)) []) (sym q) (holds-none 0)
+holds-row cells n before false booked q h = subst (λ (k : ℕ). Holds k (firstCells cells (inSlice k)) booked) (sym q) h
+
+holds-more : (n k : ℕ) (l : List Rows.Cell) (booked : List Entry) (c : Rows.Cell) (e : Entry) → c ≡ e .cell → n ≤ SLICE_MOST → Holds n l booked → Holds k (c ∷ l) (e ∷ booked)
+holds-more n k l booked c e is few h = record { some = λ d t. sym (same d) ∙ t; whole = λ _. same }
+  where
+    same : (d : Rows.Cell) → meets (c ∷ l) d ≡ met (e ∷ booked) d
+    same d = ap₂ (λ s t. s || t) (ap (λ (x : Rows.Cell). cellsOverlap x d) is) (h .whole few d)
+
+-- a cell that ends at 0 is not missed
+holds-empty : (n : ℕ) (l : List Rows.Cell) (booked : List Entry) (e : Entry) → e .cell .x1 ≡ 0 → Holds n l booked → Holds n l (e ∷ booked)
+unfolding cellsOverlap
+holds-empty n l booked e at-0 h = record { some = λ d t. skip d ∙ h .some d t; whole = λ few d. h .whole few d ∙ sym (skip d) }
+  where
+    skip : (d : Rows.Cell) → met (e ∷ booked) d ≡ met booked d
+    skip d = rw (at-0, le-ltb (d .x0) 0 (omega arith)) refl
+
+holds-beyond : (n k : ℕ) (l : List Rows.Cell) (booked : List Entry) (e : Entry) → SLICE_MOST < k → Holds n l booked → Holds k l (e ∷ booked)
+holds-beyond n k l booked e full h = record { some = λ d t. either-right (cellsOverlap (e .cell) d) (met booked d) (h .some d t); whole = λ few. absurd (omega (arith, few, full)) }
+
+slots-all : (n : ℕ) → n ≤ SLICE_MOST → inSlice n ≡ n
+slots-all n h = go (ltb n SLICE_MOST) refl
+  where
+    go : (t : Bool) → ltb n SLICE_MOST ≡ t → elim t [ true ↦ n | false ↦ SLICE_MOST ] ≡ n
+    go true q = refl
+    go false q = let l = ltb-false n SLICE_MOST q in omega (arith, l, h)
+
+slots-full : (n : ℕ) → SLICE_MOST ≤ n → inSlice n ≡ SLICE_MOST
+slots-full n h = pick-false (ltb n SLICE_MOST) n SLICE_MOST (le-ltb n SLICE_MOST h)
+
+slots-most : (n : ℕ) → inSlice n ≤ SLICE_MOST
+slots-most n = go (ltb n SLICE_MOST) refl
+  where
+    go : (t : Bool) → ltb n SLICE_MOST ≡ t → elim t [ true ↦ n | false ↦ SLICE_MOST ] ≤ SLICE_MOST
+    go true e = let h = ltb-true n SLICE_MOST e in omega arith
+    go false e = omega arith
+
+module _ (cells cells′ : List Cell) (before : ℕ) (booked : List Entry) (c : Cell) (e : Entry) (is : cellOf c ≡ e .cell) (left : ltb before SLICE_MOST ≡ false → cells′ ≡ cells) (h : Holds before (firstCells cells (inSlice before)) booked) where
+  abbrev F : List Rows.Cell
+  F = firstCells cells (inSlice before)
+
+  abbrev rest : List Rows.Cell → List Rows.Cell
+  rest [] = []
+  rest (d ∷ ds) = ds
+
+  -- one more cell counts; or none, and the slice is as it was as far as it counts
+  holds-next : (t u : Bool) → ltb before SLICE_MOST ≡ t → ltb 0 (c .x1) ≡ u → firstCells cells′ (countAfter t before) ≡ book t (cellOf c) (firstCells cells before)
+      → Holds (countAfter u before) (firstCells cells′ (inSlice (countAfter u before))) (e ∷ booked)
+  holds-next true true q r a =
+      let low = ltb-true before SLICE_MOST q in
+      let all : inSlice before ≡ before = slots-all before (omega (arith, low)) in
+      let more : inSlice (before + 1) ≡ before + 1 = slots-all (before + 1) (omega (arith, low)) in
+      subst (λ (l : List Rows.Cell). Holds (before + 1) l (e ∷ booked)) (sym (ap (firstCells cells′) more ∙ a ∙ ap (λ (k : ℕ). cellOf c ∷ firstCells cells k) (sym all))) (holds-more before (before + 1) F booked (cellOf c) e is (omega (arith, low)) h)
+  holds-next true false q r a =
+      let low = ltb-true before SLICE_MOST q in
+      let all : inSlice before ≡ before = slots-all before (omega (arith, low)) in
+      let same : firstCells cells′ before ≡ firstCells cells before = ap rest (ap (firstCells cells′) (sym (add-one before)) ∙ a) in
+      subst (λ (l : List Rows.Cell). Holds before l (e ∷ booked)) (sym (ap (firstCells cells′) all ∙ same ∙ ap (firstCells cells) (sym all))) (holds-empty before F booked e (at-0 r) h)
+    where
+      at-0 : ltb 0 (c .x1) ≡ false → e .cell .x1 ≡ 0
+      at-0 r = let z = ltb-false 0 (c .x1) r in let s : c .x1 ≡ e .cell .x1 = ap (λ (d : Rows.Cell). d .x1) is in omega (arith, z, s)
+  holds-next false true q r a =
+      let high = ltb-false before SLICE_MOST q in
+      let same : inSlice (before + 1) ≡ inSlice before = slots-full (before + 1) (omega (arith, high)) ∙ sym (slots-full before high) in
+      subst (λ (l : List Rows.Cell). Holds (before + 1) l (e ∷ booked)) (sym (ap (firstCells cells′) same ∙ ap (λ (cs : List Cell). firstCells cs (inSlice before)) (left q))) (holds-beyond before (before + 1) F booked e (omega (arith, high)) h)
+  holds-next false false q r a =
+      subst (λ (l : List Rows.Cell). Holds before l (e ∷ booked)) (sym (ap (λ (cs : List Cell). firstCells cs (inSlice before)) (left q))) (holds-empty before F booked e (at-0 r) h)
+    where
+      at-0 : ltb 0 (c .x1) ≡ false → e .cell .x1 ≡ 0
+      at-0 r = let z = ltb-false 0 (c .x1) r in let s : c .x1 ≡ e .cell .x1 = ap (λ (d : Rows.Cell). d .x1) is in omega (arith, z, s)
+
+-- ---- what is known after p items, n cells counted on the row at hand
+pub record Standing (items : List (List ℕ)) (first : ℕ) (ends₀ answers₀ : List ℕ) (p n : ℕ) (cells : List Cell) (ends answers : List ℕ) : Type 0 where
+  pub few : n ≤ p
+  pub room : length cells ≡ SLICE_MOST
+  pub endsLong : length ends ≡ length ends₀
+  pub answersLong : length answers ≡ length answers₀
+  pub noEnds : NoEnds ends
+  pub slice : Holds n (firstCells cells (inSlice n)) (seen items first answers p)
+  pub alike : Alike (seen items first answers p) (entriesAfter items first p)
+  pub told : answers ≡ answersAfter items first p answers₀
+
+pub standing-start : (items : List (List ℕ)) (first : ℕ) (ends answers : List ℕ) (cells : List Cell) → length cells ≡ SLICE_MOST → NoEnds ends → Standing items first ends answers 0 0 cells ends answers
+unfolding entriesAfter answersAfter
+standing-start items first ends answers cells e zeros =
+    record { few = omega arith; room = e; endsLong = refl; answersLong = refl; noEnds = zeros; slice = holds-none 0; alike = alike-none; told = refl }
+
+-- what the calls of a turn say
+pub record Turning (items : List (List ℕ)) (first p n : ℕ) (cells : List Cell) (ends answers : List ℕ) (before counted : ℕ) (span : Cell) (ends₁ : List ℕ) (c : Cell) (ends′ answers′ : List ℕ) (cells′ : List Cell) (n′ : ℕ) : Type 0 where
+  pub stood : before ≡ unless (begins items p) n
+  pub counts : counted ≡ unless (ltb (orderAt items p) first) (inSlice before)
+  pub spans : span ≡ spanFor items first (orderAt items p)
+  pub blocks : Blocks span (cellsMeet (firstCells cells counted) span) ends ends₁
+  pub decided : Decided items p first ends₁ answers ends′ answers′ c
+  pub same : length cells′ ≡ length cells
+  pub added : firstCells cells′ (countAfter (ltb before SLICE_MOST) before) ≡ book (ltb before SLICE_MOST) (cellOf c) (firstCells cells before)
+  pub left : ltb before SLICE_MOST ≡ false → cells′ ≡ cells
+  pub next : n′ ≡ countAfter (ltb 0 (c .x1)) before
+
+pub before-few : (n before p : ℕ) (t : Bool) → n ≤ p → before ≡ unless t n → before ≤ p
+before-few n before p true h e = omega (arith, e)
+before-few n before p false h e = omega (arith, e, h)
+
+pub counted-few : (counted before : ℕ) (t : Bool) → counted ≡ unless t (inSlice before) → counted ≤ SLICE_MOST
+counted-few counted before true e = omega (arith, e)
+counted-few counted before false e = let h = slots-most before in omega (arith, e, h)
+
+one-more : (t : Bool) (n : ℕ) → countAfter t n ≤ n + 1
+one-more true n = omega arith
+one-more false n = omega arith
+
+pub span-few : (items : List (List ℕ)) (first i : ℕ) (span : Cell) → (first ≤ i → Askable items i) → span ≡ spanFor items first i → countIn span ≤ 1000
+span-few items first i span asks e = go (ltb i first) refl
+  where
+    go : (t : Bool) → ltb i first ≡ t → countIn span ≤ 1000
+    go true q = let f : countIn span ≡ 0 = ap countIn (e ∙ pick-true (ltb i first) noCell (spanOf items i) q) in omega (arith, f)
+    go false q = let f : countIn span ≡ countIn (spanOf items i) = ap countIn (e ∙ pick-false (ltb i first) noCell (spanOf items i) q) in let h = asks (ltb-false i first q) .few in omega (arith, f, h)
+
+-- the ends tell a question of the cells that are in the slice
+ends-told : (items : List (List ℕ)) (first i before counted : ℕ) (cells : List Cell) (booked : List Entry) (span : Cell) (ends ends₁ : List ℕ) → first ≤ i → Askable items i → NoEnds ends
+    → counted ≡ unless (ltb i first) (inSlice before) → span ≡ spanFor items first i → Holds before (firstCells cells (inSlice before)) booked
+    → Blocks span (cellsMeet (firstCells cells counted) span) ends ends₁ → BlockedFor before (spanOf items i) booked ends₁
+ends-told items first i before counted cells booked span ends ends₁ l asks zeros counts spans slice blocks =
+    subst (λ (s : Cell). BlockedFor before s booked ends₁) is (record { some = λ k low t. slice .some (cornerCell span k) (sym (tells k low) ∙ t); whole = λ few k low. tells k low ∙ slice .whole few (cornerCell span k) })
+  where
+    q : ltb i first ≡ false
+    q = le-ltb i first l
+
+    is : span ≡ spanOf items i
+    is = spans ∙ pick-false (ltb i first) noCell (spanOf items i) q
+
+    all : counted ≡ inSlice before
+    all = counts ∙ ap (λ t. unless t (inSlice before)) q
+
+    tells : (k : ℕ) → k < countIn span → blocked span ends₁ k ≡ meets (firstCells cells (inSlice before)) (cornerCell span k)
+    tells k low =
+        let h = asks .few in
+        let f : countIn span ≡ countIn (spanOf items i) = ap countIn is in
+        blocks .more k low ∙ ap (λ t. t || cellsMeet (firstCells cells counted) span k) (none-beyond ends 1000 (levelNo span k) zeros (suc k) (omega (arith, low, f, h)))
+        ∙ ap (λ (m : ℕ). cellsMeet (firstCells cells m) span k) all
+
+row-fits : (items : List (List ℕ)) (first m p : ℕ) (ends answers₀ answers : List ℕ) → TurnsFit items m first ends answers₀ → p < m → length answers ≡ length answers₀ → RowFits items p first answers
+row-fits items first m p ends answers₀ answers fit more long =
+    record {
+      inside = let h = fit .inside in omega (arith, h, more);
+      countable = let h = fit .countable in omega (arith, h, more);
+      ordered = λ q h. fit .ordered q (omega (arith, h, more));
+      asks = λ q h. fit .asks q (omega (arith, h, more));
+      there = λ q h l. let t = fit .there q (omega (arith, h, more)) l in omega (arith, t, long);
+      rising = λ q h. fit .rising q (omega (arith, h, more));
+    }
+
+module _ {items : List (List ℕ)} {first m : ℕ} {ends₀ answers₀ : List ℕ} {p n : ℕ} {cells : List Cell} {ends answers : List ℕ} (s : Standing items first ends₀ answers₀ p n cells ends answers) (fit : TurnsFit items m first ends₀ answers₀) (more : p < m) where
+  abbrev before-it : List Entry
+  before-it = rowBefore items first answers p
+
+  fits : RowFits items p first answers
+  fits = row-fits items first m p ends₀ answers₀ answers fit more (s .answersLong)
+
+  held-before : (before : ℕ) → before ≡ unless (begins items p) n → Holds before (firstCells cells (inSlice before)) before-it
+  held-before before stood = holds-row cells n before (begins items p) (seen items first answers p) stood (s .slice)
+
+  pub decidable : (before counted : ℕ) (span : Cell) (ends₁ : List ℕ) → before ≡ unless (begins items p) n → counted ≡ unless (ltb (orderAt items p) first) (inSlice before)
+      → span ≡ spanFor items first (orderAt items p) → Blocks span (cellsMeet (firstCells cells counted) span) ends ends₁ → Decidable items p first before ends₁ answers
+  decidable before counted span ends₁ stood counts spans blocks =
+      record {
+        row = fits;
+        endsLong = let h = fit .endsLong in let e = s .endsLong in let f = blocks .long in omega (arith, h, e, f);
+        blocks = λ l. ends-told items first (orderAt items p) before counted cells before-it span ends ends₁ l (fit .asks p more l) (s .noEnds) counts spans (held-before before stood) blocks;
+        past = λ k high low. let e : countIn span ≡ countIn (spanFor items first (orderAt items p)) = ap countIn spans in blocks .rest k (omega (arith, e, high)) ∙ s .noEnds k low;
+      }
+
+  module _ {before counted : ℕ} {span : Cell} {ends₁ : List ℕ} {c : Cell} {ends′ answers′ : List ℕ} {cells′ : List Cell} {n′ : ℕ} (u : Turning items first p n cells ends answers before counted span ends₁ c ends′ answers′ cells′ n′) where
+    abbrev this : ℕ
+    this = orderAt items p
+
+    abbrev level : Found
+    level = levelAt items (rowBefore items first answers p) this
+
+    abbrev booked : List Entry
+    booked = entriesOn (begins items p) (entriesAfter items first p)
+
+    on-row : Alike before-it booked
+    on-row = alike-row (begins items p) (seen items first answers p) (entriesAfter items first p) (s .alike)
+
+    -- the item's own answer, and those before it on the row
+    now-seen : seen items first answers′ (suc p) ≡ entryFor items first this level ∷ before-it
+    now-seen = go (ltb this first) refl (u .decided .told)
+      where
+        go : (t : Bool) → ltb this first ≡ t → answers′ ≡ answerIf t answers (this - first) (held level) → seen items first answers′ (suc p) ≡ entryFor items first this level ∷ before-it
+        go true q is =
+            ap (λ (a : List ℕ). seen items first a (suc p)) is
+            ∙ ap (λ (e : Entry). e ∷ before-it) (pick-true (ltb this first) (cellEntry items this) _ q ∙ sym (pick-true (ltb this first) (cellEntry items this) (cornerEntry items this level) q))
+        go false q is =
+            let l : first ≤ this = ltb-false this first q in
+            let there : this - first < length answers = fits .there p (omega arith) l in
+            ap (λ (a : List ℕ). seen items first a (suc p)) is
+            ∙ ap₂ (λ (f : Found) (b : List Entry). entryFor items first this f ∷ b) (ap levelIn (getD-set-same answers (this - first) (held level) 0 there) ∙ level-told level (u .decided .within l)) (row-kept items first answers p fits this (held level) p l (omega arith) (omega arith))
+
+    next-alike : Alike (seen items first answers′ (suc p)) (entriesAfter items first (suc p))
+    unfolding entriesAfter
+    next-alike = subst (λ (l : List Entry). Alike l (bookItem items first this booked)) (sym now-seen) (alike-item items first this before-it booked (fit .asks p more) on-row)
+
+    next-slice : Holds n′ (firstCells cells′ (inSlice n′)) (seen items first answers′ (suc p))
+    next-slice =
+        subst (λ (l : List Entry). Holds n′ (firstCells cells′ (inSlice n′)) l) (sym now-seen)
+        (subst (λ (k : ℕ). Holds k (firstCells cells′ (inSlice k)) (entryFor items first this level ∷ before-it)) (sym (u .next))
+        (holds-next cells cells′ before before-it c (entryFor items first this level) (u .decided .cell) (u .left) (held-before before (u .stood)) (ltb before SLICE_MOST) (ltb 0 (c .x1)) refl refl (u .added)))
+
+    next-told : answers′ ≡ answersAfter items first (suc p) answers₀
+    unfolding answersAfter
+    next-told = u .decided .told ∙ go (ltb this first) refl
+      where
+        go : (t : Bool) → ltb this first ≡ t → answerIf t answers (this - first) (held level) ≡ answerIf t (answersAfter items first p answers₀) (this - first) (held (levelAt items booked this))
+        go true q = s .told
+        go false q = ap₂ (λ (l : List ℕ) (f : Found). set l (this - first) (held f)) (s .told) (alike-level items this before-it booked (fit .asks p more (ltb-false this first q)) on-row)
+
+    answers-long : (t : Bool) (l : List ℕ) (q v : ℕ) → length (answerIf t l q v) ≡ length l
+    answers-long true l q v = refl
+    answers-long false l q v = length-set l q v
+
+    pub turned : Standing items first ends₀ answers₀ (p + 1) n′ cells′ ends′ answers′
+    turned =
+        record {
+          few = let h = before-few n before p (begins items p) (s .few) (u .stood) in let k = one-more (ltb 0 (c .x1)) before in let e = u .next in omega (arith, h, k, e);
+          room = u .same ∙ s .room;
+          endsLong = u .decided .endsLong ∙ u .blocks .long ∙ s .endsLong;
+          answersLong = ap length (u .decided .told) ∙ answers-long (ltb this first) answers (this - first) (held level) ∙ s .answersLong;
+          noEnds = u .decided .noEnds;
+          slice = subst (λ (k : ℕ). Holds n′ (firstCells cells′ (inSlice n′)) (seen items first answers′ k)) (sym (add-one p)) next-slice;
+          alike = subst (λ (k : ℕ). Alike (seen items first answers′ k) (entriesAfter items first k)) (sym (add-one p)) next-alike;
+          told = next-told ∙ ap (λ (k : ℕ). answersAfter items first k answers₀) (sym (add-one p));
+        }

@@ -1,0 +1,69 @@
+-- A cell's first level and end, where the cell meets one of the levels.
+use Prim.Native.Nat.{ℕ, _<_}
+use mathlib.Core.Path.{sym, subst}
+use native.Mathlib.Omega.{arith}
+use lib.ListN.{length, set}
+use Rattle.routes_rows.specs.Blocked.{Blocks, cellMeets}
+use Rattle.routes_rows.proofs.Blocking.{within-first, cell-blocks, cell-passed}
+use borrow.Author.Needs.{needs}
+use Rattle.routes_rows.proofs.blocked.block.Statement.{statement}
+use Rattle.routes_rows.proofs.blocked.block.Tie as tie
+
+first-inside : (c : tie.Then1) → c .before .before .before .before .before .before .first-level .result < length (c .before .before .before .before .before .before .before .before .args .ends .now)
+first-inside c =
+    let a = c .before .before .before .before .before .before .before .before .args in
+    let h = within-first (a .span) (a .cell) (c .before .before .before .before .before .before .first-level .result) (c .before .before .before .before .before .levels-in .result) (c .before .before .before .before .before .before .first-level .ensures) (c .before .before .before .before .before .levels-in .ensures) (c .if1 .taken) in
+    omega (arith, h, c .before .before .before .before .before .before .before .before .pre)
+
+first-level-requires : tie.Need-first-level-requires
+first-level-requires c κs = search needs
+
+levels-in-requires : tie.Need-levels-in-requires
+levels-in-requires c κs = search needs
+
+cast-k : tie.Need-cast-k
+cast-k c = search needs
+
+mul-larger : tie.Need-mul-larger
+mul-larger c = search needs
+
+slice-read-larger : tie.Need-slice-read-larger
+slice-read-larger c = first-inside (c .before)
+
+larger-requires : tie.Need-larger-requires
+larger-requires c κs = search needs
+
+mul-ends : tie.Need-mul-ends
+mul-ends c = search needs
+
+slice-write-ends : tie.Need-slice-write-ends
+slice-write-ends c = first-inside (c .before .before)
+
+same-length : tie.Need-same-length
+same-length c = search needs
+
+returns : tie.Need-returns
+returns c =
+    let a = c .before .before .before .before .before .before .before .before .before .before .args in
+    let first = c .before .before .before .before .before .before .before .before .first-level in
+    subst (λ (e : ℕ). Blocks (a .span) (cellMeets (a .cell) (a .span)) (a .ends .now) (set (a .ends .now) (first .result) e)) (sym (c .larger .ensures))
+    (cell-blocks (a .span) (a .cell) (first .result) (c .before .before .before .before .before .before .before .levels-in .result) (first .ensures) (c .before .before .before .before .before .before .before .levels-in .ensures) (a .ends .now) (c .before .before .if1 .taken) (first-inside (c .before .before)))
+
+returns-2 : tie.Need-returns-2
+returns-2 c = let a = c .before .before .before .before .before .before .before .before .args in cell-passed (a .span) (a .cell) (c .before .before .before .before .before .before .first-level .result) (c .before .before .before .before .before .levels-in .result) (c .before .before .before .before .before .before .first-level .ensures) (c .before .before .before .before .before .levels-in .ensures) (a .ends .now) (c .if1 .left)
+
+pub block-spec : {M : Type 1} → statement M
+block-spec =
+    tie.close
+    (tie.spec
+    first-level-requires
+    levels-in-requires
+    cast-k
+    mul-larger
+    slice-read-larger
+    larger-requires
+    mul-ends
+    slice-write-ends
+    same-length
+    returns
+    returns-2)

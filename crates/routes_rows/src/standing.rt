@@ -1,0 +1,177 @@
+// What is booked on a row before an item, read off the items and the answers, back from that item: the cells that block, the classes, the loads.
+use crate::blocked::block;
+use crate::blocked::first_level;
+use crate::book::Cell;
+use base::rows::WorkRow;
+use routes_levels::levels::STAGGER_STEP;
+use routes_levels::levels::levels_in;
+ghost use mathlib.Core.Path.{_≡_};
+ghost use Prim.Native.Nat.{ℕ, _<_, _≤_};
+ghost use lib.Dec.{eqb};
+ghost use lib.ListN.{length, getD};
+ghost use Rattle.routes_rows.specs.Blocked.{countIn, levelNo, Blocks};
+ghost use Rattle.routes_rows.specs.Booking.{cellOf, keyOf, orderAt, countAfter};
+ghost use Rattle.routes_rows.specs.Turning.{loadAt, ofClass};
+ghost use Rattle.routes_rows.specs.Entries.{rowCell, levelIn, cornerBox, entryAt, rowBefore, followsRow, asksBefore, entriesMeet, TellsLoads, RowFits};
+
+// Where levels end: a corner is two wide, and ends within the numbers.
+const LEVELS_END: u32 = 4_294_967_294;
+
+// The cell of an item.
+pub fn row_cell(row: [u32; 8]) -> Cell
+    ensures { λ r. ⌜ cellOf r ≡ rowCell row ⌝ }
+{
+    Cell {
+        x0: row[0],
+        x1: row[1],
+        y0: row[2],
+        y1: row[3],
+    }
+}
+
+// The cell of a corner at the level that is its answer; where it has none, one that overlaps nothing.
+pub fn corner_cell(y: u32, level: u32) -> Cell
+    requires { ⌜ y < 4294967290 ⌝ }
+    ensures { λ r. ⌜ cellOf r ≡ cornerBox y (levelIn level) ⌝ }
+{
+    if level < LEVELS_END {
+        return Cell {
+            x0: level,
+            x1: level + 2,
+            y0: y,
+            y1: y + 2,
+        };
+    }
+    Cell {
+        x0: 0,
+        x1: 0,
+        y0: 0,
+        y1: 0,
+    }
+}
+
+// The cell that the item that comes p-th has booked.
+fn booked_cell(items: &[WorkRow], p: usize, first: usize, answers: &[u32]) -> Cell
+    requires { ⌜ RowFits (now items) p first (now answers) ⌝ }
+    ensures { λ r. ⌜ cellOf r ≡ entryAt (now (items .entry)) first (now (answers .entry)) p .cell ⌝ }
+{
+    let i = items[p][7] as usize;
+    if i < first {
+        return row_cell(items[i]);
+    }
+    corner_cell(items[i][2], answers[i - first])
+}
+
+// The key of the row of the item that comes p-th.
+fn key_at(items: &[WorkRow], p: usize) -> u32
+    requires { ⌜ (p < length (now items)) × (orderAt (now items) p < length (now items)) ⌝ }
+    ensures { λ r. ⌜ r ≡ keyOf (now (items .entry)) (orderAt (now (items .entry)) p) ⌝ }
+{
+    let i = items[p][7] as usize;
+    items[i][6]
+}
+
+// Whether the item before the one that comes k-th is of the row with this key.
+fn follows(items: &[WorkRow], k: usize, key: u32) -> bool
+    requires { ⌜ (k < length (now items)) × ((q : ℕ) → q ≤ k → orderAt (now items) q < length (now items)) ⌝ }
+    ensures { λ r. ⌜ r ≡ followsRow (now (items .entry)) k key ⌝ }
+{
+    if k == 0 {
+        return false;
+    }
+    let i = items[k - 1][7] as usize;
+    items[i][6] == key
+}
+
+// Whether the item before the one that comes k-th is a question of the row with this key: the cells of a row come before its questions.
+fn asks_before(items: &[WorkRow], k: usize, first: usize, key: u32) -> bool
+    requires { ⌜ (k < length (now items)) × ((q : ℕ) → q ≤ k → orderAt (now items) q < length (now items)) ⌝ }
+    ensures { λ r. ⌜ r ≡ asksBefore (now (items .entry)) k first key ⌝ }
+{
+    if k == 0 {
+        return false;
+    }
+    let i = items[k - 1][7] as usize;
+    if i < first {
+        return false;
+    }
+    items[i][6] == key
+}
+
+// All that is booked on the row before the item that comes p-th blocks; the newest first.
+pub fn block_row(
+    items: &[WorkRow],
+    p: usize,
+    first: usize,
+    answers: &[u32],
+    span: Cell,
+    ends: &mut [u32],
+)
+    requires { ⌜ RowFits (now items) p first (now answers) × (countIn span ≤ length (now ends)) ⌝ }
+    ensures { λ _. ⌜ Blocks span (entriesMeet (rowBefore (now (items .entry)) first (now (answers .entry)) p) span) (now (ends .entry)) (now (ends .exit)) ⌝ }
+{
+    let key = key_at(items, p);
+    let mut k = p;
+    while follows(items, k, key) {
+        k -= 1;
+        block(ends, span, booked_cell(items, k, first, answers));
+    }
+}
+
+// Whether a corner of a class stands on the row before the item that comes p-th.
+pub fn has_class(items: &[WorkRow], p: usize, first: usize, answers: &[u32], class: u32) -> bool
+    requires { ⌜ RowFits (now items) p first (now answers) × (class ≡ 4294967295 → ⊥) ⌝ }
+    ensures { λ r. ⌜ r ≡ ofClass (rowBefore (now (items .entry)) first (now (answers .entry)) p) class ⌝ }
+{
+    let key = key_at(items, p);
+    let mut k = p;
+    while asks_before(items, k, first, key) {
+        k -= 1;
+        let i = items[k][7] as usize;
+        if items[i][4] == class {
+            if answers[i - first] < LEVELS_END {
+                return true;
+            }
+        }
+    }
+    false
+}
+
+// A corner is counted at its level, if that is one of the span.
+fn add_load(level: u32, span: Cell, loads: &mut [u32])
+    requires { ⌜ (countIn span ≤ length (now loads)) × ((k : ℕ) → k < countIn span → getD (now loads) k 0 < 4294967295) ⌝ }
+    ensures { λ _. ⌜ (length (now (loads .exit)) ≡ length (now (loads .entry))) × ((k : ℕ) → k < countIn span → getD (now (loads .exit)) k 0 ≡ countAfter (eqb level (levelNo span k)) (getD (now (loads .entry)) k 0)) ⌝ }
+{
+    let k = first_level(span.x0, level);
+    if levels_in(span.x0, span.x1) <= k {
+        return;
+    }
+    if span.x0 + STAGGER_STEP * k != level {
+        return;
+    }
+    loads[k as usize] += 1;
+}
+
+// How many corners of the sink stand at each level, on the row before the item that comes p-th. MISSING is no level of a span.
+pub fn count_loads(
+    items: &[WorkRow],
+    p: usize,
+    first: usize,
+    answers: &[u32],
+    span: Cell,
+    sink: u32,
+    loads: &mut [u32],
+)
+    requires { ⌜ RowFits (now items) p first (now answers) × (sink ≡ 4294967295 → ⊥) × (countIn span ≤ length (now loads)) × ((k : ℕ) → k < countIn span → getD (now loads) k 0 ≡ 0) ⌝ }
+    ensures { λ _. ⌜ TellsLoads span (loadAt (rowBefore (now (items .entry)) first (now (answers .entry)) p) sink) (now (loads .exit)) ⌝ }
+{
+    let key = key_at(items, p);
+    let mut k = p;
+    while asks_before(items, k, first, key) {
+        k -= 1;
+        let i = items[k][7] as usize;
+        if items[i][3] == sink {
+            add_load(answers[i - first], span, loads);
+        }
+    }
+}

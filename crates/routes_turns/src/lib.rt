@@ -1,0 +1,1 @@
+// Corners decided before they are written, row by row.
