@@ -6,6 +6,7 @@ pub mod SortLaws
 pub mod Filling
 pub mod MergeLaws
 pub mod HalvesLaws
+pub mod KeyLaws
 pub mod InsertLaws
 pub mod Every
 pub mod RunLaws

@@ -1,5 +1,6 @@
-// What every layer uses: numbers by name, rows by type, ids apart from numbers, and one sort.
+// What every layer uses: numbers by name, rows by type, ids apart from numbers, one sort for rows and for keys, and runs of a key.
 pub mod ids;
+pub mod keys;
 pub mod numbers;
 pub mod rows;
 pub mod runs;

@@ -1,25 +1,24 @@
 -- What an id names, and the anchor of a wire's end.
-use Prim.Native.Nat.{ℕ, zero, suc, _-_, _≤_, _<_}
+use Prim.Native.Nat.{ℕ, suc, _-_, _≤_, _<_}
 use native.Mathlib.Omega.{arith}
-use mathlib.Core.Path.{_≡_, refl, sym, ap, _∙_, subst}
-use mathlib.Core.Bool.{Bool, true, false, not, _&&_, _||_}
-use mathlib.Core.List.{List, [], _∷_}
+use mathlib.Core.Path.{_≡_, refl, sym, ap, _∙_}
+use mathlib.Core.Bool.{Bool, true, false, not}
+use mathlib.Core.List.{List}
 use lib.Dec.{eqb}
-use lib.ListN.{length, replicate, length-replicate, getD-replicate}
-use borrow.Author.Tests.{eq-eqb, ne-eqb, eqb-true}
+use lib.ListN.{length}
 use mir.Val.{boolByte}
 use Rattle.sheet.specs.Table.{MISSING}
-use Rattle.base.specs.Lists.{Found, none, at, found, any, upto, newest}
-use Rattle.board.specs.Board.{Board, field, idOf, classOf, classInline, innerId, innerChip, innerClass}
+use Rattle.base.specs.Lists.{Found, none, at, newest}
+use Rattle.board.specs.Board.{Board, field, classOf, classInline, innerChip, innerClass}
 use Rattle.board.specs.Refusals.{bodyOf, innerOf}
 use Rattle.board.specs.Groups.{anchorOf, isBussable, topChip}
-use Rattle.board.specs.Index.{Ids, Chained, BUCKETS, bucketOf, column, entryOf, foundOf, link}
+use Rattle.board.specs.Index.{Ids, entryOf, foundOf, link}
 use Rattle.board.specs.declared.ids.Found.{Found as FoundId}
 use Rattle.board.specs.declared.ids.Found.the-variants.{At, Nothing}
 use Rattle.board.specs.Tables.{held, flag}
 use Rattle.board_groups.specs.Collecting.{Indexes}
-use Rattle.base.proofs.Bools.{never, and-left}
-use Rattle.board.proofs.Newest.{newest-same, link-below, Implies, Following, follow-found, follow-end, chained-same, chain-start, chain-next, column-at, index-falls}
+use Rattle.base.proofs.Bools.{never}
+use Rattle.board.proofs.Newest.{newest-same, link-below}
 
 pub found-below : (p : ℕ → Bool) (n i : ℕ) → newest p n ≡ at i → i < n
 found-below p n i e = let h = link-below p n in let l : link (newest p n) ≡ suc i = ap link e in omega arith
@@ -35,14 +34,6 @@ held-gone p n i e h = go (newest p n) refl
     go : (f : Found) → newest p n ≡ f → f ≡ none
     go none q = refl
     go (at j) q = absurd (let l = found-below p n j q in let k : j ≡ i = sym (ap held q) ∙ e in omega arith)
-
-pub any-newest : (p : ℕ → Bool) (n : ℕ) → any p (upto n) ≡ found (newest p n)
-any-newest p zero = refl
-any-newest p (suc n) = go (p n) (any-newest p n)
-  where
-    go : (t : Bool) → any p (upto n) ≡ found (newest p n) → (t || any p (upto n)) ≡ found (elim t [ true ↦ at n | false ↦ newest p n ])
-    go true ih = refl
-    go false ih = ih
 
 pub entry-is : (ids : List (List ℕ)) (n id : ℕ) (idAt : ℕ → ℕ) → ((j : ℕ) → j < n → field ids j 0 ≡ idAt j) → entryOf ids n id ≡ newest (λ i. eqb (idAt i) id) n
 unfolding entryOf
@@ -138,49 +129,6 @@ module _ (nodes chips inner bi ii : List (List ℕ)) (known : Indexes nodes inne
     end-none k =
         let gone : innerOf b id ≡ none = sym (inner-entry inner ii (known .inside) id b f) ∙ entry-gone inner ii (known .inside) id (known .fewInner) j (sym is-inner) k in
         (sym (ap held (anchor-none b id no-body gone)), sym (bussable-none b id no-body gone))
-
--- X records chained by node.
-abbrev pub Exec : List (List ℕ) → ℕ → ℕ → ℕ → Bool
-Exec execs node port e = eqb (field execs e 1) node && eqb (field execs e 2) port
-
-abbrev pub ExecChain : List (List ℕ) → ℕ → ℕ → ℕ → Type 0
-ExecChain execs node port l = Following (Exec execs node port) (λ e. eqb (bucketOf (field execs e 1)) (bucketOf node)) (length execs) l
-
-module _ (execs ids : List (List ℕ)) (known : Ids ids (length execs) (λ e. field execs e 1)) (node port : ℕ) where
-  exec-implies : Implies (Exec execs node port) (λ e. eqb (bucketOf (field execs e 1)) (bucketOf node))
-  exec-implies e h = eq-eqb _ _ (ap bucketOf (eqb-true (field execs e 1) node (and-left (eqb (field execs e 1) node) _ h)))
-
-  by-node : Chained BUCKETS (λ e. bucketOf (field execs e 1)) (column 1 ids) (column 2 ids) (length execs)
-  by-node = chained-same BUCKETS _ (column 1 ids) (column 2 ids) (length execs) (known .index .chained) (λ e. bucketOf (field execs e 1)) (λ e h. ap bucketOf (known .same e h))
-
-  pub exec-start : ExecChain execs node port (field ids (bucketOf node) 2)
-  exec-start =
-      subst (ExecChain execs node port) (column-at 2 ids (bucketOf node))
-      (chain-start BUCKETS _ (column 1 ids) (column 2 ids) (length execs) by-node (Exec execs node port) (bucketOf node) exec-implies (omega arith))
-
-  pub exec-next : (l : ℕ) → 0 < l → ExecChain execs node port l → Exec execs node port (l - 1) ≡ false → ExecChain execs node port (field ids (l - 1) 1)
-  exec-next l h f not′ =
-      subst (ExecChain execs node port) (column-at 1 ids (l - 1))
-      (chain-next BUCKETS _ (column 1 ids) (column 2 ids) (length execs) by-node (Exec execs node port) (bucketOf node) exec-implies l (l - 1) (omega arith) f not′)
-
-  pub exec-falls : (l : ℕ) → 0 < l → l ≤ length execs → field ids (l - 1) 1 < l
-  exec-falls l h k = let z = index-falls ids (length execs) (known .index) node (l - 1) (omega arith) in omega arith
-
-  pub exec-found : (l : ℕ) → 0 < l → ExecChain execs node port l → Exec execs node port (l - 1) ≡ true → true ≡ any (Exec execs node port) (upto (length execs))
-  exec-found l h f has = sym (any-newest (Exec execs node port) (length execs) ∙ ap found (follow-found _ _ (length execs) l (l - 1) f (omega arith) has))
-
-  pub exec-none : (l : ℕ) → l ≡ 0 → ExecChain execs node port l → false ≡ any (Exec execs node port) (upto (length execs))
-  exec-none l e f = sym (any-newest (Exec execs node port) (length execs) ∙ ap found (follow-end _ _ (length execs) l 0 f e))
-
--- Chains without an entry, over fresh tables.
-pub fresh-chains : (buckets : ℕ) (bucket : ℕ → ℕ) (n m : ℕ) → buckets ≤ m → Chained buckets bucket (replicate n 0) (replicate m 0) 0
-fresh-chains buckets bucket n m h =
-    record {
-      entries = omega arith;
-      width = simp length-replicate h;
-      head = λ k l. getD-replicate m k 0 0 (omega arith);
-      next = λ i l. absurd (omega arith);
-    }
 
 -- A bool cast to a number.
 pub byte-flag : (r : Bool) → boolByte r ≡ flag r

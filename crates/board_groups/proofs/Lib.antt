@@ -1,6 +1,8 @@
 pub mod Ends
+pub mod ExecLaws
 pub mod Facts
 pub mod Filling
 pub mod KeyLaws
 pub mod RowLaws
+pub mod ShareLaws
 pub mod TapLaws

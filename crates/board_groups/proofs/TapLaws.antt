@@ -1,27 +1,26 @@
--- Which wires become taps, what their facts hold, and how the taps are chained by their key.
+-- Which wires become taps, what their facts hold, and the taps as they are appended.
 use Prim.Native.Nat.{ℕ, zero, suc, _+_, _-_, _≤_, _<_}
 use native.Mathlib.Omega.{arith}
+use native.Mathlib.Decide.{ℕ-discrete}
 use native.Mathlib.Numerals.{add-one}
 use mathlib.Core.Path.{_≡_, refl, sym, ap, _∙_, subst}
 use mathlib.Core.Bool.{Bool, true, false, not, _&&_, _||_}
 use mathlib.Core.List.{List, [], _∷_}
 use lib.Dec.{eqb}
-use lib.ListN.{length, getD, set, replicate, length-set}
+use lib.ListN.{length, getD, set}
 use lib.Seq.{getD-set-same, getD-set-other}
-use borrow.Author.Tests.{eq-eqb, ne-eqb, eqb-true}
 use Rattle.sheet.specs.Table.{MISSING}
-use Rattle.base.proofs.Bools.{never, clash, and-right}
-use Rattle.base.specs.Lists.{Found, none, at, any, fold, upto, newest}
-use Rattle.board.specs.Board.{Board, field, given, hasRow, pageOf, xOf, yOf, sourceNode, sourcePort, targetNode, targetPort, classOf, kindOf, classInline, classStorage, kindChip, kindInput, kindCoerce}
+use Rattle.base.proofs.Bools.{never, and-right}
+use Rattle.base.specs.Lists.{Found, none, at, any, fold, upto}
+use Rattle.board.specs.Board.{Board, field, given, hasRow, pageOf, sourceNode, targetNode, classOf, kindOf, classInline, classStorage, kindChip, kindInput, kindCoerce}
 use Rattle.board.specs.Refusals.{bodyOf, innerOf}
 use Rattle.board.specs.Rows.{rowOf}
 use Rattle.board.specs.Groups.{Tap, anchorOf, topChip, isBussable, wireOpen, anchorsOpen, crossesAt, isBusWorthy, targetsExec, groupFor, tapFor, addWire, tapsOf}
-use Rattle.board.specs.Index.{Chained}
 use Rattle.base.specs.Views.{view}
-use Rattle.board.specs.Tables.{held, flag, tapIn, tapRow, tapTarget, NodeFacts, WireFacts, TapTargets}
-use Rattle.board_groups.specs.Collecting.{tapBucket, bucketIn, TAP_BUCKETS, Tapped}
-use Rattle.board.proofs.Newest.{Implies, Following, newest-same, follow-found, follow-end, chained-same, chained-more, chain-start, chain-next, chain-falls}
-use Rattle.board_groups.proofs.Ends.{found-below, held-there, held-gone, fresh-chains}
+use Rattle.board.specs.Tables.{held, flag, tapIn, tapTarget, NodeFacts, WireFacts}
+use Rattle.board_groups.specs.Shares.{Wired, Shared, Appended}
+use Rattle.board_groups.proofs.Ends.{found-below, held-there}
+use Rattle.board_groups.proofs.ShareLaws.{group-told}
 use Rattle.board_groups.proofs.Facts.{same-nodes, same-wires, column-kept, column-more}
 
 module _ (b : Board) where
@@ -184,83 +183,6 @@ module _ {A : Type 0} (read : List ℕ → A) (s : List (List ℕ)) (v : List �
       ap (view read (set s m v)) (add-one m)
       ∙ (λ z. read (getD-set-same s m v [] h z) ∷ view-kept m m (omega arith) z)
 
--- Taps by their key.
-abbrev pub SameKey : List (List ℕ) → List (List ℕ) → ℕ → ℕ → ℕ → Bool
-SameKey wires taps p w k =
-    eqb (field taps k 0) p && eqb (field wires (field taps k 7) 1) (field wires w 1) && eqb (field wires (field taps k 7) 2) (field wires w 2)
-
-abbrev pub groupAt : List (List ℕ) → ℕ → Found → ℕ
-groupAt taps w none = w
-groupAt taps w (at k) = field taps k 1
-
-group-newest : (b : Board) (taps : List (List ℕ)) (p w m : ℕ) → groupFor b (view tapIn taps m) p w ≡ groupAt taps w (newest (SameKey (b .wires) taps p w) m)
-unfolding groupFor
-group-newest b taps p w zero = refl
-group-newest b taps p w (suc m) = go (SameKey (b .wires) taps p w m) (group-newest b taps p w m)
-  where
-    go : (t : Bool) → groupFor b (view tapIn taps m) p w ≡ groupAt taps w (newest (SameKey (b .wires) taps p w) m)
-        → _≡_ {A = ℕ} (elim t [ true ↦ field taps m 1 | false ↦ groupFor b (view tapIn taps m) p w ]) (groupAt taps w (elim t [ true ↦ at m | false ↦ newest (SameKey (b .wires) taps p w) m ]))
-    go true ih = refl
-    go false ih = ih
-
-abbrev pub KeyChain : List (List ℕ) → List (List ℕ) → ℕ → ℕ → ℕ → ℕ → Type 0
-KeyChain wires taps p w m l =
-    Following (SameKey wires taps p w) (λ k. eqb (bucketIn wires (getD taps k [])) (tapBucket p (field wires w 1) (field wires w 2))) m l
-
-module _ (wires taps : List (List ℕ)) (nexts heads : List ℕ) (m : ℕ) (tapped : Tapped wires taps nexts heads m) (p w : ℕ) where
-  key-implies : Implies (SameKey wires taps p w) (λ k. eqb (bucketIn wires (getD taps k [])) (tapBucket p (field wires w 1) (field wires w 2)))
-  key-implies k h = go (eqb (field taps k 0) p) refl (eqb (field wires (field taps k 7) 1) (field wires w 1)) refl (eqb (field wires (field taps k 7) 2) (field wires w 2)) refl h
-    where
-      go : (s : Bool) → eqb (field taps k 0) p ≡ s → (t : Bool) → eqb (field wires (field taps k 7) 1) (field wires w 1) ≡ t → (u : Bool) → eqb (field wires (field taps k 7) 2) (field wires w 2) ≡ u
-          → (s && t && u) ≡ true → eqb (bucketIn wires (getD taps k [])) (tapBucket p (field wires w 1) (field wires w 2)) ≡ true
-      go true e true f true g z =
-          eq-eqb _ _ (λ i. tapBucket (eqb-true (field taps k 0) p e i) (eqb-true (field wires (field taps k 7) 1) (field wires w 1) f i) (eqb-true (field wires (field taps k 7) 2) (field wires w 2) g i))
-      go true e true f false g z = clash z refl
-      go true e false f u g z = clash z refl
-      go false e t f u g z = clash z refl
-
-  pub key-start : KeyChain wires taps p w m (getD heads (tapBucket p (field wires w 1) (field wires w 2)) 0)
-  key-start = chain-start TAP_BUCKETS _ nexts heads m (tapped .chained) (SameKey wires taps p w) _ key-implies (omega arith)
-
-  pub key-next : (l : ℕ) → 0 < l → KeyChain wires taps p w m l → SameKey wires taps p w (l - 1) ≡ false → KeyChain wires taps p w m (getD nexts (l - 1) 0)
-  key-next l h f not′ = chain-next TAP_BUCKETS _ nexts heads m (tapped .chained) (SameKey wires taps p w) _ key-implies l (l - 1) (omega arith) f not′
-
-  pub key-falls : (l : ℕ) → 0 < l → l ≤ m → getD nexts (l - 1) 0 < l
-  key-falls l h k = let z = chain-falls TAP_BUCKETS _ nexts heads m (tapped .chained) (l - 1) (omega arith) in omega arith
-
-  module _ (b : Board) (is : b .wires ≡ wires) where
-    newest-group : (f : Found) → newest (SameKey wires taps p w) m ≡ f → groupAt taps w f ≡ groupFor b (view tapIn taps m) p w
-    newest-group f e = sym (group-newest b taps p w m ∙ (λ z. groupAt taps w (newest (SameKey (is z) taps p w) m)) ∙ ap (groupAt taps w) e)
-
-    pub key-found : (l : ℕ) → 0 < l → KeyChain wires taps p w m l → SameKey wires taps p w (l - 1) ≡ true → field taps (l - 1) 1 ≡ groupFor b (view tapIn taps m) p w
-    key-found l h f has = newest-group (at (l - 1)) (follow-found _ _ m l (l - 1) f (omega arith) has)
-
-    pub key-none : (l : ℕ) → l ≡ 0 → KeyChain wires taps p w m l → w ≡ groupFor b (view tapIn taps m) p w
-    key-none l e f = newest-group none (follow-end _ _ m l 0 f e)
-
-  pub tapped-more : (tap : List ℕ) (k : ℕ) → m < length taps → m < length nexts → getD tap 7 0 < length wires → k ≡ bucketIn wires tap
-      → Tapped wires (set taps m tap) (set nexts m (getD heads k 0)) (set heads k (m + 1)) (m + 1)
-  tapped-more tap k room room′ inside e =
-      rw (add-one m)
-      (record {
-        room = simp length-set (omega arith);
-        below = λ j h. below′ j h (eqb j m) refl;
-        chained =
-            chained-more TAP_BUCKETS (λ j. bucketIn wires (getD (set taps m tap) j [])) nexts heads m
-            (chained-same TAP_BUCKETS _ nexts heads m (tapped .chained) (λ j. bucketIn wires (getD (set taps m tap) j []))
-            (λ j l. ap (bucketIn wires) (sym (getD-set-other taps m j tap [] (λ z. omega arith)))))
-            k room′ (ap (bucketIn wires) (getD-set-same taps m tap [] room) ∙ sym e) (omega arith);
-      })
-    where
-      below′ : (j : ℕ) → j < suc m → (t : Bool) → eqb j m ≡ t → field (set taps m tap) j 7 < length wires
-      below′ j h true q =
-          let same : field (set taps m tap) j 7 ≡ getD tap 7 0 = (λ z. field (set taps m tap) (eqb-true j m q z) 7) ∙ ap (λ (r : List ℕ). getD r 7 0) (getD-set-same taps m tap [] room) in
-          omega arith
-      below′ j h false q =
-          let other : field (set taps m tap) j 7 ≡ field taps j 7 = ap (λ (r : List ℕ). getD r 7 0) (getD-set-other taps m j tap [] (borrow.Author.Tests.eqb-false j m q)) in
-          let old = tapped .below j (omega (arith, borrow.Author.Tests.eqb-false j m q)) in
-          omega arith
-
 -- The tap of a wire with target t, as `add_tap` writes it.
 pub tap-for : (b : Board) (nodes wires facts : List (List ℕ)) (ts : List Tap) (w t g : ℕ) → b .nodes ≡ nodes → b .wires ≡ wires → NodeFacts b facts → tapTarget b w ≡ at t
     → g ≡ groupFor b ts (field nodes t 10) w
@@ -363,24 +285,75 @@ module _ (b : Board) (w t : ℕ) (nodes : List (List ℕ)) (is : b .nodes ≡ no
   pub target-there : length nodes ≤ 4096 → t < length nodes → tapTarget b w ≡ at t
   target-there few h = held-there (tapTarget b w) (length nodes) t (omega arith) (sym e) h
 
-pub taps-none : (b : Board) → fold (addWire b) [] (upto 0) ≡ []
-taps-none b = refl
+-- A tap more, as `add_tap` writes it: once the taps have their groups, they are those of one wire more.
+abbrev pub newRow : List (List ℕ) → List (List ℕ) → List (List ℕ) → ℕ → ℕ → List ℕ
+newRow nodes wires facts w t = field nodes t 10 ∷ w ∷ field facts t 0 ∷ field nodes t 9 ∷ field nodes t 8 ∷ field wires w 3 ∷ field wires w 4 ∷ w ∷ []
 
-pub taps-more : (b : Board) (w : ℕ) (ts ts′ : List Tap) → ts ≡ fold (addWire b) [] (upto w) → ts′ ≡ addWire b ts w → ts′ ≡ fold (addWire b) [] (upto (w + 1))
-taps-more b w ts ts′ e f = f ∙ ap (λ (l : List Tap). addWire b l w) e ∙ ap (λ (n : ℕ). fold (addWire b) [] (upto n)) (sym (add-one w))
+module _ (b : Board) (nodes wires facts taps : List (List ℕ)) (m w t : ℕ) (n : b .nodes ≡ nodes) (e : b .wires ≡ wires) (known : NodeFacts b facts) (target : t ≡ held (tapTarget b w)) (ts : List Tap)
+    (old : Appended b taps m ts) where
+  pub none-appended : length nodes ≤ t → Appended b taps m (addWire b ts w)
+  none-appended h new s = old new s ∙ sym (add-none b w ts (target-gone b w t nodes n target h))
 
-pub taps-all : (b : Board) (wires : List (List ℕ)) (w : ℕ) (ts : List Tap) → b .wires ≡ wires → w ≡ length wires → ts ≡ fold (addWire b) [] (upto w) → ts ≡ tapsOf b
+  pub one-appended : length nodes ≤ 4096 → t < length nodes → m < length taps → Appended b (set taps m (newRow nodes wires facts w t)) (m + 1) (addWire b ts w)
+  one-appended few inside room new s =
+      ap (view tapIn new) (add-one m) ∙ (λ z. tap z ∷ below z) ∙ sym (add-some b w ts t there)
+    where
+      row : List ℕ
+      row = newRow nodes wires facts w t
+
+      there : tapTarget b w ≡ at t
+      there = target-there b w t nodes n target few inside
+
+      -- The taps before it.
+      before : Shared (b .wires) taps new m
+      before =
+          record {
+            kept = λ k c h l d. s .kept k c (omega arith) l d ∙ ap (λ (r : List ℕ). getD r c 0) (getD-set-other taps m k row [] (λ z. omega arith));
+            groups = λ k h. s .groups k (omega arith);
+          }
+
+      below : view tapIn new m ≡ ts
+      below = old new before
+
+      col : (c : ℕ) → c < 8 → (c ≡ 1 → ⊥) → field new m c ≡ getD row c 0
+      col c l d = s .kept m c (omega arith) l d ∙ ap (λ (r : List ℕ). getD r c 0) (getD-set-same taps m row [] room)
+
+      page : field new m 0 ≡ field nodes t 10
+      page = col 0 (omega arith) (λ z. omega arith)
+
+      own : field new m 7 ≡ w
+      own = col 7 (omega arith) (λ z. omega arith)
+
+      group : field new m 1 ≡ groupFor b ts (field nodes t 10) w
+      group = sym (group-told b new m (λ k h. s .groups k (omega arith))) ∙ (λ z. groupFor b (below z) (page z) (own z))
+
+      seen : tapIn (getD new m []) ≡ tapIn (field nodes t 10 ∷ field new m 1 ∷ field facts t 0 ∷ field nodes t 9 ∷ field nodes t 8 ∷ field wires w 3 ∷ field wires w 4 ∷ w ∷ [])
+      seen =
+          let row′ : field new m 2 ≡ field facts t 0 = col 2 (omega arith) (λ z. omega arith) in
+          let y : field new m 3 ≡ field nodes t 9 = col 3 (omega arith) (λ z. omega arith) in
+          let x : field new m 4 ≡ field nodes t 8 = col 4 (omega arith) (λ z. omega arith) in
+          let node : field new m 5 ≡ field wires w 3 = col 5 (omega arith) (λ z. omega arith) in
+          let port : field new m 6 ≡ field wires w 4 = col 6 (omega arith) (λ z. omega arith) in
+          λ z. record { page = page z; group = field new m 1; row = row′ z; y = y z; x = x z; node = node z; port = port z; wire = own z }
+
+      tap : tapIn (getD new m []) ≡ tapFor b ts w t
+      tap = seen ∙ tap-for b nodes wires facts ts w t (field new m 1) n e known there group
+
+pub wired-more : (wires taps : List (List ℕ)) (m : ℕ) (row : List ℕ) → m < length taps → getD row 7 0 < length wires → Wired wires taps m → Wired wires (set taps m row) (m + 1)
+wired-more wires taps m row room new old k h =
+    elim (ℕ-discrete k m) [
+      | yes e ↦ let same : field (set taps m row) k 7 ≡ getD row 7 0 = (λ z. field (set taps m row) (e z) 7) ∙ ap (λ (r : List ℕ). getD r 7 0) (getD-set-same taps m row [] room) in omega arith
+      | no f ↦ let same : field (set taps m row) k 7 ≡ field taps k 7 = ap (λ (r : List ℕ). getD r 7 0) (getD-set-other taps m k row [] f) in let a = old k (omega (arith, f)) in omega arith
+    ]
+
+-- The taps of the first w wires, and of all.
+pub appended-more : (b : Board) (taps : List (List ℕ)) (m w : ℕ) → Appended b taps m (addWire b (fold (addWire b) [] (upto w)) w) → Appended b taps m (fold (addWire b) [] (upto (w + 1)))
+appended-more b taps m w a = subst (λ (n : ℕ). Appended b taps m (fold (addWire b) [] (upto n))) (sym (add-one w)) a
+
+pub appended-done : (b : Board) (wires taps : List (List ℕ)) (m w : ℕ) → b .wires ≡ wires → w ≡ length wires → Appended b taps m (fold (addWire b) [] (upto w)) → Appended b taps m (tapsOf b)
 unfolding tapsOf
-taps-all b wires w ts e f g = g ∙ ap (λ (n : ℕ). fold (addWire b) [] (upto n)) (f ∙ ap length (sym e))
+appended-done b wires taps m w e f a = subst (λ (n : ℕ). Appended b taps m (fold (addWire b) [] (upto n))) (f ∙ ap length (sym e)) a
 
-pub fresh-taps : (wires taps : List (List ℕ)) (n m : ℕ) → TAP_BUCKETS ≤ m → Tapped wires taps (replicate n 0) (replicate m 0) 0
-fresh-taps wires taps n m h = record { room = omega arith; below = λ k l. absurd (omega arith); chained = fresh-chains TAP_BUCKETS _ n m h }
-
--- One more wire with a target, as `add_tap` writes its tap.
-pub taps-with : (b : Board) (w t : ℕ) (nodes wires facts : List (List ℕ)) (g : ℕ) (ts ts′ : List Tap) → b .nodes ≡ nodes → b .wires ≡ wires → NodeFacts b facts
-    → t ≡ held (tapTarget b w) → length nodes ≤ 4096 → t < length nodes → ((c : Board) → c .wires ≡ wires → g ≡ groupFor c ts (field nodes t 10) w)
-    → ts′ ≡ tapIn (field nodes t 10 ∷ g ∷ field facts t 0 ∷ field nodes t 9 ∷ field nodes t 8 ∷ field wires w 3 ∷ field wires w 4 ∷ w ∷ []) ∷ ts
-    → ts′ ≡ addWire b ts w
-taps-with b w t nodes wires facts g ts ts′ n e known h few inside group new =
-    let target = target-there b w t nodes n h few inside in
-    new ∙ ap (λ (x : Tap). x ∷ ts) (tap-for b nodes wires facts ts w t g n e known target (group b e)) ∙ sym (add-some b w ts t target)
+-- Once the taps have their groups they are those of the rules.
+pub appended-all : (b : Board) (wires old new : List (List ℕ)) (m : ℕ) (ts : List Tap) → b .wires ≡ wires → Appended b old m ts → Shared wires old new m → view tapIn new m ≡ ts
+appended-all b wires old new m ts e a s = a new (subst (λ (ws : List (List ℕ)). Shared ws old new m) (sym e) s)

@@ -1,5 +1,5 @@
 -- How the code that collects taps, groups and demands holds them on its way. No rule stands here.
-use Prim.Native.Nat.{ℕ, _+_, _-_, _*_, _%_, _≤_, _<_}
+use Prim.Native.Nat.{ℕ, _+_, _-_, _*_, _≤_, _<_}
 use mathlib.Core.Path.{_≡_}
 use mathlib.Core.Bool.{true, false, _&&_}
 use mathlib.Core.List.{List, [], _∷_}
@@ -7,11 +7,12 @@ use lib.Dec.{eqb}
 use lib.ListN.{length, getD}
 use Rattle.sheet.specs.Table.{MISSING, libraryMost}
 use Rattle.base.specs.Sort.{lexLess}
+use Rattle.base.specs.Keys.{Rising}
 use Rattle.lanes.specs.LaneCall.{rowMost, countMost}
 use Rattle.board_groups.specs.declared.rows.Run.{Run}
 use Rattle.base.specs.Lists.{Found, none, at}
 use Rattle.board.specs.Board.{Board, field, hasRow, pageOf, downOf}
-use Rattle.board.specs.Index.{Ids, Chained}
+use Rattle.board.specs.Index.{Ids}
 use Rattle.board.specs.Rows.{brickCell}
 use Rattle.board.specs.Groups.{Tap}
 use Rattle.board.specs.Demands.{needsLane}
@@ -53,22 +54,20 @@ pub record Indexes (nodes inner bodyIds innerIds : List (List ℕ)) : Type 0 whe
   pub body : Ids bodyIds (length nodes) (λ i. field nodes i 1)
   pub inside : Ids innerIds (length inner) (λ f. field inner f 1)
 
--- How many chains the taps stand in, by page, source node and source port.
-abbrev pub TAP_BUCKETS : ℕ
-TAP_BUCKETS = 8192
+-- One more than the greatest number of 32 bits.
+abbrev pub WORD : ℕ
+WORD = 4294967296
 
-abbrev pub tapBucket : ℕ → ℕ → ℕ → ℕ
-tapBucket page node port = (node % 8192 + port % 8192 * 1021 + page % 64 * 127) % TAP_BUCKETS
+-- A node and a port as one number.
+abbrev pub execKey : ℕ → ℕ → ℕ
+execKey node port = node * WORD + port
 
--- The bucket of a tap in a row: the source is that of its wire.
-abbrev pub bucketIn : List (List ℕ) → List ℕ → ℕ
-bucketIn wires tap = tapBucket (getD tap 0 0) (field wires (getD tap 7 0) 1) (field wires (getD tap 7 0) 2)
-
--- The first m rows are taps of the wires, chained.
-pub record Tapped (wires taps : List (List ℕ)) (nexts heads : List ℕ) (m : ℕ) : Type 0 where
-  pub room : m ≤ length taps
-  pub below : (k : ℕ) → k < m → field taps k 7 < length wires
-  pub chained : Chained TAP_BUCKETS (λ k. bucketIn wires (getD taps k [])) nexts heads m
+-- The keys of the X records, in rising order.
+pub record ExecKeys (execs : List (List ℕ)) (keys : List ℕ) : Type 0 where
+  pub room : length execs ≤ length keys
+  pub rising : Rising keys (length execs)
+  pub from : (p : ℕ) → p < length execs → (e : ℕ) × (e < length execs) × (getD keys p 0 ≡ execKey (field execs e 1) (field execs e 2)) × (field execs e 2 < WORD)
+  pub to : (e : ℕ) → e < length execs → (p : ℕ) × (p < length execs) × (getD keys p 0 ≡ execKey (field execs e 1) (field execs e 2))
 
 -- A group's row with another lane.
 abbrev pub relaned : Found → List ℕ → List ℕ

@@ -1,4 +1,7 @@
 // `collect_bus_groups`: which wires a lane may carry, and which of them share one. First each wire's ends, then its target, then its tap.
+use crate::execs::sort_execs;
+use crate::execs::targets_exec;
+use crate::shares::share_groups;
 use base::ids::NodeId;
 use base::numbers::KIND_CHIP;
 use base::numbers::MISSING;
@@ -6,12 +9,11 @@ use base::rows::IdRow;
 use base::rows::Record;
 use base::rows::WorkRow;
 use board::ids::Found;
-use board::ids::add_id;
 use board::ids::find_id;
 use board::ids::top_chip;
 ghost use mathlib.Core.Path.{_≡_};
 ghost use mathlib.Core.Bool.{not, _&&_, _||_};
-ghost use mathlib.Core.List.{List, [], _∷_};
+ghost use mathlib.Core.List.{List, []};
 ghost use Prim.Native.Nat.{ℕ, _+_, _≤_, _<_};
 ghost use lib.Dec.{eqb};
 ghost use Rattle.sheet.specs.Table.{libraryMost};
@@ -19,11 +21,12 @@ ghost use lib.ListN.{length, getD};
 ghost use Rattle.base.specs.Lists.{any, upto};
 ghost use Rattle.board.specs.Board.{Board, field, given, kindChip, kindInput, kindCoerce, classStorage, classInline, sourceNode, targetNode};
 ghost use Rattle.board.specs.Groups.{anchorOf, isBussable, wireOpen};
-ghost use Rattle.board.specs.Index.{Index, Ids, entryOf};
-ghost use Rattle.board.specs.Groups.{addWire, groupFor, tapsOf};
+ghost use Rattle.board.specs.Index.{Index, entryOf};
+ghost use Rattle.board.specs.Groups.{Tap, addWire, tapsOf};
 ghost use Rattle.base.specs.Views.{view};
 ghost use Rattle.board.specs.Tables.{held, flag, tapIn, tapTarget, NodeFacts, WireFacts, TapTargets};
-ghost use Rattle.board_groups.specs.Collecting.{Indexes, tapBucket, Tapped};
+ghost use Rattle.board_groups.specs.Collecting.{Indexes, ExecKeys};
+ghost use Rattle.board_groups.specs.Shares.{Wired, Appended};
 
 const KIND_INPUT: u32 = 3;
 
@@ -34,10 +37,6 @@ const CLASS_STORAGE: u32 = 1;
 const CLASS_INLINE: u32 = 2;
 
 const PORT_LAYOUT: u32 = 0;
-
-const BUCKETS: u32 = 4096;
-
-const TAP_BUCKETS: u32 = 8192;
 
 // The entry that has the id, or MISSING.
 fn held_id(index: &[IdRow], n: usize, id: NodeId) -> u32
@@ -133,33 +132,6 @@ pub fn crosses_at(anchor: [u32; 16], id: u32) -> bool
     anchor[2] == KIND_CHIP
 }
 
-fn names(exec: [u32; 16], node: u32, port: u32) -> bool
-    ensures { λ r. ⌜ r ≡ (eqb (getD exec 1 0) node && eqb (getD exec 2 0) port) ⌝ }
-{
-    if exec[1] == node {
-        exec[2] == port
-    } else {
-        false
-    }
-}
-
-// Whether an X names the node and the port. X records are chained by node.
-fn targets_exec(execs: &[Record], index: &[IdRow], node: u32, port: u32) -> bool
-    requires { ⌜ Ids (now index) (length (now execs)) (λ e. field (now execs) e 1) ⌝ }
-    ensures { λ r. ⌜ r ≡ any (λ e. eqb (field (now (execs .entry)) e 1) node && eqb (field (now (execs .entry)) e 2) port) (upto (length (now (execs .entry)))) ⌝ }
-{
-    let k = (node % BUCKETS) as usize;
-    let mut link = index[k][2];
-    while link != 0 {
-        let e = (link - 1) as usize;
-        if names(execs[e], node, port) {
-            return true;
-        }
-        link = index[e][1];
-    }
-    false
-}
-
 // Finds the ends of every wire: both anchors, and whether it passes the tests before any on them. What is known of the nodes stays.
 fn find_ends(
     nodes: &[Record],
@@ -210,29 +182,15 @@ fn find_ends(
     }
 }
 
-// Chains the X records by node.
-fn index_execs(execs: &[Record], index: &mut [IdRow])
-    requires { ⌜ Index (now index) 0 ⌝ }
-    requires { ⌜ (length (now execs) ≤ libraryMost .execs) × (length (now execs) ≤ length (now index)) ⌝ }
-    ensures { λ _. ⌜ Ids (now (index .exit)) (length (now (execs .entry))) (λ e. field (now (execs .entry)) e 1) ⌝ }
-{
-    let mut e: usize = 0;
-    while e < execs.len() {
-        let exec = execs[e];
-        add_id(index, e, NodeId(exec[1]));
-        e += 1;
-    }
-}
-
 // The tests on a wire's anchors.
 fn anchors_open(
     execs: &[Record],
-    index: &[IdRow],
+    keys: &[u64],
     source: [u32; 16],
     target: [u32; 16],
     wire: [u32; 16],
 ) -> bool
-    requires { ⌜ Ids (now index) (length (now execs)) (λ e. field (now execs) e 1) ⌝ }
+    requires { ⌜ ExecKeys (now execs) (now keys) ⌝ }
     ensures { λ r. ⌜ r ≡ (
         ((not (eqb (getD target 1 0) (getD wire 3 0)) || eqb (getD target 2 0) kindChip)
         || (eqb (getD source 2 0) kindInput || eqb (getD source 4 0) 1 || eqb (getD source 3 0) classStorage)
@@ -259,7 +217,7 @@ fn anchors_open(
     if is_bus_worthy_source(source) {
         return true;
     }
-    if targets_exec(execs, index, wire[3], wire[4]) {
+    if targets_exec(execs, keys, wire[3], wire[4]) {
         false
     } else {
         true
@@ -270,11 +228,11 @@ fn anchors_open(
 fn tap_target(
     nodes: &[Record],
     execs: &[Record],
-    index: &[IdRow],
+    keys: &[u64],
     wire: [u32; 16],
     facts: [u32; 8],
 ) -> u32
-    requires { ⌜ Ids (now index) (length (now execs)) (λ e. field (now execs) e 1) ⌝ }
+    requires { ⌜ ExecKeys (now execs) (now keys) ⌝ }
     requires { ⌜ length (now nodes) ≤ libraryMost .nodes ⌝ }
     ensures { λ r. ⌜ ((b : Board) (w : ℕ) → b .nodes ≡ now (nodes .entry) → b .execs ≡ now (execs .entry) → getD (b .wires) w [] ≡ wire
         → getD facts 2 0 ≡ held (anchorOf b (sourceNode b w)) → getD facts 3 0 ≡ held (anchorOf b (targetNode b w)) → getD facts 4 0 ≡ flag (wireOpen b w)
@@ -291,7 +249,7 @@ fn tap_target(
     if nodes.len() <= t {
         return MISSING;
     }
-    if anchors_open(execs, index, nodes[s], nodes[t], wire) {
+    if anchors_open(execs, keys, nodes[s], nodes[t], wire) {
         facts[3]
     } else {
         MISSING
@@ -302,10 +260,10 @@ fn mark_wires(
     nodes: &[Record],
     execs: &[Record],
     wires: &[Record],
-    index: &[IdRow],
+    keys: &[u64],
     facts: &mut [WorkRow],
 )
-    requires { ⌜ Ids (now index) (length (now execs)) (λ e. field (now execs) e 1) ⌝ }
+    requires { ⌜ ExecKeys (now execs) (now keys) ⌝ }
     requires { ⌜ (length (now nodes) ≤ libraryMost .nodes) × (length (now wires) ≤ length (now facts)) ⌝ }
     ensures { λ _. ⌜ ((b : Board) → b .nodes ≡ now (nodes .entry) → b .execs ≡ now (execs .entry) → b .wires ≡ now (wires .entry)
         → NodeFacts b (now (facts .entry)) → WireFacts b (now (facts .entry))
@@ -314,7 +272,7 @@ fn mark_wires(
     let mut w: usize = 0;
     while w < wires.len() {
         let row = facts[w];
-        let target = tap_target(nodes, execs, index, wires[w], row);
+        let target = tap_target(nodes, execs, keys, wires[w], row);
         facts[w] = [row[0], row[1], row[2], row[3], row[4], target, 0, 0];
         w += 1;
     }
@@ -327,97 +285,26 @@ fn mark_taps(nodes: &[Record], execs: &[Record], wires: &[Record], facts: &mut [
         → NodeFacts b (now (facts .entry)) → WireFacts b (now (facts .entry))
         → NodeFacts b (now (facts .exit)) × WireFacts b (now (facts .exit)) × TapTargets b (now (facts .exit))) ⌝ }
 {
-    let mut index = [[0u32; 3]; 4096];
-    index_execs(execs, &mut index);
-    mark_wires(nodes, execs, wires, &index, facts);
+    let mut keys = [0u64; 4096];
+    let mut spare = [0u64; 4096];
+    sort_execs(execs, &mut keys, &mut spare);
+    mark_wires(nodes, execs, wires, &keys, facts);
 }
 
-fn tap_bucket(page: u32, node: u32, port: u32) -> usize
-    ensures { λ r. ⌜ r ≡ tapBucket page node port ⌝ }
-{
-    ((node % 8192 + port % 8192 * 1021 + page % 64 * 127) % TAP_BUCKETS) as usize
-}
-
-// Whether a tap is of the same page and its wire of the same source node and port.
-fn same_key(tap: [u32; 8], earlier: [u32; 16], page: u32, wire: [u32; 16]) -> bool
-    ensures { λ r. ⌜ r ≡ (eqb (getD tap 0 0) page && eqb (getD earlier 1 0) (getD wire 1 0) && eqb (getD earlier 2 0) (getD wire 2 0)) ⌝ }
-{
-    if tap[0] != page {
-        return false;
-    }
-    if earlier[1] != wire[1] {
-        return false;
-    }
-    earlier[2] == wire[2]
-}
-
-// The group of a wire to that page: that of the newest tap with the same key, else its own number.
-fn group_for(
-    wires: &[Record],
-    taps: &[WorkRow],
-    nexts: &[u32],
-    heads: &[u32],
-    m: usize,
-    page: u32,
-    w: usize,
-) -> u32
-    requires { ⌜ Tapped (now wires) (now taps) (now nexts) (now heads) m ⌝ }
-    requires { ⌜ (w < length (now wires)) × (length (now wires) ≤ libraryMost .wires) ⌝ }
-    ensures { λ r. ⌜ ((b : Board) → b .wires ≡ now (wires .entry) → r ≡ groupFor b (view tapIn (now (taps .entry)) m) page w) ⌝ }
-{
-    let wire = wires[w];
-    let mut link = heads[tap_bucket(page, wire[1], wire[2])];
-    while link != 0 {
-        let k = (link - 1) as usize;
-        let tap = taps[k];
-        let earlier = wires[tap[7] as usize];
-        if same_key(tap, earlier, page, wire) {
-            return tap[1];
-        }
-        link = nexts[k];
-    }
-    w as u32
-}
-
-// One more tap, in front of its bucket's chain.
-fn push_tap(
-    wires: &[Record],
-    taps: &mut [WorkRow],
-    nexts: &mut [u32],
-    heads: &mut [u32],
-    m: usize,
-    tap: [u32; 8],
-)
-    requires { ⌜ Tapped (now wires) (now taps) (now nexts) (now heads) m ⌝ }
-    requires { ⌜ (m < length (now taps)) × (m < length (now nexts)) × (m < libraryMost .wires) × (getD tap 7 0 < length (now wires)) ⌝ }
-    ensures { λ _. ⌜ Tapped (now (wires .entry)) (now (taps .exit)) (now (nexts .exit)) (now (heads .exit)) (m + 1) ⌝ }
-    ensures { λ _. ⌜ view tapIn (now (taps .exit)) (m + 1) ≡ _∷_ (tapIn tap) (view tapIn (now (taps .entry)) m) ⌝ }
-{
-    let wire = wires[tap[7] as usize];
-    let k = tap_bucket(tap[0], wire[1], wire[2]);
-    taps[m] = tap;
-    nexts[m] = heads[k];
-    heads[k] = (m + 1) as u32;
-}
-
-// The tap of a wire to its target anchor, unless it is passed over. The count of taps comes back.
+// The tap of a wire to its target anchor, unless it is passed over. Its group is its own wire until groups are shared. The count of taps comes back.
 fn add_tap(
     nodes: &[Record],
     wires: &[Record],
     facts: &[WorkRow],
     taps: &mut [WorkRow],
-    nexts: &mut [u32],
-    heads: &mut [u32],
     m: usize,
     w: usize,
     target: u32,
 ) -> usize
-    requires { ⌜ Tapped (now wires) (now taps) (now nexts) (now heads) m ⌝ }
-    requires { ⌜ (m < length (now taps)) × (m < length (now nexts)) × (m ≤ w) × (w < length (now wires)) × (length (now wires) ≤ libraryMost .wires) × (length (now nodes) ≤ libraryMost .nodes) × (length (now nodes) ≤ length (now facts)) ⌝ }
-    ensures { λ r. ⌜ r ≤ m + 1 ⌝ }
-    ensures { λ r. ⌜ Tapped (now (wires .entry)) (now (taps .exit)) (now (nexts .exit)) (now (heads .exit)) r ⌝ }
-    ensures { λ r. ⌜ ((b : Board) → b .nodes ≡ now (nodes .entry) → b .wires ≡ now (wires .entry) → NodeFacts b (now (facts .entry)) → target ≡ held (tapTarget b w)
-        → view tapIn (now (taps .exit)) r ≡ addWire b (view tapIn (now (taps .entry)) m) w) ⌝ }
+    requires { ⌜ (m < length (now taps)) × (w < length (now wires)) × (length (now wires) ≤ libraryMost .wires) × (length (now nodes) ≤ libraryMost .nodes) × (length (now nodes) ≤ length (now facts)) × Wired (now wires) (now taps) m ⌝ }
+    ensures { λ r. ⌜ (r ≤ m + 1) × Wired (now (wires .entry)) (now (taps .exit)) r ⌝ }
+    ensures { λ r. ⌜ ((b : Board) (ts : List Tap) → b .nodes ≡ now (nodes .entry) → b .wires ≡ now (wires .entry) → NodeFacts b (now (facts .entry)) → target ≡ held (tapTarget b w)
+        → Appended b (now (taps .entry)) m ts → Appended b (now (taps .exit)) r (addWire b ts w)) ⌝ }
 {
     let t = target as usize;
     if nodes.len() <= t {
@@ -426,46 +313,31 @@ fn add_tap(
     let node = nodes[t];
     let wire = wires[w];
     let row = facts[t][0];
-    let group = group_for(wires, taps, nexts, heads, m, node[10], w);
-    push_tap(
-        wires,
-        taps,
-        nexts,
-        heads,
-        m,
-        [
-            node[10],
-            group,
-            row,
-            node[9],
-            node[8],
-            wire[3],
-            wire[4],
-            w as u32,
-        ],
-    );
+    taps[m] = [
+        node[10],
+        w as u32,
+        row,
+        node[9],
+        node[8],
+        wire[3],
+        wire[4],
+        w as u32,
+    ];
     m + 1
 }
 
-fn append_all(
-    nodes: &[Record],
-    wires: &[Record],
-    facts: &[WorkRow],
-    taps: &mut [WorkRow],
-    nexts: &mut [u32],
-    heads: &mut [u32],
-) -> usize
-    requires { ⌜ Tapped (now wires) (now taps) (now nexts) (now heads) 0 ⌝ }
-    requires { ⌜ (length (now wires) ≤ length (now taps)) × (length (now wires) ≤ length (now nexts)) × (length (now wires) ≤ libraryMost .wires) × (length (now wires) ≤ length (now facts)) × (length (now nodes) ≤ libraryMost .nodes) × (length (now nodes) ≤ length (now facts)) ⌝ }
-    ensures { λ r. ⌜ r ≤ length (now (wires .entry)) ⌝ }
+// The taps of all wires that are not passed over, in order, before groups are shared. Their count comes back.
+fn append_all(nodes: &[Record], wires: &[Record], facts: &[WorkRow], taps: &mut [WorkRow]) -> usize
+    requires { ⌜ (length (now wires) ≤ length (now taps)) × (length (now wires) ≤ libraryMost .wires) × (length (now wires) ≤ length (now facts)) × (length (now nodes) ≤ libraryMost .nodes) × (length (now nodes) ≤ length (now facts)) ⌝ }
+    ensures { λ r. ⌜ (r ≤ length (now (wires .entry))) × Wired (now (wires .entry)) (now (taps .exit)) r ⌝ }
     ensures { λ r. ⌜ ((b : Board) → b .nodes ≡ now (nodes .entry) → b .wires ≡ now (wires .entry) → NodeFacts b (now (facts .entry)) → TapTargets b (now (facts .entry))
-        → view tapIn (now (taps .exit)) r ≡ tapsOf b) ⌝ }
+        → Appended b (now (taps .exit)) r (tapsOf b)) ⌝ }
 {
     let mut m: usize = 0;
     let mut w: usize = 0;
     while w < wires.len() {
         let fact = facts[w];
-        m = add_tap(nodes, wires, facts, taps, nexts, heads, m, w, fact[5]);
+        m = add_tap(nodes, wires, facts, taps, m, w, fact[5]);
         w += 1;
     }
     m
@@ -478,9 +350,9 @@ fn append_taps(nodes: &[Record], wires: &[Record], facts: &[WorkRow], taps: &mut
     ensures { λ r. ⌜ ((b : Board) → b .nodes ≡ now (nodes .entry) → b .wires ≡ now (wires .entry) → NodeFacts b (now (facts .entry)) → TapTargets b (now (facts .entry))
         → view tapIn (now (taps .exit)) r ≡ tapsOf b) ⌝ }
 {
-    let mut nexts = [0u32; 8192];
-    let mut heads = [0u32; 8192];
-    append_all(nodes, wires, facts, taps, &mut nexts, &mut heads)
+    let m = append_all(nodes, wires, facts, taps);
+    share_groups(wires, taps, m);
+    m
 }
 
 // `collect_bus_groups`: the ends of all wires, and the taps of those that a lane may carry, with their groups. The count of taps comes back.

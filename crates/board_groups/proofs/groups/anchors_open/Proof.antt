@@ -1,7 +1,6 @@
 use borrow.Author.Tests.{eq-eqb, ne-eqb}
-use mathlib.Core.Path.{_≡_, refl, sym, ap, _∙_}
+use mathlib.Core.Path.{refl, sym, _∙_}
 use Rattle.base.proofs.Bools.{and-false}
-use mathlib.Core.Bool.{not}
 use borrow.Author.Needs.{needs}
 use Rattle.board_groups.proofs.groups.anchors_open.Statement.{statement}
 use Rattle.board_groups.proofs.groups.anchors_open.Tie as tie

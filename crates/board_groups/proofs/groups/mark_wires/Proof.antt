@@ -2,7 +2,7 @@ use mathlib.Core.List.{List}
 use native.Mathlib.Omega.{arith}
 use borrow.Author.Needs.{needs}
 use Prim.Native.Nat.{ℕ, _-_, _≤_}
-use mathlib.Core.Path.{_≡_, refl, sym, ap, _∙_, subst}
+use mathlib.Core.Path.{_≡_, refl, ap, _∙_}
 use mathlib.Core.List.{[]}
 use lib.ListN.{length, getD, length-set}
 use Rattle.board.specs.Board.{Board}
@@ -12,10 +12,10 @@ use Rattle.board_groups.proofs.groups.mark_wires.Statement.{statement}
 use Rattle.board_groups.proofs.groups.mark_wires.Tie as tie
 
 abbrev Inv-loop : tie.InvT-loop
-Inv-loop nodes execs wires index facts₀ w₀ facts w = (w ≤ length wires) × (length facts ≡ length facts₀) × ((b : Board) → b .nodes ≡ nodes → b .execs ≡ execs → b .wires ≡ wires → NodeFacts b facts₀ → WireFacts b facts₀ → TargetsUpto b facts w)
+Inv-loop nodes execs wires keys facts₀ w₀ facts w = (w ≤ length wires) × (length facts ≡ length facts₀) × ((b : Board) → b .nodes ≡ nodes → b .execs ≡ execs → b .wires ≡ wires → NodeFacts b facts₀ → WireFacts b facts₀ → TargetsUpto b facts w)
 
 abbrev μ-loop : tie.MeasureT-loop
-μ-loop nodes execs wires index facts₀ w₀ facts w = length wires - w
+μ-loop nodes execs wires keys facts₀ w₀ facts w = length wires - w
 
 loop-holds : tie.Need-loop-holds Inv-loop μ-loop
 loop-holds c = (search needs, refl, λ b n x e k f. record { nodes = k; wires = f; targets = λ j h. absurd (omega arith) })
@@ -33,7 +33,7 @@ shared-slice-copy-out-tap-target : tie.Need-shared-slice-copy-out-tap-target Inv
 shared-slice-copy-out-tap-target c = search needs
 
 tap-target-requires : tie.Need-tap-target-requires Inv-loop μ-loop
-tap-target-requires c κs = let s = c .before .before .before .before in (s .pre .0, s .pre .1 .0)
+tap-target-requires c κs = let s = c .before .before .before .before .before in (s .pre .0, s .pre .1 .0)
 
 array-read-t17 : tie.Need-array-read-t17 Inv-loop μ-loop
 array-read-t17 c = search needs

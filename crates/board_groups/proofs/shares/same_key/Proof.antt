@@ -1,11 +1,14 @@
+use borrow.Author.Needs.{needs}
 use borrow.Author.Tests.{eq-eqb, ne-eqb}
 use mathlib.Core.Path.{refl}
-use borrow.Author.Needs.{needs}
-use Rattle.board_groups.proofs.groups.same_key.Statement.{statement}
-use Rattle.board_groups.proofs.groups.same_key.Tie as tie
+use Rattle.board_groups.proofs.shares.same_key.Statement.{statement}
+use Rattle.board_groups.proofs.shares.same_key.Tie as tie
 
 array-read-if1 : tie.Need-array-read-if1
 array-read-if1 c = search needs
+
+array-read-if1-2 : tie.Need-array-read-if1-2
+array-read-if1-2 c = search needs
 
 returns : tie.Need-returns
 returns c = rw (ne-eqb _ _ (c .if1 .taken)) refl
@@ -33,6 +36,7 @@ same-key-spec =
     tie.close
     (tie.spec
     array-read-if1
+    array-read-if1-2
     returns
     array-read-if2
     array-read-if2-2
