@@ -1,5 +1,5 @@
 -- The laws of the walk that finds refusals 4 to 6.
-use Prim.Native.Nat.{ℕ, zero, suc, _+_, _≤_, _<_}
+use Prim.Native.Nat.{ℕ, zero, suc, _+_, _≤_, _<_, max}
 use mathlib.Core.Path.{_≡_, refl, ap, ap₂, sym, subst, _∙_}
 use mathlib.Core.Bool.{Bool, true, false, not, _&&_, _||_}
 use mathlib.Core.List.{List, []}
@@ -11,9 +11,9 @@ use native.Mathlib.Nat.{add-suc}
 use borrow.Author.Tests.{eq-eqb, ne-eqb, eqb-true, eqb-false}
 use Rattle.sheet.specs.Table.{MISSING, libraryMost}
 use Rattle.sheet.specs.Reading.{rowsFrom}
-use Rattle.sheet.specs.Answer.{rowAt}
+use Rattle.sheet.specs.Answer.{rowFrom}
 use Rattle.sheet.proofs.Accepted.{Accepted, zeros-at, accepted, accepted-more}
-use Rattle.sheet.proofs.Along.{row-at-row, row-at-next}
+use Rattle.sheet.proofs.Along.{row-of-row, row-of-next}
 use Rattle.base.specs.Lists.{Found, none, at, found, orElse, newest, oldest}
 use Rattle.board.specs.Board.{Board, field, given, kindChip, idOf, kindOf, chipId, parentOf, innerId, innerChip}
 use Rattle.board.specs.Refusals.{firstLine, nodeLine, chipLine, innerLine, bodyOf, chipAt, innerOf, bodyChip, nodeTwice, chipTwice, innerTwice, pageMissing, parentMissing, chipMissing, rowUnplaced, idTwice, notThere, unplaced, Judged, turnedAway, board, judgedBoard}
@@ -187,24 +187,24 @@ module _ (b : Board) (first : ℕ) (p : ℕ → Bool) where
 -- The walk along one section ------------------------------------------------------------------------------------------------------------------
 
 -- i of the n records are behind, and no id stood there before.
-pub record Walking (text : List ℕ) (first n i : ℕ) (idAt : ℕ → ℕ) (repeats gone : ℕ → Bool) (missing₀ missing place : ℕ) (ids : List (List ℕ)) : Type 0 where
+pub record Walking (text : List ℕ) (lent : List (List ℕ)) (first n i : ℕ) (idAt : ℕ → ℕ) (repeats gone : ℕ → Bool) (missing₀ missing place : ℕ) (ids : List (List ℕ)) : Type 0 where
   pub within : i ≤ n
-  pub ready : Ready text (first + i) place
+  pub ready : Ready text lent (first + i) place
   pub entered : Ids ids i idAt
   pub once : oldest repeats i ≡ none
   pub so-far : missing ≡ earlier missing₀ (lineOr (firstLine (sheetBoard text) (lineFrom first) gone i))
 
-module _ (text : List ℕ) (first n : ℕ) (idAt : ℕ → ℕ) (repeats gone : ℕ → Bool) (missing₀ : ℕ) where
-  pub walking-start : (place : ℕ) {ids : List (List ℕ)} → Ready text first place → Fresh ids n
-      → Walking text first n 0 idAt repeats gone missing₀ missing₀ place ids
+module _ (text : List ℕ) (lent : List (List ℕ)) (first n : ℕ) (idAt : ℕ → ℕ) (repeats gone : ℕ → Bool) (missing₀ : ℕ) where
+  pub walking-start : (place : ℕ) {ids : List (List ℕ)} → Ready text lent first place → Fresh ids n
+      → Walking text lent first n 0 idAt repeats gone missing₀ missing₀ place ids
   walking-start place r f =
       let here : first ≡ first + 0 = omega arith in
       record { within = omega arith; ready = rw (← here) r; entered = ids-none idAt f; once = refl; so-far = sym (earlier-zero missing₀) }
 
-  module _ (i missing place : ℕ) {ids : List (List ℕ)} (w : Walking text first n i idAt repeats gone missing₀ missing place ids) (h : i < n) where
-    pub walking-more : (place′ missing′ : ℕ) {ids′ : List (List ℕ)} → repeats i ≡ false → Ready text (suc (first + i)) place′ → Ids ids′ (suc i) idAt
+  module _ (i missing place : ℕ) {ids : List (List ℕ)} (w : Walking text lent first n i idAt repeats gone missing₀ missing place ids) (h : i < n) where
+    pub walking-more : (place′ missing′ : ℕ) {ids′ : List (List ℕ)} → repeats i ≡ false → Ready text lent (suc (first + i)) place′ → Ids ids′ (suc i) idAt
         → missing′ ≡ earlier missing (lineIf (gone i) (lineFrom first i))
-        → Walking text first n (suc i) idAt repeats gone missing₀ missing′ place′ ids′
+        → Walking text lent first n (suc i) idAt repeats gone missing₀ missing′ place′ ids′
     walking-more place′ missing′ once′ r x e =
         record {
           within = omega arith;
@@ -215,7 +215,7 @@ module _ (text : List ℕ) (first n : ℕ) (idAt : ℕ → ℕ) (repeats gone : 
         }
 
     pub walking-twice : (w₀ w′ : Walk) (ids′ : List (List ℕ)) → repeats i ≡ true → w′ .twice ≡ lineFrom first i
-        → Walked text first n idAt repeats gone w₀ w′ ids′
+        → Walked text lent first n idAt repeats gone w₀ w′ ids′
     walking-twice w₀ w′ ids′ again e =
         let found-here : oldest repeats n ≡ at i = oldest-stays repeats (suc i) n i (oldest-here repeats i (w .once) again) (omega arith) in
         record {
@@ -225,8 +225,8 @@ module _ (text : List ℕ) (first n : ℕ) (idAt : ℕ → ℕ) (repeats gone : 
           entered = λ z. absurd (omega arith);
         }
 
-  pub walking-end : (i missing place : ℕ) {ids : List (List ℕ)} (w₀ w′ : Walk) → Walking text first n i idAt repeats gone missing₀ missing place ids → i ≡ n
-      → w₀ .missing ≡ missing₀ → w′ .place ≡ place → w′ .twice ≡ 0 → w′ .missing ≡ missing → Walked text first n idAt repeats gone w₀ w′ ids
+  pub walking-end : (i missing place : ℕ) {ids : List (List ℕ)} (w₀ w′ : Walk) → Walking text lent first n i idAt repeats gone missing₀ missing place ids → i ≡ n
+      → w₀ .missing ≡ missing₀ → w′ .place ≡ place → w′ .twice ≡ 0 → w′ .missing ≡ missing → Walked text lent first n idAt repeats gone w₀ w′ ids
   walking-end i missing place {ids} w₀ w′ w end m₀ p t m =
       record {
         twice = t ∙ ap lineOr (sym (on-line (sheetBoard text) first repeats n ∙ ap (onLine first) (rw end at (w .once))));
@@ -236,23 +236,29 @@ module _ (text : List ℕ) (first n : ℕ) (idAt : ℕ → ℕ) (repeats gone : 
       }
 
 -- What the sheet of a walk says of its rows.
-ready-accepted : (text : List ℕ) {k place : ℕ} → Ready text k place → Accepted libraryMost text (rowsFrom text)
+ready-accepted : (text : List ℕ) {lent : List (List ℕ)} {k place : ℕ} → Ready text lent k place → Accepted libraryMost text (rowsFrom text)
 ready-accepted text r = accepted-more (r .most) libraryMost text (rowsFrom text) (r .within) (accepted (r .most) text (rowsFrom text) (r .accepted))
 
 -- The next line.
-pub ready-next : (text : List ℕ) {k place : ℕ} → Ready text k place → k < length (rowsFrom text) → Ready text (suc k) (rowAt text place .next)
-ready-next text {k} {place} r h =
-    record { most = r .most; within = r .within; accepted = r .accepted; line = row-at-next libraryMost text (rowsFrom text) (ready-accepted text r) k place (r .line) h }
+pub ready-next : (text : List ℕ) {lent : List (List ℕ)} {k place : ℕ} → Ready text lent k place → k < length (rowsFrom text)
+    → Ready text lent (suc k) (rowFrom text lent k place .next)
+ready-next text {lent} {k} {place} r h =
+    record { most = r .most; within = r .within; accepted = r .accepted; line = row-of-next libraryMost text (rowsFrom text) lent (ready-accepted text r) k place (r .line) h }
+
+-- The same place, as long as no line without a row is between.
+pub ready-at : (text : List ℕ) {lent : List (List ℕ)} {k j place : ℕ} → max k (length lent) ≡ max j (length lent) → Ready text lent k place → Ready text lent j place
+ready-at text e r =
+    record { most = r .most; within = r .within; accepted = r .accepted; line = record { held = r .line .held; line = rw e at (r .line .line) } }
 
 -- The row of the record at hand.
-module _ (text : List ℕ) {first place : ℕ} {x rest : List (List ℕ)} (p : Part (rowsFrom text) first x rest) (i : ℕ) (r : Ready text (first + i) place) (h : i < length x) where
-  pub walk-row : rowAt text place .row ≡ getD x i []
-  walk-row = row-at-row libraryMost text (rowsFrom text) (ready-accepted text r) (first + i) place (r .line) (part-below p i h) ∙ part-at p i h
+module _ (text : List ℕ) {lent : List (List ℕ)} {first place : ℕ} {x rest : List (List ℕ)} (p : Part (rowsFrom text) first x rest) (i : ℕ) (r : Ready text lent (first + i) place) (h : i < length x) where
+  pub walk-row : rowFrom text lent (first + i) place .row ≡ getD x i []
+  walk-row = row-of-row libraryMost text (rowsFrom text) lent (ready-accepted text r) (first + i) place (r .line) (part-below p i h) ∙ part-at p i h
 
-  pub walk-next : Ready text (suc (first + i)) (rowAt text place .next)
+  pub walk-next : Ready text lent (suc (first + i)) (rowFrom text lent (first + i) place .next)
   walk-next = ready-next text r (part-below p i h)
 
-pub walk-sections : (text : List ℕ) {k place : ℕ} → Ready text k place → Sections libraryMost (rowsFrom text) (sheetBoard text)
+pub walk-sections : (text : List ℕ) {lent : List (List ℕ)} {k place : ℕ} → Ready text lent k place → Sections libraryMost (rowsFrom text) (sheetBoard text)
 walk-sections text r = sections libraryMost text (rowsFrom text) (ready-accepted text r)
 
 -- A node found is a Chip by the kinds held, or by the rules.
@@ -342,7 +348,7 @@ pub record Counted (b : Board) (c : Counts) : Type 0 where
   pub chips : c .chips ≡ length (b .chips)
   pub inner : c .inner ≡ length (b .inner)
 
-pub counted : (text : List ℕ) {k place : ℕ} (c : Counts) → Ready text k place → c ≡ countsOf (rowsFrom text) → Counted (sheetBoard text) c
+pub counted : (text : List ℕ) {lent : List (List ℕ)} {k place : ℕ} (c : Counts) → Ready text lent k place → c ≡ countsOf (rowsFrom text) → Counted (sheetBoard text) c
 counted text c r e =
     let same = e ∙ walk-sections text r .counts in
     record {

@@ -7,10 +7,9 @@ use Rattle.sheet.specs.declared.Counts.{Counts}
 use Rattle.sheet.specs.declared.Checked.the-variants.{Refused as NotTaken, Fine as Taken}
 use Rattle.sheet.specs.Table.{libraryMost}
 use Rattle.sheet.specs.Reading.{Reading, refused, rows, reading, rowsFrom}
-use Rattle.sheet.specs.Answer.{countsOf, checkedOf}
+use Rattle.sheet.specs.Answer.{countsOf, checkedOf, HeldIf}
 use Rattle.base.proofs.Bools.{never}
 use Rattle.sheet.proofs.Accepted.{accepted}
-use Rattle.sheet.proofs.Walks.{walk-start}
 use Rattle.board.specs.declared.refusals.Fault.the-variants.{Refused, Fine}
 use Rattle.base.specs.Lists.{Found, none, at}
 use Rattle.board.specs.Board.{Board, boardOf}
@@ -44,9 +43,9 @@ module _ (most : Counts) (text : List ℕ) where
     pub sheet-counts : c ≡ countsOf (rowsFrom text)
     sheet-counts = sheet-rows c e .1
 
-    pub sheet-ready : WithinLibrary most → Ready text 0 0
-    sheet-ready low =
-        record { most = most; within = low; accepted = sheet-rows c e .0; line = walk-start text }
+    pub sheet-ready : WithinLibrary most → {lent : List (List ℕ)} {place : ℕ} → HeldIf (reading most text) text lent place → Ready text lent 0 place
+    sheet-ready low held =
+        record { most = most; within = low; accepted = sheet-rows c e .0; line = held (rowsFrom text) (sheet-rows c e .0) }
 
     pub sheet-judged : judged most text ≡ judgedBoard (sheetBoard text)
     unfolding judged

@@ -10,7 +10,7 @@ use Rattle.sheet.specs.declared.Checked.{Checked}
 use Rattle.sheet.specs.declared.Checked.the-variants.{Refused as NotTaken, Fine as Taken}
 use Rattle.sheet.specs.Table.{libraryMost}
 use Rattle.sheet.specs.Reading.{rowsFrom, listed, rows, reading}
-use Rattle.sheet.specs.Answer.{AtLine, countsOf}
+use Rattle.sheet.specs.Answer.{AtRow, RowsHeld, countsOf}
 use Rattle.board.specs.declared.refusals.Walk.{Walk}
 use Rattle.board.specs.declared.refusals.Fault.{Fault}
 use Rattle.board.specs.declared.refusals.Fault.the-variants.{Refused, Fine}
@@ -70,12 +70,16 @@ pub record Entered (ids : List (List ℕ)) (n id : ℕ) (was : Bool) (ids′ : L
 abbrev pub WithinLibrary : Counts → Type 0
 WithinLibrary most = (s : ℕ) → getD (listed most) s 0 ≤ getD (listed libraryMost) s 0
 
--- Where a walk along an accepted sheet stands: so many lines are behind.
-pub record Ready (text : List ℕ) (first place : ℕ) : Type 0 where
+-- Where a walk along an accepted sheet stands: so many lines are behind. It goes along the rows that are lent, and along the text behind the last of them.
+pub record Ready (text : List ℕ) (lent : List (List ℕ)) (first place : ℕ) : Type 0 where
   pub most : Counts
   pub within : WithinLibrary most
   pub accepted : reading most text ≡ rows (rowsFrom text)
-  pub line : AtLine text first place
+  pub line : AtRow text lent first place
+
+-- The rows of a sheet that reading accepts stand in lent rows, as far as these reach.
+abbrev pub RowsIf : Counts → List ℕ → List (List ℕ) → Type 0
+RowsIf most text lent = (l : List (List ℕ)) → reading most text ≡ rows l → RowsHeld text lent
 
 -- What the walk along the chips starts from: the counts, and the body nodes' ids and kinds.
 pub record ChipsReady (b : Board) (first n nodes : ℕ) (bodyIds : List (List ℕ)) (kinds : List ℕ) : Type 0 where
@@ -97,23 +101,23 @@ pub record InnerReady (b : Board) (first n nodes chips : ℕ) (bodyIds chipIds :
 
 -- A walk along the n records of a section from w₀ to w: the first line whose id was there before, and, without one, the first line at which something
 -- is not there.
-pub record Walked (text : List ℕ) (first n : ℕ) (idAt : ℕ → ℕ) (repeats gone : ℕ → Bool) (w₀ w : Walk) (ids : List (List ℕ)) : Type 0 where
+pub record Walked (text : List ℕ) (lent : List (List ℕ)) (first n : ℕ) (idAt : ℕ → ℕ) (repeats gone : ℕ → Bool) (w₀ w : Walk) (ids : List (List ℕ)) : Type 0 where
   pub twice : w .twice ≡ lineOr (firstLine (sheetBoard text) (lineFrom first) repeats n)
-  pub place : w .twice ≡ 0 → Ready text (first + n) (w .place)
+  pub place : w .twice ≡ 0 → Ready text lent (first + n) (w .place)
   pub missing : w .twice ≡ 0 → w .missing ≡ earlier (w₀ .missing) (lineOr (firstLine (sheetBoard text) (lineFrom first) gone n))
   pub entered : w .twice ≡ 0 → Ids ids n idAt
 
-abbrev pub WalkedNodes : List ℕ → ℕ → ℕ → Walk → Walk → List (List ℕ) → Type 0
-WalkedNodes text first n w₀ w ids =
-    let b = sheetBoard text in Walked text first n (idOf b) (nodeTwice b) (pageMissing b) w₀ w ids
+abbrev pub WalkedNodes : List ℕ → List (List ℕ) → ℕ → ℕ → Walk → Walk → List (List ℕ) → Type 0
+WalkedNodes text lent first n w₀ w ids =
+    let b = sheetBoard text in Walked text lent first n (idOf b) (nodeTwice b) (pageMissing b) w₀ w ids
 
-abbrev pub WalkedChips : List ℕ → ℕ → ℕ → Walk → Walk → List (List ℕ) → Type 0
-WalkedChips text first n w₀ w ids =
-    let b = sheetBoard text in Walked text first n (chipId b) (chipTwice b) (parentMissing b) w₀ w ids
+abbrev pub WalkedChips : List ℕ → List (List ℕ) → ℕ → ℕ → Walk → Walk → List (List ℕ) → Type 0
+WalkedChips text lent first n w₀ w ids =
+    let b = sheetBoard text in Walked text lent first n (chipId b) (chipTwice b) (parentMissing b) w₀ w ids
 
-abbrev pub WalkedInner : List ℕ → ℕ → ℕ → Walk → Walk → List (List ℕ) → Type 0
-WalkedInner text first n w₀ w ids =
-    let b = sheetBoard text in Walked text first n (innerId b) (innerTwice b) (chipMissing b) w₀ w ids
+abbrev pub WalkedInner : List ℕ → List (List ℕ) → ℕ → ℕ → Walk → Walk → List (List ℕ) → Type 0
+WalkedInner text lent first n w₀ w ids =
+    let b = sheetBoard text in Walked text lent first n (innerId b) (innerTwice b) (chipMissing b) w₀ w ids
 
 -- The kinds of the body nodes, and the first line of a 6.
 pub record NodesSeen (text : List ℕ) (first n : ℕ) (w₀ w : Walk) (held : List ℕ) : Type 0 where

@@ -1,4 +1,5 @@
-// Refusals 4 to 6, found line by line from the text, with every id entered into an index on the way.
+// Refusals 4 to 6, found line by line from the rows that the reading kept, and behind the last of them from the text, with every id entered into an index on the
+// way.
 use crate::ids::Found;
 use crate::ids::add_id;
 use crate::ids::find_id;
@@ -6,10 +7,11 @@ use base::ids::NodeId;
 use base::numbers::KIND_CHIP;
 use base::numbers::MISSING;
 use base::rows::IdRow;
+use base::rows::Record;
 use sheet::Checked;
 use sheet::Counts;
-use sheet::check_sheet;
-use sheet::row_at;
+use sheet::check_rows;
+use sheet::row_of;
 ghost use mathlib.Core.Path.{_≡_};
 ghost use mathlib.Core.Bool.{true, false, not, _&&_};
 ghost use Prim.Native.Nat.{ℕ, _≤_, _<_, _+_};
@@ -21,10 +23,10 @@ ghost use Rattle.base.specs.Lists.{found};
 ghost use Rattle.board.specs.Board.{given, idOf};
 ghost use Rattle.board.specs.Refusals.{judgedBoard, judged};
 ghost use Rattle.board.specs.Index.{Index, entryOf};
-ghost use Rattle.board.specs.Walk.{lineIf, earlier, isChip, sheetBoard, Fresh, Ids, Entered, Ready, ChipsReady, InnerReady, WalkedNodes, WalkedChips, WalkedInner, NodesSeen, Indexed, NODES_MOST, CHIPS_MOST, INNER_MOST, WithinLibrary, IndexedIf, verdictOf, faultOf, boardChecked};
+ghost use Rattle.board.specs.Walk.{lineIf, earlier, isChip, sheetBoard, Fresh, Ids, Entered, Ready, RowsIf, ChipsReady, InnerReady, WalkedNodes, WalkedChips, WalkedInner, NodesSeen, Indexed, NODES_MOST, CHIPS_MOST, INNER_MOST, WithinLibrary, IndexedIf, verdictOf, faultOf, boardChecked};
 ghost use Rattle.sheet.specs.Answer.{countsOf};
 
-// Where a walk along the records stands in the text; the line of a 4, and the first lines of a 5 and a 6 so far, 0 for none.
+// Where in the text a walk along the records goes on behind the rows; the line of a 4, and the first lines of a 5 and a 6 so far, 0 for none.
 pub struct Walk {
     pub place: usize,
     pub twice: usize,
@@ -128,16 +130,16 @@ fn parent_missing(
     !has_id(index, c, NodeId(parent))
 }
 
-// Where the lines after the first `n` start.
-fn skip_lines(text: &[u8], n: usize) -> usize
-    requires { ⌜ Ready (now text) 0 0 ⌝ }
+// Where the first line starts that has no row and is not among the first `n`: `rest` is where the first without a row starts.
+fn skip_lines(text: &[u8], rows: &[Record], n: usize, rest: usize) -> usize
+    requires { ⌜ Ready (now text) (now rows) 0 rest ⌝ }
     requires { ⌜ n ≤ length (rowsFrom (now text)) ⌝ }
-    ensures { λ r. ⌜ Ready (now (text .entry)) n r ⌝ }
+    ensures { λ r. ⌜ Ready (now (text .entry)) (now (rows .entry)) n r ⌝ }
 {
-    let mut place = 0;
-    let mut k = 0;
+    let mut place = rest;
+    let mut k = rows.len();
     while k < n {
-        let r = row_at(text, place);
+        let r = row_of(text, rows, k, place);
         place = r.next;
         k += 1;
     }
@@ -147,17 +149,18 @@ fn skip_lines(text: &[u8], n: usize) -> usize
 // The N lines, `first` lines behind.
 fn walk_nodes(
     text: &[u8],
+    rows: &[Record],
     first: usize,
     n: usize,
     w: Walk,
     index: &mut [IdRow],
     kinds: &mut [u32],
 ) -> Walk
-    requires { ⌜ Ready (now text) first (w .place) ⌝ }
+    requires { ⌜ Ready (now text) (now rows) first (w .place) ⌝ }
     requires { ⌜ (first ≡ length (sheetBoard (now text) .pages)) × (n ≡ length (sheetBoard (now text) .nodes)) ⌝ }
     requires { ⌜ n ≤ length (now kinds) ⌝ }
     requires { ⌜ Fresh (now index) n ⌝ }
-    ensures { λ r. ⌜ WalkedNodes (now (text .entry)) first n w r (now (index .exit)) ⌝ }
+    ensures { λ r. ⌜ WalkedNodes (now (text .entry)) (now (rows .entry)) first n w r (now (index .exit)) ⌝ }
     ensures { λ r. ⌜ NodesSeen (now (text .entry)) first n w r (now (kinds .exit)) ⌝ }
 {
     let mut place = w.place;
@@ -165,7 +168,7 @@ fn walk_nodes(
     let mut unplaced = w.unplaced;
     let mut i = 0;
     while i < n {
-        let r = row_at(text, place);
+        let r = row_of(text, rows, first + i, place);
         let row = r.row;
         let line = first + i + 1;
         if enter_id(index, i, NodeId(row[1])) {
@@ -193,6 +196,7 @@ fn walk_nodes(
 // The C lines, `first` lines behind, once the body nodes are known.
 fn walk_chips(
     text: &[u8],
+    rows: &[Record],
     first: usize,
     n: usize,
     w: Walk,
@@ -201,17 +205,17 @@ fn walk_chips(
     nodes: usize,
     index: &mut [IdRow],
 ) -> Walk
-    requires { ⌜ Ready (now text) first (w .place) ⌝ }
+    requires { ⌜ Ready (now text) (now rows) first (w .place) ⌝ }
     requires { ⌜ ChipsReady (sheetBoard (now text)) first n nodes (now body) (now kinds) ⌝ }
     requires { ⌜ Fresh (now index) n ⌝ }
-    ensures { λ r. ⌜ WalkedChips (now (text .entry)) first n w r (now (index .exit)) ⌝ }
+    ensures { λ r. ⌜ WalkedChips (now (text .entry)) (now (rows .entry)) first n w r (now (index .exit)) ⌝ }
     ensures { λ r. ⌜ r .unplaced ≡ w .unplaced ⌝ }
 {
     let mut place = w.place;
     let mut missing = w.missing;
     let mut c = 0;
     while c < n {
-        let r = row_at(text, place);
+        let r = row_of(text, rows, first + c, place);
         let row = r.row;
         let line = first + c + 1;
         let gone = parent_missing(body, kinds, nodes, index, c, row);
@@ -238,6 +242,7 @@ fn walk_chips(
 // The F lines, `first` lines behind, once the body nodes and the chips are known.
 fn walk_inner(
     text: &[u8],
+    rows: &[Record],
     first: usize,
     n: usize,
     w: Walk,
@@ -247,17 +252,17 @@ fn walk_inner(
     chip_count: usize,
     index: &mut [IdRow],
 ) -> Walk
-    requires { ⌜ Ready (now text) first (w .place) ⌝ }
+    requires { ⌜ Ready (now text) (now rows) first (w .place) ⌝ }
     requires { ⌜ InnerReady (sheetBoard (now text)) first n nodes «chip_count» (now body) (now chips) ⌝ }
     requires { ⌜ Fresh (now index) n ⌝ }
-    ensures { λ r. ⌜ WalkedInner (now (text .entry)) first n w r (now (index .exit)) ⌝ }
+    ensures { λ r. ⌜ WalkedInner (now (text .entry)) (now (rows .entry)) first n w r (now (index .exit)) ⌝ }
     ensures { λ r. ⌜ r .unplaced ≡ w .unplaced ⌝ }
 {
     let mut place = w.place;
     let mut missing = w.missing;
     let mut f = 0;
     while f < n {
-        let r = row_at(text, place);
+        let r = row_of(text, rows, first + f, place);
         let row = r.row;
         let line = first + f + 1;
         if has_id(body, nodes, NodeId(row[1])) {
@@ -307,15 +312,18 @@ fn verdict(missing: usize, unplaced: usize) -> Fault
     Fault::Fine
 }
 
-// Refusals 4 to 6 of a sheet that reading accepts. Without one, the three indexes hold the ids of the body nodes, the chips and the nodes inside chips.
+// Refusals 4 to 6 of a sheet that reading accepts: `rows` holds its rows as far as they were lent, and at `rest` the first line without one starts. Without a
+// refusal, the three indexes hold the ids of the body nodes, the chips and the nodes inside chips.
 pub fn find_fault(
     text: &[u8],
+    rows: &[Record],
+    rest: usize,
     counts: Counts,
     body: &mut [IdRow],
     chips: &mut [IdRow],
     inner: &mut [IdRow],
 ) -> Fault
-    requires { ⌜ Ready (now text) 0 0 ⌝ }
+    requires { ⌜ Ready (now text) (now rows) 0 rest ⌝ }
     requires { ⌜ counts ≡ countsOf (rowsFrom (now text)) ⌝ }
     requires { ⌜ Fresh (now body) NODES_MOST ⌝ }
     requires { ⌜ Fresh (now chips) CHIPS_MOST ⌝ }
@@ -328,12 +336,12 @@ pub fn find_fault(
     let chip_count = counts.chips;
     let mut kinds = [0u32; 4096];
     let start = Walk {
-        place: skip_lines(text, pages),
+        place: skip_lines(text, rows, pages, rest),
         twice: 0,
         missing: 0,
         unplaced: 0,
     };
-    let after_nodes = walk_nodes(text, pages, nodes, start, body, &mut kinds);
+    let after_nodes = walk_nodes(text, rows, pages, nodes, start, body, &mut kinds);
     if after_nodes.twice != 0 {
         return Fault::Refused {
             number: 4,
@@ -342,6 +350,7 @@ pub fn find_fault(
     }
     let after_chips = walk_chips(
         text,
+        rows,
         pages + nodes,
         chip_count,
         after_nodes,
@@ -358,6 +367,7 @@ pub fn find_fault(
     }
     let after_inner = walk_inner(
         text,
+        rows,
         pages + nodes + chip_count,
         counts.inner,
         after_chips,
@@ -376,10 +386,12 @@ pub fn find_fault(
     verdict(after_inner.missing, after_inner.unplaced)
 }
 
-// Refusals 1 to 6 of a sheet, or how many records of each section its board has. With a board, the three indexes hold its ids.
+// Refusals 1 to 6 of a sheet, or how many records of each section its board has. With a board, the three indexes hold its ids, and `rows` the rows of its lines,
+// as far as they reach. On a refusal they hold anything.
 pub fn check_board(
     text: &[u8],
     most: Counts,
+    rows: &mut [Record],
     body: &mut [IdRow],
     chips: &mut [IdRow],
     inner: &mut [IdRow],
@@ -390,11 +402,14 @@ pub fn check_board(
     requires { ⌜ Fresh (now inner) INNER_MOST ⌝ }
     ensures { λ r. ⌜ r ≡ boardChecked (judged most (now (text .entry))) ⌝ }
     ensures { λ r. ⌜ IndexedIf (judged most (now (text .entry))) (now (body .exit)) (now (chips .exit)) (now (inner .exit)) ⌝ }
+    ensures { λ r. ⌜ RowsIf most (now (text .entry)) (now (rows .exit)) ⌝ }
 {
-    match check_sheet(text, most) {
+    let kept = check_rows(text, most, rows);
+    let checked = kept.checked;
+    match checked {
         Checked::Refused { number, line } => Checked::Refused { number, line },
         Checked::Fine(counts) => {
-            match find_fault(text, counts, body, chips, inner) {
+            match find_fault(text, rows, kept.rest, counts, body, chips, inner) {
                 Fault::Refused { number, line } => Checked::Refused { number, line },
                 Fault::Fine => Checked::Fine(counts),
             }

@@ -5,15 +5,14 @@ use mathlib.Core.Path.{_≡_, refl, sym, ap, _∙_, subst}
 use mathlib.Core.Bool.{Bool, true, false, _&&_}
 use mathlib.Core.List.{List, [], _∷_, _++_}
 use lib.Dec.{ltb}
-use lib.ListN.{length, drop, length-map}
+use lib.ListN.{length, take, drop, take-append-drop}
+use lib.Seq.{length-take-le, getD-take, ext-getD}
 use Rattle.sheet.specs.declared.Counts.{Counts}
 use Rattle.sheet.specs.declared.Checked.{Checked}
 use Rattle.sheet.specs.declared.Checked.the-variants.{Refused as NotTaken, Fine as Taken}
 use Rattle.sheet.specs.Table.{libraryMost}
-use Rattle.sheet.specs.Reading
-use Rattle.sheet.specs.Reading.{Reading, rows, reading, rowOf, rowsFrom, sheetLines}
-use Rattle.sheet.specs.Walk.{allRead}
-use Rattle.sheet.proofs.Walks.{accepted-read}
+use Rattle.sheet.specs.Reading.{rowsFrom}
+use Rattle.sheet.specs.Answer.{RowsHeld}
 use Rattle.board.specs.Board.{Board}
 use Rattle.board.specs.Refusals
 use Rattle.board.specs.Refusals.{Judged, board, judged}
@@ -21,13 +20,13 @@ use Rattle.board.specs.Demands.{PageLanes, Planned, crowded, planned, planLanes
 use Rattle.board.specs.Planning.{Planning, refused, lanesFor, planning, crowding, records, fitted, judgedFor}
 use Rattle.board_groups.specs.Collecting.{Indexes}
 use Rattle.board_lanes.specs.PagePlan.{Room}
-use Rattle.board.specs.Walk.{WithinLibrary, countsIn, boardChecked, Indexed, IndexedIf}
+use Rattle.board.specs.Walk.{WithinLibrary, countsIn, boardChecked, Indexed, IndexedIf, RowsIf}
 use Rattle.base.proofs.Bools.{never}
 use Rattle.board.proofs.Planning.{planning-refused, planning-fine}
 use Rattle.board_plan.specs.declared.Lent.{Lent}
-use Rattle.board_plan.specs.TextPlan.{fitsCounts, fitsLent, lentFor, fitting, WorkLent, BoardRead, BoardChecked}
+use Rattle.board_plan.specs.TextPlan.{fitsCounts, fitsLent, lentFor, fitting, WorkLent, SectionsIn, BoardRead, BoardChecked}
 use Rattle.board.specs.Accepted.{Accepted}
-use Rattle.board.proofs.Accepting.{FromSheet, from-sheet, sheet-accepted}
+use Rattle.board.proofs.Accepting.{from-sheet, sheet-accepted}
 use Rattle.board_plan.proofs.Slices.{sections-in, rows-count}
 use Rattle.board_plan.proofs.Fitting.{fits-all}
 
@@ -85,59 +84,53 @@ planning-then most text whole first then both = go (judged most text) refl
         fit true f = tried true f ∙ ap (judgedFor then) (sym (fitting-fits most text first b e f))
         fit false f = tried false f ∙ ap (judgedFor then) (sym (fitting-unfit most text first b e f))
 
--- The rows that are read.
-module _ {most : Counts} {text : List ℕ} {b : Board} {counts : Counts} {bodyIds innerIds : List (List ℕ)}
-    (low : WithinLibrary most) (checked : BoardChecked b most text counts bodyIds innerIds) where
-  known : FromSheet most text b
-  known = from-sheet most text b (checked .fine)
+-- 7 of a board.
+module _ (fits : Board → Bool) (b : Board) where
+  pub lent-unfit : fits b ≡ false → lentFor fits (board b) ≡ Refusals.turnedAway 7 0
+  lent-unfit f = ap (λ (v : Bool). elim v as (λ _. Judged) [ true ↦ board b | false ↦ Refusals.turnedAway 7 0 ]) f
 
-  pub checked-accepted : Accepted b
-  checked-accepted = sheet-accepted most text b low (checked .fine)
+  pub lent-fits : fits b ≡ true → lentFor fits (board b) ≡ board b
+  lent-fits f = ap (λ (v : Bool). elim v as (λ _. Judged) [ true ↦ board b | false ↦ Refusals.turnedAway 7 0 ]) f
 
-  module _ (lent : Lent) (fits : fitsCounts lent counts ≡ true) (old : List (List ℕ)) {facts taps groups demands keys spare : List (List ℕ)}
-      (work : WorkLent (lent .work) (length old) facts taps groups demands keys spare) where
-    enough : records b ≤ lent .work
-    enough = fits-all lent b (fits-counted lent b counts true (checked .counted) fits) .work
+-- A board in rows, once there is a row for each record.
+module _ {b : Board} {rows : List (List ℕ)} {counts : Counts} {bodyIds innerIds : List (List ℕ)} (checked : BoardChecked b rows counts bodyIds innerIds)
+    (lent : Lent) (fits : fitsCounts lent counts ≡ true) {facts taps groups demands keys spare : List (List ℕ)}
+    (work : WorkLent (lent .work) (length rows) facts taps groups demands keys spare) where
+  enough : records b ≤ lent .work
+  enough = fits-all lent b (fits-counted lent b counts true (checked .counted) fits) .work
 
-    -- What `fill_rows` asks: a line for each record, all read.
-    pub fill-asks : (n : ℕ) → n ≡ counts .pages + counts .nodes + counts .chips + counts .inner + counts .execs + counts .wires
-        → (n ≡ length (sheetLines text)) × (n ≤ length old) × (allRead (sheetLines text) ≡ true)
-    unfolding records rowsFrom
-    fill-asks n is =
-        let size = rows-count b (rowsFrom text) (known .known) in
-        let lines : length (rowsFrom text) ≡ length (sheetLines text) = length-map (sheetLines text) rowOf in
-        let all : n ≡ records b = is ∙ ap (λ (c : Counts). c .pages + c .nodes + c .chips + c .inner + c .execs + c .wires) (checked .counted) in
-        let w = work .records-lent in
-        let e = enough in
-        (omega arith, omega arith, accepted-read most text (rowsFrom text) (known .read))
+  room : Room (b .pages) (b .nodes) (b .execs) (b .wires) facts taps groups demands keys spare
+  unfolding records
+  room =
+      let n = enough in
+      let f = checked .accepted in
+      let fs = work .facts-lent in let ts = work .taps-lent in let gs = work .groups-lent in
+      let ds = work .demands-lent in let ks = work .keys-lent in let ss = work .spare-lent in
+      record {
+        fewPages = f .fewPages;
+        fewNodes = f .fewNodes;
+        fewExecs = f .fewExecs;
+        fewWires = f .fewWires;
+        nodeRoom = (omega arith, omega arith, omega arith);
+        wireRoom = (omega arith, omega arith, omega arith);
+        demandRoom = (omega arith, omega arith, omega arith);
+        pageRoom = omega arith;
+      }
 
-    room : Room (b .pages) (b .nodes) (b .execs) (b .wires) facts taps groups demands keys spare
-    unfolding records
-    room =
-        let n = enough in
-        let f = checked-accepted in
-        let fs = work .facts-lent in let ts = work .taps-lent in let gs = work .groups-lent in
-        let ds = work .demands-lent in let ks = work .keys-lent in let ss = work .spare-lent in
-        record {
-          fewPages = f .fewPages;
-          fewNodes = f .fewNodes;
-          fewExecs = f .fewExecs;
-          fewWires = f .fewWires;
-          nodeRoom = (omega arith, omega arith, omega arith);
-          wireRoom = (omega arith, omega arith, omega arith);
-          demandRoom = (omega arith, omega arith, omega arith);
-          pageRoom = omega arith;
-        }
+  pub board-read : BoardRead b rows counts bodyIds innerIds facts taps groups demands keys spare
+  board-read =
+      let n = enough in
+      let w = work .records-lent in
+      record { sections = checked .sections (omega arith); counted = checked .counted; accepted = checked .accepted; indexes = checked .indexes; room = room }
 
-    pub board-read : (n : ℕ) (after : List (List ℕ)) → after ≡ rowsFrom text ++ drop n old → BoardRead b after counts bodyIds innerIds facts taps groups demands keys spare
-    board-read n after e =
-        record {
-          sections = rw e (sections-in b (rowsFrom text) (drop n old) (known .known));
-          counted = checked .counted;
-          accepted = checked-accepted;
-          indexes = checked .indexes;
-          room = room;
-        }
+-- Rows that hold those of a text stand behind them.
+rows-front : (text : List ℕ) (rows : List (List ℕ)) → RowsHeld text rows → length (rowsFrom text) ≤ length rows → rowsFrom text ++ drop (length (rowsFrom text)) rows ≡ rows
+rows-front text rows held h =
+    let n = length (rowsFrom text) in
+    let size : length (take n rows) ≡ n = length-take-le n rows h in
+    let front : take n rows ≡ rowsFrom text =
+    ext-getD [] (take n rows) (rowsFrom text) size (λ i l. let below : i < n = omega arith in getD-take n rows i [] below ∙ held i below (omega arith)) in
+    ap (λ (l : List (List ℕ)). l ++ drop n rows) (sym front) ∙ take-append-drop n rows
 
 -- What `check_board` answers.
 module _ (most : Counts) (text : List ℕ) where
@@ -148,15 +141,34 @@ module _ (most : Counts) (text : List ℕ) where
       go (Refusals.turnedAway n′ l′) q = cc
       go (board b) q = never cc
 
-  pub board-fine : (bodyIds chipIds innerIds : List (List ℕ)) (c : Counts) → WithinLibrary most → Taken c ≡ boardChecked (judged most text)
-      → IndexedIf (judged most text) bodyIds chipIds innerIds
-      → (b : Board) × BoardChecked b most text c bodyIds innerIds
-  board-fine bodyIds chipIds innerIds c low = go (judged most text) refl
+  sections-held : (b : Board) (rows : List (List ℕ)) → judged most text ≡ board b → RowsIf most text rows → records b ≤ length rows → SectionsIn b rows
+  sections-held b rows is held h =
+      let k = from-sheet most text b is in
+      let size = rows-count b (rowsFrom text) (k .known) in
+      subst (λ (l : List (List ℕ)). SectionsIn b l) (rows-front text rows (held (rowsFrom text) (k .read)) (omega arith))
+      (sections-in b (rowsFrom text) (drop (length (rowsFrom text)) rows) (k .known))
+
+  pub board-fine : (rows bodyIds chipIds innerIds : List (List ℕ)) (c : Counts) → WithinLibrary most → Taken c ≡ boardChecked (judged most text)
+      → IndexedIf (judged most text) bodyIds chipIds innerIds → RowsIf most text rows
+      → (b : Board) × (judged most text ≡ board b) × BoardChecked b rows c bodyIds innerIds
+  board-fine rows bodyIds chipIds innerIds c low t x held = go (judged most text) refl t x
     where
       go : (j : Judged) → judged most text ≡ j → Taken c ≡ boardChecked j → IndexedIf j bodyIds chipIds innerIds
-          → (b : Board) × BoardChecked b most text c bodyIds innerIds
-      go (Refusals.turnedAway n l) is q x = never cc
-      go (board b) is q x =
+          → (b : Board) × (judged most text ≡ board b) × BoardChecked b rows c bodyIds innerIds
+      go (Refusals.turnedAway n l) is q y = never cc
+      go (board b) is q y =
           let same : c ≡ countsIn b = cc in
-          let f = sheet-accepted most text b low is in
-          (b, record { fine = is; counted = same; indexes = record { few = f .fewNodes; fewInner = f .fewInner; body = x .body; inside = x .inner } })
+          let f = sheet-accepted most text b low is in (
+            b,
+            is,
+            record {
+              counted = same;
+              accepted = f;
+              indexes = record { few = f .fewNodes; fewInner = f .fewInner; body = y .body; inside = y .inner };
+              sections = sections-held b rows is held;
+            },
+          )
+
+  pub fitting-judged : (fits : Board → Bool) (b : Board) → judged most text ≡ board b → fitting most fits text ≡ lentFor fits (board b)
+  unfolding fitting
+  fitting-judged fits b e = ap (lentFor fits) e

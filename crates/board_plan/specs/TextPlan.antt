@@ -84,11 +84,12 @@ pub record BoardRead (b : Board) (rows : List (List ℕ)) (counts : Counts) (bod
   pub indexes : Indexes (b .nodes) (b .inner) bodyIds innerIds
   pub room : Room (b .pages) (b .nodes) (b .execs) (b .wires) facts taps groups demands keys spare
 
--- A sheet that refusals 1 to 6 leave, with the ids of its board indexed.
-pub record BoardChecked (b : Board) (most : Counts) (text : List ℕ) (counts : Counts) (bodyIds innerIds : List (List ℕ)) : Type 0 where
-  pub fine : judged most text ≡ Refusals.board b
+-- A board that refusals 1 to 6 leave: its ids are indexed, and its records stand in rows if there is a row for each.
+pub record BoardChecked (b : Board) (rows : List (List ℕ)) (counts : Counts) (bodyIds innerIds : List (List ℕ)) : Type 0 where
   pub counted : counts ≡ countsIn b
+  pub accepted : Accepted b
   pub indexes : Indexes (b .nodes) (b .inner) bodyIds innerIds
+  pub sections : records b ≤ length rows → SectionsIn b rows
 
 -- 7 of a sheet that is judged.
 abbrev pub lentFor : (Board → Bool) → Judged → Judged

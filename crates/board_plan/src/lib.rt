@@ -10,7 +10,6 @@ use board_lanes::demands::Plan;
 use board_lanes::demands::plan_board;
 use sheet::Checked;
 use sheet::Counts;
-use sheet::fill_rows;
 use sheet::library_most;
 ghost use mathlib.Core.Path.{_≡_};
 ghost use mathlib.Core.Bool.{true};
@@ -21,11 +20,12 @@ ghost use Rattle.sheet.specs.Table.{libraryMost};
 ghost use Rattle.lanes.specs.Lanes.{laneMost};
 ghost use Rattle.board.specs.Board.{Board, field};
 ghost use Rattle.board.specs.Demands;
+ghost use Rattle.board.specs.Refusals;
 ghost use Rattle.board.specs.Demands.{PageLanes, planLanes};
 ghost use Rattle.board.specs.Tables.{PageFacts};
 ghost use Rattle.board.specs.Planning.{planning, fitsPages, pageRow, pagesAfter};
 ghost use Rattle.board.specs.Walk.{WithinLibrary};
-ghost use Rattle.board_plan.specs.TextPlan.{fitsLent, shortest, workRows, hasRoom, fitsCounts, WorkLent, BoardRead, BoardChecked, fitting, LanesPlanned, TextPlanned};
+ghost use Rattle.board_plan.specs.TextPlan.{fitsLent, shortest, workRows, hasRoom, fitsCounts, WorkLent, BoardRead, BoardChecked, lentFor, fitting, LanesPlanned, TextPlanned};
 ghost use Rattle.board_plan.specs.PagesPlan.{planCall, PagesPlanned};
 
 // The lengths of what is lent: rerouters, bus wires, suppressed ports, page answers, the rows of the shortest slice of work space, and bytes for the plan sheet's
@@ -193,14 +193,13 @@ fn plan_rows(
     }
 }
 
-// The same of a sheet that refusals 1 to 6 leave: 7 where what is lent does not fit, else its records are read into rows.
+// The same of a board that refusals 1 to 6 leave: 7 where what is lent does not fit. Where it fits, every record has its row.
 fn plan_fitting(
-    text: &[u8],
-    asked: Asked,
+    lent: Lent,
+    records: &[Record],
     counts: Counts,
     body_index: &[IdRow],
     inner_index: &[IdRow],
-    records: &mut [Record],
     facts: &mut [WorkRow],
     taps: &mut [WorkRow],
     groups: &mut [WorkRow],
@@ -208,26 +207,17 @@ fn plan_fitting(
     keys: &mut [WorkRow],
     spare: &mut [WorkRow],
 ) -> TextPlan
-    requires { ⌜ WorkLent (asked .lent .work) (length (now records)) (now facts) (now taps) (now groups) (now demands) (now keys) (now spare) ⌝ }
-    requires { ⌜ WithinLibrary (asked .most) × ((b : Board) × BoardChecked b (asked .most) (now text) counts (now «body_index») (now «inner_index»)) ⌝ }
-    ensures { λ r. ⌜ TextPlanned (fitting (asked .most) (fitsLent (asked .lent)) (now (text .entry))) (now (records .exit)) (now (facts .exit)) (now (taps .exit)) (now (groups .exit)) r ⌝ }
+    requires { ⌜ WorkLent (lent .work) (length (now records)) (now facts) (now taps) (now groups) (now demands) (now keys) (now spare) ⌝ }
+    requires { ⌜ ((b : Board) × BoardChecked b (now records) counts (now «body_index») (now «inner_index»)) ⌝ }
+    ensures { λ r. ⌜ ((b : Board) → BoardChecked b (now (records .entry)) counts (now («body_index» .entry)) (now («inner_index» .entry))
+        → TextPlanned (lentFor (fitsLent lent) (Refusals.board b)) (now (records .entry)) (now (facts .exit)) (now (taps .exit)) (now (groups .exit)) r) ⌝ }
 {
-    let lent = asked.lent;
     if !fits(lent, counts) {
         return TextPlan::Refused {
             number: 7,
             place: 0,
         };
     }
-    let lines = total(
-        counts.pages,
-        counts.nodes,
-        counts.chips,
-        counts.inner,
-        counts.execs,
-        counts.wires,
-    );
-    fill_rows(text, records, lines);
     plan_rows(
         records,
         counts,
@@ -263,18 +253,18 @@ pub fn plan_text(
     let mut chips = [[0u32; 3]; 4096];
     let mut inner = [[0u32; 3]; 4096];
     let most = asked.most;
-    match check_board(text, most, &mut body, &mut chips, &mut inner) {
+    let lent = asked.lent;
+    match check_board(text, most, records, &mut body, &mut chips, &mut inner) {
         Checked::Refused { number, line } => TextPlan::Refused {
             number,
             place: line,
         },
         Checked::Fine(counts) => plan_fitting(
-            text,
-            asked,
+            lent,
+            records,
             counts,
             &body,
             &inner,
-            records,
             facts,
             taps,
             groups,

@@ -8,15 +8,13 @@ use lib.Dec.{ltb}
 use lib.ListN.{length, drop, length-map}
 use borrow.Author.Tests.{lt-ltb, le-ltb}
 use Rattle.sheet.specs.declared.Counts.{Counts}
-use Rattle.sheet.specs.declared.Checked.{Checked}
-use Rattle.sheet.specs.declared.Checked.the-variants.{Refused as NotFine, Fine as AllFine}
 use Rattle.sheet.specs.declared.ReadAnswer.{ReadAnswer}
 use Rattle.sheet.specs.declared.ReadAnswer.the-variants.{Refused as NotRead, Short, Read}
 use Rattle.sheet.specs.declared.check.Survey.{Survey}
 use Rattle.sheet.specs.declared.check.Survey.the-variants.{Refused, Fine}
 use Rattle.sheet.specs.Reading.{Reading, refused, rows, reading, readLines, rowsFrom, rowOf, sheetLines, listed}
-use Rattle.sheet.specs.Answer.{countsOf, checkedOf, readOf, rowsAfter}
-use Rattle.sheet.specs.Walk.{surveyOf, allRead}
+use Rattle.sheet.specs.Answer.{countsOf, checkedOf, readOf, rowsAfter, HeldIf}
+use Rattle.sheet.specs.Walk.{surveyOf, checkedFrom, allRead}
 use Rattle.base.proofs.Bools.{never}
 use Rattle.sheet.proofs.Walks.{accepted-rows, accepted-read}
 
@@ -25,9 +23,10 @@ pub survey-is : (most : Counts) (text limits : List ℕ) (s : Survey) → limits
 unfolding reading
 survey-is most text limits s e p = p ∙ ap (λ (l : List ℕ). surveyOf (readLines l (sheetLines text))) e
 
-abbrev pub checkedFrom : Survey → Checked
-checkedFrom (Refused n line) = NotFine n line
-checkedFrom (Fine lines counts) = AllFine counts
+pub held-is : (most : Counts) (text limits : List ℕ) {lent : List (List ℕ)} {at : ℕ} → limits ≡ listed most → HeldIf (readLines limits (sheetLines text)) text lent at
+    → HeldIf (reading most text) text lent at
+unfolding reading
+held-is most text limits e h = rw e at h
 
 pub checked-is : (r : Reading) (s : Survey) → s ≡ surveyOf r → checkedFrom s ≡ checkedOf r
 unfolding checkedOf surveyOf

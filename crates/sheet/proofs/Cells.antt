@@ -1,19 +1,24 @@
 -- What a field holds: the tests of the code are those of the rules.
 use mathlib.Core.Path.{_≡_, refl, sym, _∙_, ap}
 use mathlib.Core.Bool.{Bool, true, false, _&&_, not, Bool·beq}
+use mathlib.Core.List.{List}
 use Prim.Native.Nat.{ℕ, _+_, _-_, _≤_, _<_, zero-le}
 use native.Mathlib.Nat.{le-antisymm}
+use native.Mathlib.Omega.{arith}
 use lib.Arith.{lt-of-le-ne}
-use lib.Dec.{eqb, leb}
-use borrow.Author.Tests.{le-leb, lt-leb, eq-eqb, ne-eqb}
+use lib.Dec.{leb}
+use lib.ListN.{length, getD}
+use lib.Seq.{getD-set-same}
+use borrow.Author.Tests.{le-leb, lt-leb, leb-true, ne-eqb}
 use Rattle.sheet.specs.declared.line.Cell.{Cell}
 use Rattle.sheet.specs.declared.line.Cell.the-variants.{Holds, OutOfRange, Malformed}
-use Rattle.sheet.specs.Number.{Number, missing, plus, minus}
+use Rattle.sheet.specs.Number.{Number, bad, missing, plus, minus}
 use Rattle.sheet.specs.declared.number.Scanned.{Scanned}
 use Rattle.sheet.specs.declared.number.Scanned.the-variants.{Bad, Missing, Plus, Minus}
-use Rattle.sheet.specs.Walk.{numberIn}
+use Rattle.sheet.specs.Walk.{numberIn, isGone, isMalformed, rowAfter}
 use Rattle.sheet.specs.Table.{Column, MISSING, NEVER, AS_BEFORE, SECTIONS, letters}
 use Rattle.sheet.specs.Record.{allowed, within, present, isMissing, cellOf, placeOf}
+use Rattle.base.proofs.Bools.{and-right, clash}
 
 pub allowed-never : (gap : ℕ) (before gone : Bool) → gap ≡ NEVER → not gone ≡ allowed gap before gone
 unfolding allowed
@@ -83,6 +88,35 @@ module _ (c : Column) (before : Bool) (n : Scanned) where
 
   pub cell-refused : (gone : Bool) → isMissing (numberIn n) ≡ gone → allowed (c .gap) before gone ≡ false → Malformed ≡ cellOf c before (numberIn n)
   cell-refused gone e a = cell-not c before (numberIn n) (rw e a)
+
+-- A field that is not malformed leaves in its row whether it is missing: no number in range stands for a missing one, and one out of range leaves the zero.
+module _ (c : Column) (before : Bool) (under : c .high < MISSING) (r : List ℕ) (k : ℕ) (inside : k < length r) (blank : getD r k 0 ≡ 0) where
+  abbrev goneIn : Cell → Bool
+  goneIn held = isGone (getD (rowAfter held r k) k 0)
+
+  within-there : (fits : Bool) (v : ℕ) → goneIn (within (c .low) (c .high) fits v) ≡ false
+  unfolding within
+  within-there fits v = go (fits && leb (c .low) v && leb v (c .high)) refl
+    where
+      go : (x : Bool) → (fits && leb (c .low) v && leb v (c .high)) ≡ x → goneIn (within (c .low) (c .high) fits v) ≡ false
+      go true e =
+          let h : v ≤ c .high = leb-true v (c .high) (and-right (fits && leb (c .low) v) (leb v (c .high)) e) in
+          rw (e, within) (rw (getD-set-same r k v 0 inside) (ne-eqb v MISSING (λ (q : v ≡ MISSING). omega (arith, under))))
+      go false e = rw (e, within) (rw blank)
+
+  not-malformed : {x : Cell} → Malformed ≡ x → isMalformed x ≡ false → ⊥
+  not-malformed e m = clash (ap isMalformed (sym e)) m
+
+  left-there : (n : Number) (a : Bool) → allowed (c .gap) before (isMissing n) ≡ a → isMalformed (cellOf c before n) ≡ false → goneIn (cellOf c before n) ≡ isMissing n
+  unfolding present
+  left-there n false e m = absurd (not-malformed (cell-not c before n e) m)
+  left-there bad true e m = absurd (not-malformed (cell-allowed c before bad e) m)
+  left-there missing true e m = ap goneIn (sym (cell-allowed c before missing e)) ∙ rw (getD-set-same r k MISSING 0 inside)
+  left-there (plus v) true e m = ap goneIn (sym (cell-allowed c before (plus v) e)) ∙ within-there true (c .origin + v)
+  left-there (minus v) true e m = ap goneIn (sym (cell-allowed c before (minus v) e)) ∙ within-there (leb v (c .origin)) (c .origin - v)
+
+  pub gone-after : (n : Number) (held : Cell) → held ≡ cellOf c before n → isMalformed held ≡ false → goneIn held ≡ isMissing n
+  gone-after n held e m = ap goneIn e ∙ left-there n (allowed (c .gap) before (isMissing n)) refl (ap isMalformed (sym e) ∙ m)
 
 -- a letter that is none of the six
 pub no-section : (b : ℕ) → (b ≡ 80 → ⊥) → (b ≡ 78 → ⊥) → (b ≡ 67 → ⊥) → (b ≡ 70 → ⊥) → (b ≡ 88 → ⊥) → (b ≡ 87 → ⊥)

@@ -6,7 +6,7 @@ use Prim.Native.Nat.{ℕ, suc, _+_, _≤_, _<_}
 use native.Mathlib.Numerals.{add-one}
 use native.Mathlib.Omega.{arith}
 use lib.Dec.{eqb, leb, ltb}
-use lib.ListN.{length, drop, set, getD, drop-of-length-le, length-drop, length-append}
+use lib.ListN.{length, drop, getD, drop-of-length-le, length-drop, length-append, length-set}
 use lib.Seq.{drop-drop, getD-set-other}
 use borrow.Author.Tests.{eqb-true, le-ltb, lt-ltb, le-leb, lt-leb, ltb-true, ltb-false}
 use Rattle.sheet.specs.declared.line.Cell.{Cell}
@@ -293,8 +293,13 @@ read-ended cs t before fits k r f l e = go (ended t) refl
     go true n = n
     go false n = let no : unread ≡ row f l = rw (n, fieldsFrom) at e in never cc
 
--- a field never takes the place of the section's number
-pub keep-first : (held : Cell) (r : List ℕ) (k : ℕ) → 0 < k → getD (rowAfter held r k) 0 0 ≡ getD r 0 0
-keep-first (Holds v) r k h = getD-set-other r k 0 v 0 (λ (e : 0 ≡ k). omega arith)
-keep-first OutOfRange r k h = refl
-keep-first Malformed r k h = refl
+-- a field takes its own place in the row, and no other
+pub keep-others : (held : Cell) (r : List ℕ) (k j : ℕ) → (j ≡ k → ⊥) → getD (rowAfter held r k) j 0 ≡ getD r j 0
+keep-others (Holds v) r k j n = getD-set-other r k j v 0 n
+keep-others OutOfRange r k j n = refl
+keep-others Malformed r k j n = refl
+
+pub keep-length : (held : Cell) (r : List ℕ) (k : ℕ) → length (rowAfter held r k) ≡ length r
+keep-length (Holds v) r k = length-set r k v
+keep-length OutOfRange r k = refl
+keep-length Malformed r k = refl

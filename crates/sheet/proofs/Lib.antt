@@ -10,6 +10,7 @@ pub mod Turns
 pub mod Lines
 pub mod Surveys
 pub mod Walks
+pub mod Keeping
 pub mod Answers
 pub mod ReadBack
 pub mod Ranges

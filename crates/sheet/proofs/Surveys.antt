@@ -17,8 +17,8 @@ use Rattle.sheet.specs.Table.{SECTIONS}
 use Rattle.sheet.specs.Record.{Line, unread, row}
 use Rattle.sheet.specs.Reading.{sheetLines, rowOf, sectionIn, counted, Before, after, noLines, unreadable, overMost, outOfRange, NO_LINE, first, Reading, refused, rows, refusals, readLines}
 use Rattle.sheet.specs.Answer.{countedAll, countsOf, countsFrom, frontLine}
-use Rattle.sheet.specs.Walk.{ended, lineEnd, lineAnswer, LineSays, firstOf, surveyOf}
-use Rattle.base.proofs.Bools.{never, clash}
+use Rattle.sheet.specs.Walk.{ended, lineEnd, lineAnswer, LineSays, firstOf, surveyOf, surveyBy}
+use Rattle.base.proofs.Bools.{never, clash, pick-true, pick-false}
 use Rattle.sheet.proofs.Parts.{Cut, whole, cut, cut-at, part-cut}
 use Rattle.sheet.proofs.Lines.{pastLine, lines-none, lines-unended, lines-ended}
 
@@ -131,6 +131,17 @@ pub record Tallied (text most : List ℕ) (section : ℕ) (counts : List ℕ) (o
   pub threes : first outOfRange noLines 1 (sheetLines text) ≡ orElse wide (first outOfRange (record { section = section; counts = counts }) line (sheetLines (drop at text)))
   pub tally : countedAll (replicate SECTIONS 0) (map rowOf (sheetLines text)) ≡ countedAll counts (map rowOf (sheetLines (drop at text)))
   pub total : suc (length (sheetLines text)) ≡ line + length (sheetLines (drop at text))
+
+-- what the pass answers at the sheet's end
+module _ (over wide lines : ℕ) (counts : List ℕ) where
+  pub survey-over : (over ≡ 0 → ⊥) → Refused 2 over ≡ surveyBy over wide lines counts
+  survey-over n = sym (pick-false (eqb over NO_LINE) _ _ (ne-eqb over NO_LINE n))
+
+  pub survey-wide : over ≡ 0 → (wide ≡ 0 → ⊥) → Refused 3 wide ≡ surveyBy over wide lines counts
+  survey-wide z n = sym (pick-true (eqb over NO_LINE) _ _ (eq-eqb over NO_LINE z) ∙ pick-false (eqb wide NO_LINE) _ _ (ne-eqb wide NO_LINE n))
+
+  pub survey-fine : over ≡ 0 → wide ≡ 0 → Fine lines (countsFrom counts) ≡ surveyBy over wide lines counts
+  survey-fine z n = sym (pick-true (eqb over NO_LINE) _ _ (eq-eqb over NO_LINE z) ∙ pick-true (eqb wide NO_LINE) _ _ (eq-eqb wide NO_LINE n))
 
 zeros-each : (n i k : ℕ) → getD (replicate n 0) i 0 ≤ k
 zeros-each zero i k = omega arith
@@ -282,16 +293,16 @@ module _ {text most : List ℕ} {section : ℕ} {counts : List ℕ} {over wide a
     unfolding first
     three-is = t .threes ∙ (rw none-left (kept-end wide))
 
-    pub tally-over : (over ≡ 0 → ⊥) → readLines most (sheetLines text) ≡ refused 2 over
-    unfolding readLines refusals
-    tally-over n = rw (no-one, two-is) (rw (ne-eqb over NO_LINE n, refusals))
-
-    pub tally-wide : over ≡ 0 → (wide ≡ 0 → ⊥) → readLines most (sheetLines text) ≡ refused 3 wide
-    unfolding readLines refusals
-    tally-wide z n = rw (no-one, two-is ∙ z, three-is) (rw (ne-eqb wide NO_LINE n, refusals))
-
-    pub tally-fine : over ≡ 0 → wide ≡ 0 → (lines : ℕ) → lines ≡ line - 1 → surveyOf (readLines most (sheetLines text)) ≡ Fine lines (countsFrom counts)
+    -- 2 before 3, by the lines kept
+    pub tally-ends : (lines : ℕ) → lines ≡ line - 1 → surveyOf (readLines most (sheetLines text)) ≡ surveyBy over wide lines counts
     unfolding readLines refusals surveyOf countsOf countedAll
-    tally-fine z n lines p =
-        rw (no-one, two-is ∙ z, three-is ∙ n)
-        (rw (t .tally, none-left) (ap (λ (m : ℕ). Fine m (countsFrom counts)) (length-map (sheetLines text) rowOf ∙ omega (arith, t .total, ap length none-left))))
+    tally-ends lines p = rw (no-one, two-is, three-is) (go (eqb over NO_LINE) refl (eqb wide NO_LINE) refl)
+      where
+        fine : Fine (length (map rowOf (sheetLines text))) (countsOf (map rowOf (sheetLines text))) ≡ Fine lines (countsFrom counts)
+        fine = rw (t .tally, none-left) (ap (λ (m : ℕ). Fine m (countsFrom counts)) (length-map (sheetLines text) rowOf ∙ omega (arith, t .total, ap length none-left)))
+
+        go : (a : Bool) → eqb over NO_LINE ≡ a → (b : Bool) → eqb wide NO_LINE ≡ b
+            → surveyOf (refusals NO_LINE over wide (rows (map rowOf (sheetLines text)))) ≡ surveyBy over wide lines counts
+        go false e b f = rw (e, refusals) (survey-over over wide lines counts (eqb-false over NO_LINE e))
+        go true e false f = rw (e, refusals) (rw f (survey-wide over wide lines counts (eqb-true over NO_LINE e) (eqb-false wide NO_LINE f)))
+        go true e true f = rw (e, refusals) (rw f (fine ∙ survey-fine over wide lines counts (eqb-true over NO_LINE e) (eqb-true wide NO_LINE f)))

@@ -2,119 +2,134 @@
 use mathlib.Core.Path.{_≡_, refl, sym, _∙_, ap}
 use mathlib.Core.Bool.{Bool, true, false, cond}
 use mathlib.Core.List.{List, [], _∷_}
-use Prim.Native.Nat.{ℕ, suc, _+_, _-_, _≤_, _<_}
+use Prim.Native.Nat.{ℕ, zero, suc, _+_, _-_, _≤_, _<_}
 use native.Mathlib.Numerals.{add-one}
 use native.Mathlib.Omega.{arith}
 use lib.Dec.{leb}
-use lib.ListN.{length, drop, getD, length-drop}
-use lib.Seq.{slice, slice-empty}
-use borrow.Author.Tests.{le-leb, lt-leb}
+use lib.ListN.{length, drop, getD, length-drop, length-map, drop-of-length-le}
+use lib.Seq.{drop-cons}
+use borrow.Author.Tests.{le-leb, lt-leb, ne-eqb}
 use Rattle.sheet.specs.declared.number.Scanned.{Scanned}
 use Rattle.sheet.specs.declared.line.Cell.{Cell}
 use Rattle.sheet.specs.declared.line.LineAt.{LineAt}
 use Rattle.sheet.specs.Text.{partOf}
 use Rattle.sheet.specs.Number.{number}
-use Rattle.sheet.specs.Table.{Column, SECTIONS, columnsOf}
-use Rattle.sheet.specs.Record.{Line, unread, row, emptyRow, isMissing, cellOf}
-use Rattle.sheet.specs.Walk.{columnRows, columnIn, allColumns, firstColumn, separatorAt, ended, fieldsFrom, lineEnd, lineAnswer, numberIn, isMalformed, fitsAfter, rowAfter, LineSays}
+use Rattle.sheet.specs.Table.{Column, MISSING, SECTIONS, columnsOf, id}
+use Rattle.sheet.specs.Record.{Line, unread, row, emptyRow, cellOf}
+use Rattle.sheet.specs.Walk.{columnRow, columnIn, sectionRows, separatorAt, ended, fieldsFrom, lineEnd, lineAnswer, numberIn, isGone, isMalformed, fitsAfter, rowAfter, LineSays}
 use Rattle.base.proofs.Bools.{never}
+use Rattle.base.proofs.RunLaws.{zeros-at}
 use Rattle.sheet.proofs.Parts.{part-short}
-use Rattle.sheet.proofs.Fields.{restRead, endRead, Open, sepBefore, fieldIn, turn-malformed, turn-goes, turn-open, keep-first}
-use Rattle.sheet.proofs.Columns.{columnAt, spread, next-column, separator-is, row-is-column}
+use Rattle.sheet.proofs.Cells.{gone-after}
+use Rattle.sheet.proofs.Fields.{restRead, endRead, Open, sepBefore, fieldIn, turn-malformed, turn-goes, turn-open, keep-others, keep-length}
+use Rattle.sheet.proofs.Columns.{spread, separator-is, row-is-column, sound-column}
 
--- the record of section `s` at `at` is what the fields passed leave of it: the columns from `i` on, over the text from `next` on. `next` goes past
--- the text's end by a byte a field at most
-pub record Along (text : List ℕ) (at s first end : ℕ) (r : List ℕ) (before fits : Bool) (next i : ℕ) : Type 0 where
-  pub low : first ≤ i
-  pub high : i ≤ end
-  pub table : end ≤ length allColumns
-  pub short : end ≤ first + 15
-  pub inside : next ≤ length text + suc (i - first)
+-- the record of section `s` at `at` is what the fields passed leave of it: the columns from the i-th on, over the text from `next` on. The row's i-th number tells
+-- whether the field before is missing, and behind it the row is blank. `next` goes past the text's end by a byte a field at most
+pub record Along (text : List ℕ) (at s : ℕ) (r : List ℕ) (fits : Bool) (next i : ℕ) : Type 0 where
+  pub high : i ≤ length (columnsOf s)
+  pub inside : next ≤ length text + suc i
+  pub size : length r ≡ 16
   pub section : getD r 0 0 ≡ s
   pub known : s < SECTIONS
-  pub line : fieldsFrom (columnsOf s) (drop at text) false true 1 (emptyRow s) ≡ restRead (slice i end allColumns) (leb next (length text)) (drop next text) before fits (suc (i - first)) r
-  pub ends : Open (slice i end allColumns) text next → lineEnd at (drop at text) ≡ endRead (slice i end allColumns) next (drop next text)
+  pub blank : (j : ℕ) → i < j → getD r j 0 ≡ 0
+  pub line : fieldsFrom (columnsOf s) (drop at text) false true 1 (emptyRow s) ≡ restRead (drop i (columnsOf s)) (leb next (length text)) (drop next text) (isGone (getD r i 0)) fits (suc i) r
+  pub ends : Open (drop i (columnsOf s)) text next → lineEnd at (drop at text) ≡ endRead (drop i (columnsOf s)) next (drop next text)
 
-pub along-start : (text : List ℕ) (at s first end : ℕ) (r : List ℕ) → s < SECTIONS → first ≡ firstColumn s → end ≡ firstColumn (s + 1) → at ≤ suc (length text)
-    → r ≡ emptyRow s → Along text at s first end r false true at first
-along-start text at s first end r h f e l p =
-    let x = spread s h in
-    let e′ : end ≡ firstColumn (suc s) = e ∙ ap firstColumn (add-one s) in
-    let some : first < end = omega (arith, x .some) in
-    let table : end ≤ length allColumns = omega (arith, x .inside) in
-    let cols : slice first end allColumns ≡ columnsOf s = rw (f, e′) (x .part) in
-    let none : first - first ≡ 0 = omega arith in
+blank-row : (s j : ℕ) → 0 < j → getD (emptyRow s) j 0 ≡ 0
+blank-row s zero h = absurd (omega arith)
+blank-row s (suc j) h = zeros-at 15 j
+
+pub along-start : (text : List ℕ) (at s : ℕ) (r : List ℕ) → s < SECTIONS → at ≤ suc (length text) → r ≡ emptyRow s → Along text at s r true at 0
+along-start text at s r h l p =
+    let some : columnsOf s ≡ getD (columnsOf s) 0 id ∷ drop 1 (columnsOf s) = drop-cons (columnsOf s) 0 id (spread s h .fields) in
+    let there : isGone s ≡ false = ne-eqb s MISSING (λ (e : s ≡ MISSING). omega arith) in
     record {
-      low = omega arith;
       high = omega arith;
-      table = table;
-      short = omega (arith, x .short);
       inside = omega arith;
+      size = ap length p;
       section = ap (λ (q : List ℕ). getD q 0 0) p;
       known = h;
-      line = ap (λ (cs : List Column). fieldsFrom cs (drop at text) false true 1 (emptyRow s)) (sym cols ∙ next-column first end some table)
-          ∙ rw (next-column first end some table, none, p);
-      ends = λ o. rw (next-column first end some table);
+      blank = λ j q. ap (λ (x : List ℕ). getD x j 0) p ∙ blank-row s j q;
+      line = rw p (rw (there, some));
+      ends = λ o. rw some;
     }
 
 -- what the field at `next` holds in the i-th column, as the code found it: the part shown, its number, and the cell
-pub record Taken (columns : List (List ℕ)) (text : List ℕ) (end : ℕ) (before : Bool) (next i : ℕ) (field : List ℕ) (n : Scanned) (held : Cell) : Type 0 where
-  pub more : i < end
-  pub table : columns ≡ columnRows
-  pub shown : field ≡ partOf (separatorAt i end) (drop next text)
+pub record Taken (columns : List (List ℕ)) (text : List ℕ) (s : ℕ) (r : List ℕ) (next i : ℕ) (field : List ℕ) (n : Scanned) (held : Cell) : Type 0 where
+  pub more : i < length columns
+  pub table : columns ≡ sectionRows s
+  pub shown : field ≡ partOf (separatorAt i (length columns - 1)) (drop next text)
   pub scanned : numberIn n ≡ number field
-  pub cell : held ≡ cellOf (columnIn (getD columns i [])) before (numberIn n)
+  pub cell : held ≡ cellOf (columnIn (getD columns i [])) (isGone (getD r i 0)) (numberIn n)
+
+-- as many rows as columns
+pub as-many : (columns : List (List ℕ)) (s : ℕ) → columns ≡ sectionRows s → length columns ≡ length (columnsOf s)
+as-many columns s e = ap length e ∙ length-map (columnsOf s) columnRow
 
 -- one turn
-module _ {text : List ℕ} {at s first end : ℕ} {r : List ℕ} {before fits : Bool} {next i : ℕ} {columns : List (List ℕ)} {field : List ℕ} {n : Scanned} {held : Cell}
-    (a : Along text at s first end r before fits next i) (f : Taken columns text end before next i field n held) where
+module _ {text : List ℕ} {at s : ℕ} {r : List ℕ} {fits : Bool} {next i : ℕ} {columns : List (List ℕ)} {field : List ℕ} {n : Scanned} {held : Cell}
+    (a : Along text at s r fits next i) (f : Taken columns text s r next i field n held) where
   abbrev left : List Column
-  left = slice (suc i) end allColumns
+  left = drop (suc i) (columnsOf s)
 
-  more : i < end
-  more = f .more
+  abbrev column : Column
+  column = getD (columnsOf s) i id
 
-  line-now : fieldsFrom (columnsOf s) (drop at text) false true 1 (emptyRow s) ≡ fieldsFrom (columnAt i ∷ left) (drop next text) before fits (suc (i - first)) r
-  line-now = a .line ∙ ap (λ (cs : List Column). restRead cs (leb next (length text)) (drop next text) before fits (suc (i - first)) r) (next-column i end more (a .table))
+  abbrev before : Bool
+  before = isGone (getD r i 0)
+
+  more : i < length (columnsOf s)
+  more = omega (arith, f .more, as-many columns s (f .table))
+
+  few : length (columnsOf s) ≤ 15
+  few = spread s (a .known) .few
+
+  next-column : drop i (columnsOf s) ≡ column ∷ left
+  next-column = drop-cons (columnsOf s) i id more
+
+  line-now : fieldsFrom (columnsOf s) (drop at text) false true 1 (emptyRow s) ≡ fieldsFrom (column ∷ left) (drop next text) before fits (suc i) r
+  line-now = a .line ∙ ap (λ (cs : List Column). restRead cs (leb next (length text)) (drop next text) before fits (suc i) r) next-column
 
   ends-now : ended (drop next text) ≡ true → lineEnd at (drop at text) ≡ lineEnd next (drop next text)
-  ends-now = rw (next-column i end more (a .table)) at (a .ends)
+  ends-now = rw next-column at (a .ends)
 
   field-now : field ≡ fieldIn left (drop next text)
-  field-now = f .shown ∙ ap (λ (b : ℕ). partOf b (drop next text)) (separator-is i end more (a .table))
+  field-now = f .shown
+      ∙ ap (λ (b : ℕ). partOf b (drop next text)) (ap (λ (k : ℕ). separatorAt i (k - 1)) (as-many columns s (f .table)) ∙ separator-is (columnsOf s) i)
 
   scanned-now : numberIn n ≡ number (fieldIn left (drop next text))
   scanned-now = f .scanned ∙ ap number field-now
 
-  cell-now : held ≡ cellOf (columnAt i) before (numberIn n)
-  cell-now = f .cell ∙ ap (λ (x : Column). cellOf x before (numberIn n)) (row-is-column columns i (f .table) (omega (arith, more, a .table)))
+  cell-now : held ≡ cellOf column before (numberIn n)
+  cell-now = f .cell ∙ ap (λ (x : Column). cellOf x before (numberIn n)) (row-is-column columns s i (f .table) more)
 
   behind-now : next + length field + 1 ≡ next + length (fieldIn left (drop next text)) + 1
   behind-now = ap (λ (l : List ℕ). next + length l + 1) field-now
 
   pub along-malformed : isMalformed held ≡ true → fieldsFrom (columnsOf s) (drop at text) false true 1 (emptyRow s) ≡ unread
-  along-malformed m = line-now ∙ turn-malformed (columnAt i) left before fits (suc (i - first)) r text next n held (next + length field + 1) scanned-now cell-now behind-now m
+  along-malformed m = line-now ∙ turn-malformed column left before fits (suc i) r text next n held (next + length field + 1) scanned-now cell-now behind-now m
 
-  pub along-inside : next + length field ≤ length text + suc (i - first)
+  pub along-inside : next + length field ≤ length text + suc i
   along-inside = omega (arith, a .inside, ap length field-now, part-short (sepBefore left) (drop next text), length-drop next text)
 
-  pub along-turn : isMalformed held ≡ false → (r′ : List ℕ) (before′ fits′ : Bool)
-      → r′ ≡ rowAfter held r (i - first + 1) → before′ ≡ isMissing (numberIn n) → fits′ ≡ fitsAfter held fits
-      → Along text at s first end r′ before′ fits′ (next + length field + 1) (i + 1)
-  along-turn m r′ before′ fits′ pr pb pf =
-      let step : suc (i + 1 - first) ≡ suc (suc (i - first)) = omega (arith, a .low) in
-      let o = turn-open (columnAt i) left before fits (suc (i - first)) r text next n held (next + length field + 1) scanned-now cell-now behind-now m in
+  pub along-turn : isMalformed held ≡ false → (r′ : List ℕ) (fits′ : Bool) → r′ ≡ rowAfter held r (i + 1) → fits′ ≡ fitsAfter held fits
+      → Along text at s r′ fits′ (next + length field + 1) (i + 1)
+  along-turn m r′ fits′ pr pf =
+      let o = turn-open column left before fits (suc i) r text next n held (next + length field + 1) scanned-now cell-now behind-now m in
+      let r″ : r′ ≡ rowAfter held r (suc i) = rw (sym (add-one i)) pr in
+      let gone = gone-after column before (sound-column s i (a .known) more .under) r (suc i) (omega (arith, a .size, more, few)) (a .blank (suc i) (omega arith))
+      (numberIn n) held cell-now m in
       record {
-        low = omega (arith, a .low);
         high = omega (arith, more);
-        table = a .table;
-        short = a .short;
-        inside = omega (arith, along-inside, a .low);
-        section = ap (λ (q : List ℕ). getD q 0 0) pr ∙ (keep-first held r (i - first + 1) (omega arith) ∙ a .section);
+        inside = omega (arith, along-inside);
+        size = ap length pr ∙ (keep-length held r (i + 1) ∙ a .size);
+        section = ap (λ (q : List ℕ). getD q 0 0) pr ∙ (keep-others held r (i + 1) 0 (λ (e : 0 ≡ i + 1). omega arith) ∙ a .section);
         known = a .known;
+        blank = λ j h. ap (λ (q : List ℕ). getD q j 0) pr ∙ (keep-others held r (i + 1) j (λ (e : j ≡ i + 1). omega arith) ∙ a .blank j (omega arith));
         line = line-now
-            ∙ (turn-goes (columnAt i) left before fits (suc (i - first)) r text next n held (next + length field + 1) scanned-now cell-now behind-now m
-            ∙ rw (pr, pb, pf, step, add-one i, add-one (i - first)));
+            ∙ (turn-goes column left before fits (suc i) r text next n held (next + length field + 1) scanned-now cell-now behind-now m
+            ∙ rw (add-one i, r″, pf, gone));
         ends = rw (add-one i) (λ (h : Open left text (next + length field + 1)). ends-now (o h .0) ∙ o h .1);
       }
 
@@ -128,12 +143,12 @@ says-row {r} {s} {line} {end} fits next p k e q =
     }
 
 -- no column is left: the record is whole where the text has the byte behind its last field
-module _ {text : List ℕ} {at s first end : ℕ} {r : List ℕ} {before fits : Bool} {next i : ℕ} (a : Along text at s first end r before fits next i) (over : end ≤ i) where
-  none-left : slice i end allColumns ≡ []
-  none-left = let last : i ≡ end = omega (arith, a .high) in rw last (slice-empty end allColumns)
+module _ {text : List ℕ} {at s : ℕ} {r : List ℕ} {fits : Bool} {next i : ℕ} (a : Along text at s r fits next i) (over : length (columnsOf s) ≤ i) where
+  none-left : drop i (columnsOf s) ≡ []
+  none-left = drop-of-length-le (columnsOf s) {i = i} over
 
   line-over : fieldsFrom (columnsOf s) (drop at text) false true 1 (emptyRow s) ≡ cond (leb next (length text)) (row fits r) unread
-  line-over = a .line ∙ ap (λ (cs : List Column). restRead cs (leb next (length text)) (drop next text) before fits (suc (i - first)) r) none-left
+  line-over = a .line ∙ ap (λ (cs : List Column). restRead cs (leb next (length text)) (drop next text) (isGone (getD r i 0)) fits (suc i) r) none-left
 
   pub along-unended : length text < next → fieldsFrom (columnsOf s) (drop at text) false true 1 (emptyRow s) ≡ unread
   along-unended h = line-over ∙ rw (lt-leb next (length text) h)

@@ -2,7 +2,7 @@
 use mathlib.Core.Bool.{Bool, true, false}
 use mathlib.Core.List.{List, [], _∷_, _++_}
 use mathlib.Core.Path.{_≡_}
-use Prim.Native.Nat.{ℕ, zero, suc, _+_, _≤_}
+use Prim.Native.Nat.{ℕ, zero, suc, _+_, _≤_, _<_, max}
 use lib.Dec.{ltb}
 use lib.ListN.{getD, length, drop, replicate}
 use Rattle.sheet.specs.declared.Counts.{Counts}
@@ -14,7 +14,7 @@ use Rattle.sheet.specs.declared.RowAt.{RowAt}
 use Rattle.sheet.specs.Text.{lineOf}
 use Rattle.sheet.specs.Table.{SECTIONS}
 use Rattle.sheet.specs.Record.{Line, unread, row}
-use Rattle.sheet.specs.Reading.{Reading, refused, rows, counted, rowOf, sheetLines}
+use Rattle.sheet.specs.Reading.{Reading, refused, rows, counted, rowOf, rowsFrom, sheetLines}
 
 -- how many rows of each section, after the rows that `counts` counts
 unfoldable pub countedAll : List ℕ → List (List ℕ) → List ℕ
@@ -66,3 +66,22 @@ rowAt text at =
 pub record AtLine (text : List ℕ) (k at : ℕ) : Type 0 where
   pub inside : at ≤ length text
   pub lines : sheetLines (drop at text) ≡ drop k (sheetLines text)
+
+-- the rows of a text's lines stand in lent rows, as far as these reach
+abbrev pub RowsHeld : List ℕ → List (List ℕ) → Type 0
+RowsHeld text lent = (j : ℕ) → j < length (rowsFrom text) → j < length lent → getD lent j [] ≡ getD (rowsFrom text) j []
+
+-- the invariant of a walk along lent rows, and along the text behind the last of them: k lines are behind, and `at` is where the first of the other lines starts
+-- that has no row
+pub record AtRow (text : List ℕ) (lent : List (List ℕ)) (k at : ℕ) : Type 0 where
+  pub held : RowsHeld text lent
+  pub line : AtLine text (max k (length lent)) at
+
+-- where such a walk starts, if the sheet is accepted
+abbrev pub HeldIf : Reading → List ℕ → List (List ℕ) → ℕ → Type 0
+HeldIf r text lent at = (l : List (List ℕ)) → r ≡ rows l → AtRow text lent 0 at
+
+-- `row_of`: the k-th row, or else the row of the line that starts at a place; and the place where the walk goes on
+unfoldable pub rowFrom : List ℕ → List (List ℕ) → ℕ → ℕ → RowAt
+unfolding rowAt
+rowFrom text lent k at = elim (ltb k (length lent)) [ true ↦ record { row = getD lent k []; next = at } | false ↦ rowAt text at ]

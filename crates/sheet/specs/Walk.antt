@@ -2,7 +2,7 @@
 use mathlib.Core.Path.{_≡_}
 use mathlib.Core.Bool.{Bool, true, false, _||_, cond}
 use mathlib.Core.List.{List, [], _∷_, _++_, map}
-use Prim.Native.Nat.{ℕ, suc, _+_, _-_, _*_, _<_}
+use Prim.Native.Nat.{ℕ, suc, _+_, _-_, _*_, _≤_, _<_}
 use lib.Dec.{eqb, ltb}
 use lib.ListN.{getD, length, take, set}
 use Rattle.sheet.specs.declared.number.Scanned.{Scanned}
@@ -12,12 +12,14 @@ use Rattle.sheet.specs.declared.line.Cell.the-variants.{Holds, OutOfRang
 use Rattle.sheet.specs.declared.line.LineAt.{LineAt}
 use Rattle.sheet.specs.declared.check.Survey.{Survey}
 use Rattle.sheet.specs.declared.check.Survey.the-variants.{Refused, Fine}
+use Rattle.sheet.specs.declared.Checked.{Checked}
+use Rattle.sheet.specs.declared.Checked.the-variants.{Refused as NotFine, Fine as AllFine}
 use Rattle.sheet.specs.Text.{TAB, NEWLINE, parts, lineOf}
 use Rattle.sheet.specs.Number.{Number, bad, missing, plus, minus, digit, ZERO}
-use Rattle.sheet.specs.Table.{Column, SECTIONS, tables}
+use Rattle.sheet.specs.Table.{Column, MISSING, SECTIONS, tables, columnsOf}
 use Rattle.sheet.specs.Record.{Line, unread, row, fieldsRead}
 use Rattle.sheet.specs.Reading.{Reading, refused, rows, sectionIn, NO_LINE}
-use Rattle.sheet.specs.Answer.{countsOf}
+use Rattle.sheet.specs.Answer.{countsFrom, countsOf}
 
 -- what a field says, as the code has it
 abbrev pub numberIn : Scanned → Number
@@ -31,6 +33,18 @@ unfoldable pub digitsRead : ℕ → List ℕ → Number
 digitsRead v [] = plus v
 digitsRead v (b ∷ bs) = elim (digit b) [ true ↦ digitsRead (v * 10 + (b - ZERO)) bs | false ↦ bad ]
 
+-- what is said of a byte: the number of a digit, or one above nine
+pub record DigitSays (b d : ℕ) : Type 0 where
+  pub yes : d ≤ 9 → (digit b ≡ true) × (d ≡ b - ZERO)
+  pub no : 9 < d → digit b ≡ false
+
+-- a field whose first byte is the digit of the number `d`
+pub record FirstDigit (field : List ℕ) (d : ℕ) : Type 0 where
+  pub some : 0 < length field
+  pub small : d ≤ 9
+  pub is : digit (getD field 0 0) ≡ true
+  pub value : d ≡ getD field 0 0 - ZERO
+
 -- a number with a `-` in front
 unfoldable pub negated : Number → Number
 negated bad = bad
@@ -38,9 +52,13 @@ negated missing = bad
 negated (plus v) = elim (eqb v 0) [ true ↦ bad | false ↦ minus v ]
 negated (minus v) = bad
 
--- the byte that ends a field at the place `k` of a table that ends at `end`: a tab, or byte 10 after the last
+-- the byte that ends the field of the i-th column: a tab, or byte 10 after the last
 abbrev pub separatorAt : ℕ → ℕ → ℕ
-separatorAt k end = cond (ltb k (end - 1)) TAB NEWLINE
+separatorAt i last = cond (ltb i last) TAB NEWLINE
+
+-- whether a number held stands for a field that is missing
+abbrev pub isGone : ℕ → Bool
+isGone v = eqb v MISSING
 
 abbrev pub isMalformed : Cell → Bool
 isMalformed (Holds v) = false
@@ -76,6 +94,10 @@ allColumns = joined tables
 abbrev pub columnRows : List (List ℕ)
 columnRows = map columnRow allColumns
 
+-- the columns of a section
+abbrev pub sectionRows : ℕ → List (List ℕ)
+sectionRows s = map columnRow (columnsOf s)
+
 -- how many columns stand before a section's
 abbrev pub firstColumn : ℕ → ℕ
 firstColumn s = length (joined (take s tables))
@@ -110,6 +132,12 @@ pub record LineSays (line : Line) (next : ℕ) (r : LineAt) (stored : List ℕ) 
   pub holds : (fits : Bool) (l : List ℕ) → line ≡ row fits l → stored ≡ l
   pub known : r .read ≡ true → r .section < SECTIONS
 
+-- the same, where the row is kept as the k-th of lent rows, if there is one
+pub record LineKept (line : Line) (next : ℕ) (r : LineAt) (k : ℕ) (before after : List (List ℕ)) : Type 0 where
+  pub stored : List ℕ
+  pub says : LineSays line next r stored
+  pub kept : after ≡ set before k stored
+
 -- the place after the line at the front of a text that starts at `at`
 abbrev pub lineEnd : ℕ → List ℕ → ℕ
 lineEnd at t = suc (at + length (lineOf t))
@@ -122,6 +150,19 @@ unfoldable pub surveyOf : Reading → Survey
 unfolding countsOf
 surveyOf (refused n line) = Refused n line
 surveyOf (rows l) = Fine (length l) (countsOf l)
+
+-- what the calls that check a sheet answer, by what the pass finds
+abbrev pub checkedFrom : Survey → Checked
+checkedFrom (Refused n line) = NotFine n line
+checkedFrom (Fine lines counts) = AllFine counts
+
+-- what the pass answers where every line is read, by the first lines of a 2 and a 3
+abbrev pub surveyBy : ℕ → ℕ → ℕ → List ℕ → Survey
+surveyBy over wide lines counts =
+    elim (eqb over NO_LINE) [
+      | false ↦ Refused 2 over
+      | true ↦ elim (eqb wide NO_LINE) [ false ↦ Refused 3 wide | true ↦ Fine lines (countsFrom counts) ]
+    ]
 
 -- whether each line can be read
 unfoldable pub allRead : List Line → Bool

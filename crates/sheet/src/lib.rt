@@ -6,10 +6,11 @@ ghost use mathlib.Core.List.{_++_};
 ghost use Prim.Native.Nat.{_≤_};
 ghost use lib.ListN.{length, drop};
 ghost use Rattle.sheet.specs.Reading.{reading, rowsFrom, sheetLines, listed};
-ghost use Rattle.sheet.specs.Answer.{checkedOf, readOf, rowsAfter, rowAt, countsFrom};
+ghost use Rattle.sheet.specs.Answer.{checkedOf, readOf, rowsAfter, rowAt, rowFrom, countsFrom, HeldIf};
 ghost use Rattle.sheet.specs.Table.{libraryMost, programMost};
-ghost use Rattle.sheet.specs.Walk.{allRead};
+ghost use Rattle.sheet.specs.Walk.{allRead, checkedFrom};
 use check::Survey;
+use check::survey_rows;
 use check::survey_sheet;
 use line::line_at;
 use table::COLUMNS;
@@ -38,6 +39,12 @@ pub enum Checked {
     Fine(Counts),
 }
 
+// What checking a sheet with rows lent for its lines answers, and where the first line without a row starts.
+pub struct RowsChecked {
+    pub checked: Checked,
+    pub rest: usize,
+}
+
 // What reading a sheet into rows answers. Short: fewer rows were lent than the sheet has lines.
 pub enum ReadAnswer {
     Refused { number: usize, line: usize },
@@ -45,7 +52,7 @@ pub enum ReadAnswer {
     Read(Counts),
 }
 
-// The row of one line, and where the next line starts.
+// The row of one line, and where in the text a walk goes on after it.
 pub struct RowAt {
     pub row: [u32; 16],
     pub next: usize,
@@ -108,18 +115,37 @@ pub fn program_most() -> Counts
     }
 }
 
-// Refusals 1 to 3 of a sheet, of which at most `most` records are taken. It needs no work space.
-pub fn check_sheet(text: &[u8], most: Counts) -> Checked
-    ensures { λ r. ⌜ r ≡ checkedOf (reading most (now (text .entry))) ⌝ }
+fn checked_by(s: Survey) -> Checked
+    ensures { λ r. ⌜ r ≡ checkedFrom s ⌝ }
 {
-    match survey_sheet(text, most.list()) {
+    match s {
         Survey::Refused { number, line } => Checked::Refused { number, line },
         Survey::Fine { lines: _, counts } => Checked::Fine(counts),
     }
 }
 
-// The row of the line that starts at `at`: with it a caller walks along an accepted sheet, line by line, without work space.
-pub fn row_at(text: &[u8], at: usize) -> RowAt
+// Refusals 1 to 3 of a sheet, of which at most `most` records are taken. It needs no work space.
+pub fn check_sheet(text: &[u8], most: Counts) -> Checked
+    ensures { λ r. ⌜ r ≡ checkedOf (reading most (now (text .entry))) ⌝ }
+{
+    checked_by(survey_sheet(text, most.list()))
+}
+
+// The same, and the row of each line is kept, as far as rows are lent. On a refusal they hold anything.
+pub fn check_rows(text: &[u8], most: Counts, rows: &mut [Record]) -> RowsChecked
+    ensures { λ r. ⌜ r .checked ≡ checkedOf (reading most (now (text .entry))) ⌝ }
+    ensures { λ r. ⌜ HeldIf (reading most (now (text .entry))) (now (text .entry)) (now (rows .exit)) (r .rest) ⌝ }
+{
+    let found = survey_rows(text, most.list(), rows);
+    let survey = found.survey;
+    RowsChecked {
+        checked: checked_by(survey),
+        rest: found.rest,
+    }
+}
+
+// The row of the line that starts at `at`.
+fn row_at(text: &[u8], at: usize) -> RowAt
     ensures { λ r. ⌜ r ≡ rowAt (now (text .entry)) at ⌝ }
 {
     let columns = COLUMNS;
@@ -134,8 +160,21 @@ pub fn row_at(text: &[u8], at: usize) -> RowAt
     RowAt { row, next: l.next }
 }
 
+// Row k of an accepted sheet: from the rows that `check_rows` kept, or behind the last of them from the line that starts at `at`. The walk goes on at `next`.
+pub fn row_of(text: &[u8], rows: &[Record], k: usize, at: usize) -> RowAt
+    ensures { λ r. ⌜ r ≡ rowFrom (now (text .entry)) (now (rows .entry)) k at ⌝ }
+{
+    if k < rows.len() {
+        return RowAt {
+            row: rows[k],
+            next: at,
+        };
+    }
+    row_at(text, at)
+}
+
 // Fills the first `n` rows with the rows of the lines from the text's start on.
-pub fn fill_rows(text: &[u8], rows: &mut [Record], n: usize)
+fn fill_rows(text: &[u8], rows: &mut [Record], n: usize)
     requires { ⌜ (n ≡ length (sheetLines (now text))) × (n ≤ length (now rows)) × (allRead (sheetLines (now text)) ≡ true) ⌝ }
     ensures { λ _. ⌜ now (rows .exit) ≡ rowsFrom (now (text .entry)) ++ drop n (now (rows .entry)) ⌝ }
 {

@@ -7,12 +7,13 @@ ghost use mathlib.Core.Path.{_≡_};
 ghost use mathlib.Core.Bool.{false, true};
 ghost use Prim.Native.Nat.{suc, _+_, _-_, _≤_, _<_};
 ghost use lib.Dec.{leb};
+ghost use mathlib.Core.List.{[]};
 ghost use lib.ListN.{length, drop, getD};
 ghost use Rattle.sheet.specs.Table.{SECTIONS, columnsOf, letters};
-ghost use Rattle.sheet.specs.Record.{allowed as mayStand, placeOf, sectionOf, within, cellOf, isMissing, emptyRow, unread as noRecord};
+ghost use Rattle.sheet.specs.Record.{allowed as mayStand, placeOf, sectionOf, within, cellOf, emptyRow, unread as noRecord};
 ghost use Rattle.sheet.specs.Reading.{sheetLines};
 ghost use Rattle.sheet.specs.Answer.{frontLine};
-ghost use Rattle.sheet.specs.Walk.{separatorAt, numberIn, isMalformed, fitsAfter, rowAfter, columnIn, columnRows, fieldsFrom, lineAnswer, lineEnd, LineSays};
+ghost use Rattle.sheet.specs.Walk.{separatorAt, numberIn, isGone, isMalformed, fitsAfter, rowAfter, columnIn, columnRows, sectionRows, fieldsFrom, lineAnswer, lineEnd, LineSays};
 use crate::number::Scanned;
 use crate::number::number_of;
 use crate::table::first_column;
@@ -33,14 +34,14 @@ pub struct LineAt {
     pub next: usize,
 }
 
-// Whether a field that is missing or not may stand in a column after one that is missing or not.
-fn allowed(gap: u32, before: bool, gone: bool) -> bool
-    ensures { λ r. ⌜ r ≡ mayStand gap before gone ⌝ }
+// Whether a field that is missing or not may stand in a column after a field that is held as `before`.
+fn allowed(gap: u32, before: u32, gone: bool) -> bool
+    ensures { λ r. ⌜ r ≡ mayStand gap (isGone before) gone ⌝ }
 {
     if gap == 0 {
         !gone
     } else if gap == 2 {
-        before == gone
+        (before == MISSING) == gone
     } else {
         true
     }
@@ -76,45 +77,34 @@ fn minus_cell(origin: u32, low: u32, high: u32, v: u64) -> Cell
     Cell::Holds(held)
 }
 
-// What a field holds.
-pub fn cell_of(c: [u32; 4], before: bool, n: Scanned) -> Cell
-    requires { ⌜ getD c 0 0 ≤ getD c 2 0 ⌝ }
-    ensures { λ r. ⌜ r ≡ cellOf (columnIn c) before (numberIn n) ⌝ }
+// What a field holds in the i-th column, after a field that is held as `before`.
+pub fn cell_of(columns: &[[u32; 4]], i: usize, before: u32, n: Scanned) -> Cell
+    requires { ⌜ (i < length (now columns)) × (getD (getD (now columns) i []) 0 0 ≤ getD (getD (now columns) i []) 2 0) ⌝ }
+    ensures { λ r. ⌜ r ≡ cellOf (columnIn (getD (now (columns .entry)) i [])) (isGone before) (numberIn n) ⌝ }
 {
     match n {
         Scanned::Bad => Cell::Malformed,
         Scanned::Missing => {
-            if allowed(c[3], before, true) {
+            if allowed(columns[i][3], before, true) {
                 Cell::Holds(MISSING)
             } else {
                 Cell::Malformed
             }
         }
         Scanned::Plus(v) => {
-            if allowed(c[3], before, false) {
-                plus_cell(c[0], c[1], c[2], v)
+            if allowed(columns[i][3], before, false) {
+                plus_cell(columns[i][0], columns[i][1], columns[i][2], v)
             } else {
                 Cell::Malformed
             }
         }
         Scanned::Minus(v) => {
-            if allowed(c[3], before, false) {
-                minus_cell(c[0], c[1], c[2], v)
+            if allowed(columns[i][3], before, false) {
+                minus_cell(columns[i][0], columns[i][1], columns[i][2], v)
             } else {
                 Cell::Malformed
             }
         }
-    }
-}
-
-fn is_missing(n: Scanned) -> bool
-    ensures { λ r. ⌜ r ≡ isMissing (numberIn n) ⌝ }
-{
-    match n {
-        Scanned::Bad => false,
-        Scanned::Missing => true,
-        Scanned::Plus(_) => false,
-        Scanned::Minus(_) => false,
     }
 }
 
@@ -163,35 +153,31 @@ fn put_cell(row: &mut [u32; 16], k: usize, c: Cell, fits: bool) -> bool
     }
 }
 
-// The byte that ends a field: a tab, or byte 10 after the last.
-fn separator(k: usize, end: usize) -> u8
-    requires { ⌜ k < end ⌝ }
-    ensures { λ r. ⌜ r ≡ separatorAt k end ⌝ }
+// The byte that ends the field of the i-th column: a tab, or byte 10 after the last.
+fn separator(i: usize, last: usize) -> u8
+    ensures { λ r. ⌜ r ≡ separatorAt i last ⌝ }
 {
-    if k < end - 1 { TAB } else { NEWLINE }
+    if i < last { TAB } else { NEWLINE }
 }
 
-// The fields of a record of section `s`, from `at` on. A last field that goes up to the text's end is one that no byte 10 ends.
+// The fields of a record of section `s`, whose columns these are, from `at` on, into a row that has none yet. The row's i-th number is that of the field before,
+// and tells whether it is missing. A last field that goes up to the text's end is one that no byte 10 ends.
 fn fields_at(columns: &[[u32; 4]], text: &[u8], at: usize, s: usize, row: &mut [u32; 16]) -> LineAt
-    requires { ⌜ (now columns ≡ columnRows) × (at ≤ suc (length (now text))) × (s < SECTIONS) ⌝ }
+    requires { ⌜ (now columns ≡ sectionRows s) × (at ≤ suc (length (now text))) × (s < SECTIONS) × (now row ≡ emptyRow s) ⌝ }
     ensures { λ r. ⌜ LineSays (fieldsFrom (columnsOf s) (drop at (now (text .entry))) false true 1 (emptyRow s)) (lineEnd at (drop at (now (text .entry)))) r (now (row .exit)) ⌝ }
 {
-    let first = first_column(s);
-    let end = first_column(s + 1);
-    clear(row, s);
-    let mut before = false;
+    let last = columns.len() - 1;
     let mut fits = true;
     let mut next = at;
-    let mut i = first;
-    while i < end {
-        let field = part_from(text, next, separator(i, end));
+    let mut i = 0;
+    while i <= last {
+        let field = part_from(text, next, separator(i, last));
         let n = number_of(field);
-        let held = cell_of(columns[i], before, n);
+        let held = cell_of(columns, i, row[i], n);
         if is_malformed(held) {
             return unread();
         }
-        fits = put_cell(row, i - first + 1, held, fits);
-        before = is_missing(n);
+        fits = put_cell(row, i + 1, held, fits);
         next = next + field.len() + 1;
         i += 1;
     }
@@ -237,9 +223,15 @@ pub fn line_at(columns: &[[u32; 4]], text: &[u8], at: usize, row: &mut [u32; 16]
     requires { ⌜ now columns ≡ columnRows ⌝ }
     ensures { λ r. ⌜ LineSays (frontLine (sheetLines (drop at (now (text .entry))))) (lineEnd at (drop at (now (text .entry)))) r (now (row .exit)) ⌝ }
 {
+    if text.len() <= at {
+        return unread();
+    }
     let s = section_in(part_from(text, at, TAB));
     if s == 6 {
         return unread();
     }
-    fields_at(columns, text, at + 2, s, row)
+    clear(row, s);
+    let first = first_column(s);
+    let end = first_column(s + 1);
+    fields_at(&columns[first..end], text, at + 2, s, row)
 }

@@ -4,9 +4,9 @@ use base::numbers::MINUS;
 use base::numbers::ZERO;
 ghost use mathlib.Core.Path.{_≡_};
 ghost use Prim.Native.Nat.{_≤_};
-ghost use lib.ListN.{length};
+ghost use lib.ListN.{length, drop};
 ghost use Rattle.sheet.specs.Number.{unsigned, signed, number, digitsMost};
-ghost use Rattle.sheet.specs.Walk.{numberIn, digitsRead, negated as withMinus};
+ghost use Rattle.sheet.specs.Walk.{numberIn, digitsRead, DigitSays, FirstDigit, negated as withMinus};
 
 // What a field says.
 pub enum Scanned {
@@ -16,7 +16,8 @@ pub enum Scanned {
     Minus(u64),
 }
 
-const NINE: u8 = 57;
+// The greatest digit.
+const NINE: u64 = 9;
 
 fn wide(b: u8) -> u64
     ensures { λ r. ⌜ r ≡ b ⌝ }
@@ -24,42 +25,47 @@ fn wide(b: u8) -> u64
     b as u64
 }
 
-// The number that digits write.
-fn digits_of(field: &[u8]) -> Scanned
-    requires { ⌜ length (now field) ≤ digitsMost ⌝ }
-    ensures { λ r. ⌜ numberIn r ≡ digitsRead 0 (now (field .entry)) ⌝ }
+// The number of a digit; any other byte gives one above nine, so that one test tells them apart.
+fn digit_of(b: u8) -> u64
+    ensures { λ r. ⌜ DigitSays b r ⌝ }
 {
-    let mut value: u64 = 0;
-    let mut i = 0;
+    std::num::wrapping_sub_u64(wide(b), wide(ZERO))
+}
+
+// The number that digits write, of which the first is known.
+fn digits_of(field: &[u8], first: u64) -> Scanned
+    requires { ⌜ FirstDigit (now field) first × (length (now field) ≤ digitsMost) ⌝ }
+    ensures { λ r. ⌜ numberIn r ≡ digitsRead first (drop 1 (now (field .entry))) ⌝ }
+{
+    let mut value = first;
+    let mut i = 1;
     while i < field.len() {
-        let b = field[i];
-        if b < ZERO {
+        let d = digit_of(field[i]);
+        if NINE < d {
             return Scanned::Bad;
         }
-        if NINE < b {
-            return Scanned::Bad;
-        }
-        value = value * 10 + wide(b - ZERO);
+        value = value * 10 + d;
         i += 1;
     }
     Scanned::Plus(value)
 }
 
-// A number without a sign: one to ten digits, and no zero in front of others.
-fn unsigned_of(field: &[u8]) -> Scanned
+// A number without a sign, of which the first digit is known: one to ten digits, and no zero in front of others.
+fn unsigned_of(field: &[u8], first: u64) -> Scanned
+    requires { ⌜ FirstDigit (now field) first ⌝ }
     ensures { λ r. ⌜ numberIn r ≡ unsigned (now (field .entry)) ⌝ }
 {
     let n = field.len();
-    if n == 0 {
+    if n == 1 {
+        return Scanned::Plus(first);
+    }
+    if first == 0 {
         return Scanned::Bad;
     }
     if DIGITS_MOST < n {
         return Scanned::Bad;
     }
-    if (1 < n) & (field[0] == ZERO) {
-        return Scanned::Bad;
-    }
-    digits_of(field)
+    digits_of(field, first)
 }
 
 // A number with a `-` in front: there is no `-0`.
@@ -87,18 +93,26 @@ fn signed_of(rest: &[u8]) -> Scanned
     if rest.len() == 0 {
         return Scanned::Missing;
     }
-    negated(unsigned_of(rest))
+    let first = digit_of(rest[0]);
+    if NINE < first {
+        return Scanned::Bad;
+    }
+    negated(unsigned_of(rest, first))
 }
 
-// The number that a field writes, with or without a sign.
+// The number that a field writes, with or without a sign. Most have none, so a digit is tried first.
 pub fn number_of(field: &[u8]) -> Scanned
     ensures { λ r. ⌜ numberIn r ≡ number (now (field .entry)) ⌝ }
 {
     if field.len() == 0 {
         return Scanned::Bad;
     }
+    let first = digit_of(field[0]);
+    if first <= NINE {
+        return unsigned_of(field, first);
+    }
     if field[0] == MINUS {
         return signed_of(&field[1..]);
     }
-    unsigned_of(field)
+    Scanned::Bad
 }

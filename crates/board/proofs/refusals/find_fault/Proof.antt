@@ -45,7 +45,7 @@ walk-nodes-requires c κs =
     )
 
 same-length : tie.Need-same-length
-same-length c = c .before .before .before .before .walk-nodes .kept .1 .1 .1 .1 .0
+same-length c = c .before .before .before .before .walk-nodes .kept .1 .1 .1 .1 .1 .0
 
 returns : tie.Need-returns
 returns c =
@@ -58,7 +58,7 @@ add-walk-chips : tie.Need-add-walk-chips
 add-walk-chips c = omega (arith, few (c .before .before .before .before .before .before .before .before .before))
 
 slice-aggregate-walk-chips : tie.Need-slice-aggregate-walk-chips
-slice-aggregate-walk-chips c = sym (c .before .before .before .before .before .before .walk-nodes .kept .1 .1 .1 .1 .1 .0)
+slice-aggregate-walk-chips c = sym (c .before .before .before .before .before .before .walk-nodes .kept .1 .1 .1 .1 .1 .1 .0)
 
 walk-chips-requires : tie.Need-walk-chips-requires
 walk-chips-requires c κs =
@@ -81,10 +81,10 @@ walk-chips-requires c κs =
     )
 
 same-length-2 : tie.Need-same-length-2
-same-length-2 c = c .before .before .before .before .before .before .before .before .before .before .before .walk-nodes .kept .1 .1 .1 .1 .0
+same-length-2 c = c .before .before .before .before .before .before .before .before .before .before .before .walk-nodes .kept .1 .1 .1 .1 .1 .0
 
 same-length-3 : tie.Need-same-length-3
-same-length-3 c = c .before .before .before .walk-chips .kept .1 .1 .1 .1 .1 .1 .1 .0
+same-length-3 c = c .before .before .before .walk-chips .kept .1 .1 .1 .1 .1 .1 .1 .1 .0
 
 returns-2 : tie.Need-returns-2
 returns-2 c =
@@ -120,13 +120,13 @@ walk-inner-requires c κs =
     )
 
 same-length-4 : tie.Need-same-length-4
-same-length-4 c = c .before .before .before .before .before .before .before .before .before .before .before .before .before .before .before .before .before .before .walk-nodes .kept .1 .1 .1 .1 .0
+same-length-4 c = c .before .before .before .before .before .before .before .before .before .before .before .before .before .before .before .before .before .before .walk-nodes .kept .1 .1 .1 .1 .1 .0
 
 same-length-5 : tie.Need-same-length-5
-same-length-5 c = c .before .before .before .before .before .before .before .before .before .before .walk-chips .kept .1 .1 .1 .1 .1 .1 .1 .0
+same-length-5 c = c .before .before .before .before .before .before .before .before .before .before .walk-chips .kept .1 .1 .1 .1 .1 .1 .1 .1 .0
 
 same-length-6 : tie.Need-same-length-6
-same-length-6 c = c .before .before .before .walk-inner .kept .1 .1 .1 .1 .1 .1 .1 .1 .0
+same-length-6 c = c .before .before .before .walk-inner .kept .1 .1 .1 .1 .1 .1 .1 .1 .1 .0
 
 returns-3 : tie.Need-returns-3
 returns-3 c =
@@ -140,13 +140,13 @@ verdict-requires : tie.Need-verdict-requires
 verdict-requires c κs = search needs
 
 same-length-7 : tie.Need-same-length-7
-same-length-7 c = c .before .before .before .before .before .before .before .before .before .before .before .before .before .before .before .before .before .before .before .walk-nodes .kept .1 .1 .1 .1 .0
+same-length-7 c = c .before .before .before .before .before .before .before .before .before .before .before .before .before .before .before .before .before .before .before .walk-nodes .kept .1 .1 .1 .1 .1 .0
 
 same-length-8 : tie.Need-same-length-8
-same-length-8 c = c .before .before .before .before .before .before .before .before .before .before .before .walk-chips .kept .1 .1 .1 .1 .1 .1 .1 .0
+same-length-8 c = c .before .before .before .before .before .before .before .before .before .before .before .walk-chips .kept .1 .1 .1 .1 .1 .1 .1 .1 .0
 
 same-length-9 : tie.Need-same-length-9
-same-length-9 c = c .before .before .before .before .walk-inner .kept .1 .1 .1 .1 .1 .1 .1 .1 .0
+same-length-9 c = c .before .before .before .before .walk-inner .kept .1 .1 .1 .1 .1 .1 .1 .1 .1 .0
 
 returns-4 : tie.Need-returns-4
 returns-4 c =

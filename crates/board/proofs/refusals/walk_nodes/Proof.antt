@@ -22,20 +22,20 @@ use Rattle.board.proofs.refusals.enter_id.Reads as enter-id-reads
 use Rattle.board.proofs.refusals.first_line.Reads as first-line-reads
 use Rattle.board.proofs.refusals.page_missing.Reads as page-missing-reads
 use Rattle.board.proofs.refusals.row_unplaced.Reads as row-unplaced-reads
-use Rattle.sheet.proofs.row_at.Reads as row-at-reads
+use Rattle.sheet.proofs.row_of.Reads as row-of-reads
 
 -- The first i nodes are behind.
 abbrev Inv-loop : tie.InvT-loop
-Inv-loop text first n ids₀ kinds₀ place₀ missing₀ unplaced₀ i₀ ids kinds place missing unplaced i =
+Inv-loop text rows first n ids₀ kinds₀ place₀ missing₀ unplaced₀ i₀ ids kinds place missing unplaced i =
     let b = sheetBoard text in
-    Walking text first n i (idOf b) (nodeTwice b) (pageMissing b) missing₀ missing place ids
+    Walking text rows first n i (idOf b) (nodeTwice b) (pageMissing b) missing₀ missing place ids
     × (unplaced ≡ earlier unplaced₀ (lineOr (firstLine b (lineFrom first) (rowUnplaced b) i)))
     × ((j : ℕ) → j < i → getD kinds j 0 ≡ kindOf b j)
     × (length kinds ≡ length kinds₀)
     × (length ids ≡ length ids₀)
 
 abbrev μ-loop : tie.MeasureT-loop
-μ-loop text first n ids₀ kinds₀ place₀ missing₀ unplaced₀ i₀ ids kinds place missing unplaced i = n - i
+μ-loop text rows first n ids₀ kinds₀ place₀ missing₀ unplaced₀ i₀ ids kinds place missing unplaced i = n - i
 
 -- The counts are small.
 few : (c : tie.At-loop Inv-loop μ-loop) → (c .before .before .before .args .first ≤ 64) × (c .before .before .before .args .n ≤ 4096)
@@ -45,9 +45,9 @@ few c =
     (omega (arith, p .1 .0, sec .few-pages), omega (arith, p .1 .0, sec .few-nodes))
 
 -- The line at hand is the i-th node's, and the next one follows.
-node-here : (c : tie.After-row-at Inv-loop μ-loop)
-    → (c .row-at .result .row ≡ getD (sheetBoard (c .before .before .before .before .before .args .text .now) .nodes) (c .before .before .loop .i) [])
-    × Ready (c .before .before .before .before .before .args .text .now) (suc (c .before .before .before .before .before .args .first + c .before .before .loop .i)) (c .row-at .result .next)
+node-here : (c : tie.After-row-of Inv-loop μ-loop)
+    → (c .row-of .result .row ≡ getD (sheetBoard (c .before .before .before .before .before .args .text .now) .nodes) (c .before .before .loop .i) [])
+    × Ready (c .before .before .before .before .before .args .text .now) (c .before .before .before .before .before .args .rows .now) (suc (c .before .before .before .before .before .args .first + c .before .before .loop .i)) (c .row-of .result .next)
 node-here c =
     let t = c .before .before .before .before .before .args .text .now in
     let p = c .before .before .before .before .before .pre in
@@ -55,23 +55,26 @@ node-here c =
     let w = c .before .before .loop .inv .0 in
     let part : Part (rowsFrom t) (c .before .before .before .before .before .args .first) (sheetBoard t .nodes) (inOrder 2 4 (rowsFrom t)) = rw (p .1 .0 .0) (walk-sections t (p .0) .nodes) in
     let h : i < length (sheetBoard t .nodes) = omega (arith, c .before .loop-test .taken, p .1 .0 .1) in (
-      ap (λ (r : RowAt). r .row) (c .row-at .ensures) ∙ walk-row t part i (w .ready) h,
-      rw (c .row-at .ensures) (walk-next t part i (w .ready) h),
+      ap (λ (r : RowAt). r .row) (c .row-of .ensures) ∙ walk-row t part i (w .ready) h,
+      rw (c .row-of .ensures) (walk-next t part i (w .ready) h),
     )
 
 loop-holds : tie.Need-loop-holds Inv-loop μ-loop
 loop-holds c =
     let a = c .before .before .args in
     let p = c .before .before .pre in (
-      walking-start (a .text .now) (a .first) (a .n) _ _ _ (a .w .missing) (a .w .place) (p .0) (p .1 .1 .1),
+      walking-start (a .text .now) (a .rows .now) (a .first) (a .n) _ _ _ (a .w .missing) (a .w .place) (p .0) (p .1 .1 .1),
       sym (earlier-zero (a .w .unplaced)),
       (λ j h. absurd (omega arith)),
       refl,
       refl,
     )
 
-row-at-requires : tie.Need-row-at-requires Inv-loop μ-loop
-row-at-requires c κs = search needs
+add-row-of : tie.Need-add-row-of Inv-loop μ-loop
+add-row-of c = omega (arith, few (c .before), c .loop-test .taken)
+
+row-of-requires : tie.Need-row-of-requires Inv-loop μ-loop
+row-of-requires c κs = search needs
 
 add-line : tie.Need-add-line Inv-loop μ-loop
 add-line c = omega (arith, few (c .before .before .before), c .before .before .loop-test .taken)
@@ -106,7 +109,7 @@ returns c =
     let h = c .before .before .before .before .before .before .loop-test .taken in
     let e = c .before .before .enter-id .ensures in
     let again : nodeTwice b (l .i) ≡ true = sym (sym (c .if1 .taken) ∙ e .answer ∙ node-repeats b (l .i) _ (node-here (c .before .before .before .before .before) .0) (l .inv .0 .entered)) in (
-      walking-twice (a .text .now) (a .first) (a .n) _ _ _ (a .w .missing) (l .i) (l .missing) (l .place) (l .inv .0) h (a .w) _ _ again (add-one (a .first + l .i)),
+      walking-twice (a .text .now) (a .rows .now) (a .first) (a .n) _ _ _ (a .w .missing) (l .i) (l .missing) (l .place) (l .inv .0) h (a .w) _ _ again (add-one (a .first + l .i)),
       record { kinds = λ z. absurd (omega arith); unplaced = λ z. absurd (omega arith) },
     )
 
@@ -147,7 +150,7 @@ loop-again c =
     let p = c .before .before .before .before .before .before .before .before .before .before .before .before .before .before .pre in
     let e = c .before .before .before .before .before .before .enter-id in
     let here = node-here (c .before .before .before .before .before .before .before .before .before) in
-    let row = c .before .before .before .before .before .before .before .before .before .row-at .result .row in
+    let row = c .before .before .before .before .before .before .before .before .before .row-of .result .row in
     let fresh : e .result ≡ false = c .before .before .before .before .if1 .left in
     let once : nodeTwice b (l .i) ≡ false = sym (sym fresh ∙ e .ensures .answer ∙ node-repeats b (l .i) row (here .0) (l .inv .0 .entered)) in
     let room : l .i < length (l .index) = omega (arith, h, p .1 .1 .1 .room, l .inv .4) in
@@ -155,7 +158,7 @@ loop-again c =
     let loose : c .before .row-unplaced .result ≡ rowUnplaced b (l .i) = c .before .row-unplaced .ensures ∙ node-unplaced b (l .i) row (here .0) in
     let line : a .first + l .i + 1 ≡ lineFrom (a .first) (l .i) = add-one (a .first + l .i) in
     rw (add-one (l .i)) (
-      walking-more t (a .first) (a .n) _ _ _ (a .w .missing) (l .i) (l .missing) (l .place) (l .inv .0) h _ _ once (here .1)
+      walking-more t (a .rows .now) (a .first) (a .n) _ _ _ (a .w .missing) (l .i) (l .missing) (l .place) (l .inv .0) h _ _ once (here .1)
           (ids-more (getD row 1 0) (l .inv .0 .entered) room (e .ensures) fresh (node-field b (l .i) row (here .0) 1))
           (c .before .before .first-line .ensures ∙ (λ w. earlier (l .missing) (lineIf (gone w) (line w)))),
       first-step b (a .first) (rowUnplaced b) (l .i) (a .w .unplaced) (l .unplaced) _ (c .first-line2 .ensures ∙ (λ w. earlier (l .unplaced) (lineIf (loose w) (line w)))) (l .inv .1),
@@ -175,7 +178,7 @@ returns-2 c =
     let a = c .before .before .before .before .args in
     let l = c .before .loop in
     let end : l .i ≡ a .n = omega (arith, l .inv .0 .within, c .loop-test .left) in (
-      walking-end (a .text .now) (a .first) (a .n) _ _ _ (a .w .missing) (l .i) (l .missing) (l .place) (a .w) _ (l .inv .0) end refl refl refl refl,
+      walking-end (a .text .now) (a .rows .now) (a .first) (a .n) _ _ _ (a .w .missing) (l .i) (l .missing) (l .place) (a .w) _ (l .inv .0) end refl refl refl refl,
       record { kinds = λ z. rw end at (l .inv .2); unplaced = λ z. rw end at (l .inv .1) },
     )
 
@@ -186,7 +189,8 @@ walk-nodes-spec =
     Inv-loop
     μ-loop
     loop-holds
-    row-at-requires
+    add-row-of
+    row-of-requires
     add-line
     add-line-2
     array-read-kinds

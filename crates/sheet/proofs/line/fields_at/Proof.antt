@@ -1,62 +1,69 @@
 -- `sheet::line::fields_at` meets its contract. The record is what the fields passed leave of it: the columns from `i` on, over the text from `next` on.
 -- Assumes nothing.
-use mathlib.Core.Path.{sym, _∙_, ap}
-use Prim.Native.Nat.{ℕ, _+_, _-_, _^_, _<_}
+use mathlib.Core.Path.{_≡_, sym, _∙_, ap}
+use Prim.Native.Nat.{ℕ, _+_, _-_, _^_, _≤_, _<_}
 use native.Mathlib.Omega.{arith}
 use lib.ListN.{length, drop}
-use borrow.Author.Needs.{needs}
 use denote.Ref.{now}
 use Rattle.sheet.specs.Text.{partOf}
-use Rattle.sheet.proofs.Columns.{ranged}
-use Rattle.sheet.proofs.Turns.{Along, along-start, Taken, along-malformed, along-inside, along-turn, along-unended, along-done, says-unread}
+use Rattle.sheet.specs.Table.{columnsOf}
+use Rattle.sheet.proofs.Columns.{spread, ranged}
+use Rattle.sheet.proofs.Turns.{Along, along-start, Taken, as-many, along-malformed, along-inside, along-turn, along-unended, along-done, says-unread}
 use Rattle.sheet.proofs.line.fields_at.Statement.{statement}
 use Rattle.sheet.proofs.line.fields_at.Tie as tie
 
 abbrev Inv-loop : tie.InvT-loop
-Inv-loop columns text at s row₀ first end before₀ fits₀ next₀ i₀ row before fits next i = Along text at s first end row before fits next i
+Inv-loop columns text at s row₀ last fits₀ next₀ i₀ row fits next i = Along text at s row fits next i
 
 abbrev μ-loop : tie.MeasureT-loop
-μ-loop columns text at s row₀ first end before₀ fits₀ next₀ i₀ row before fits next i = end - i
+μ-loop columns text at s row₀ last fits₀ next₀ i₀ row fits next i = length columns - i
+
+-- a section has columns
+some : (s : tie.Start Inv-loop μ-loop) → (0 < length (now (s .args .columns))) × (length (now (s .args .columns)) ≡ length (columnsOf (s .args .s)))
+some s =
+    let many = as-many (now (s .args .columns)) (s .args .s) (s .pre .0) in
+    (omega (arith, many, spread (s .args .s) (s .pre .2) .fields), many)
+
+-- one is left, and there are few
+within : (c : tie.In-loop Inv-loop μ-loop)
+    → let i = c .before .loop .i in
+    let s = c .before .before .before .args in
+    (i < length (now (s .columns))) × (i < length (columnsOf (s .s))) × (i < 15)
+within c =
+    let s = c .before .before .before in
+    let h : c .before .loop .i < length (now (s .args .columns)) = omega (arith, c .loop-test .taken, some s .0) in
+    let k : c .before .loop .i < length (columnsOf (s .args .s)) = omega (arith, h, some s .1) in
+    (h, k, omega (arith, k, spread (s .args .s) (s .pre .2) .few))
 
 -- what a turn found in its field
 taken : (m : tie.After-is-malformed Inv-loop μ-loop)
     → let f = m .before .before .before .before in
     let l = f .before .before .before in
-    let s = l .before .before .before .before .before .before in
-    Taken (now (s .args .columns)) (now (s .args .text)) (l .before .before .before .first-column2 .result) (l .loop .before) (l .loop .next) (l .loop .i) (now (f .part-from .result))
+    let s = l .before .before in
+    Taken (now (s .args .columns)) (now (s .args .text)) (s .args .s) (l .loop .row) (l .loop .next) (l .loop .i) (now (f .part-from .result))
     (m .before .before .before .number-of .result) (m .before .cell-of .result)
 taken m =
     let f = m .before .before .before .before in
     let l = f .before .before .before in
-    let s = l .before .before .before .before .before .before in
+    let s = l .before .before in
     record {
-      more = f .before .before .loop-test .taken;
+      more = within (f .before .before) .0;
       table = s .pre .0;
       shown = f .part-from .ensures ∙ ap (λ (b : ℕ). partOf b (drop (l .loop .next) (now (s .args .text)))) (f .before .separator .ensures);
       scanned = m .before .before .before .number-of .ensures;
       cell = m .before .cell-of .ensures;
     }
 
-first-column-requires : tie.Need-first-column-requires Inv-loop μ-loop
-first-column-requires c κs = omega arith
-
-add-first-column : tie.Need-add-first-column Inv-loop μ-loop
-add-first-column c = omega arith
-
-first-column-requires-2 : tie.Need-first-column-requires-2 Inv-loop μ-loop
-first-column-requires-2 c κs = omega arith
-
-clear-requires : tie.Need-clear-requires Inv-loop μ-loop
-clear-requires c κs = search needs
+sub-last : tie.Need-sub-last Inv-loop μ-loop
+sub-last c = some (c .before) .0
 
 loop-holds : tie.Need-loop-holds Inv-loop μ-loop
 loop-holds c =
-    let s = c .before .before .before .before .before in
-    along-start (now (s .args .text)) (s .args .at) (s .args .s) _ _ _ (s .pre .2) (c .before .before .before .first-column .ensures) (c .before .before .first-column2 .ensures) (s .pre .1)
-    (c .clear .ensures)
+    let s = c .before in
+    along-start (now (s .args .text)) (s .args .at) (s .args .s) _ (s .pre .2) (s .pre .1) (s .pre .3)
 
 separator-requires : tie.Need-separator-requires Inv-loop μ-loop
-separator-requires c κs = c .loop-test .taken
+separator-requires c κs = tt
 
 part-from-requires : tie.Need-part-from-requires Inv-loop μ-loop
 part-from-requires c κs = tt
@@ -65,19 +72,16 @@ number-of-requires : tie.Need-number-of-requires Inv-loop μ-loop
 number-of-requires c κs = tt
 
 mul-cell-of : tie.Need-mul-cell-of Inv-loop μ-loop
-mul-cell-of c = omega arith
+mul-cell-of c = omega (arith, within (c .before .before .before) .2)
 
-shared-slice-copy-out-cell-of : tie.Need-shared-slice-copy-out-cell-of Inv-loop μ-loop
-shared-slice-copy-out-cell-of c =
-    let l = c .before .before .before .before in
-    let s = l .before .before .before .before .before .before in
-    omega (arith, c .before .before .before .loop-test .taken, l .loop .inv .table, ap length (s .pre .0))
+element-copy-out-cell-of : tie.Need-element-copy-out-cell-of Inv-loop μ-loop
+element-copy-out-cell-of c = omega (arith, within (c .before .before .before) .2)
 
 cell-of-requires : tie.Need-cell-of-requires Inv-loop μ-loop
 cell-of-requires c κs =
-    let l = c .before .before .before .before .before in
-    let s = l .before .before .before .before .before .before in
-    ranged (now (s .args .columns)) (l .loop .i) (s .pre .0) (omega (arith, c .before .before .before .before .loop-test .taken, l .loop .inv .table))
+    let n = c .before .before .before .before in
+    let s = n .before .before .before in
+    (within n .0, ranged (now (s .args .columns)) (s .args .s) (n .before .loop .i) (s .pre .0) (s .pre .2) (within n .1))
 
 is-malformed-requires : tie.Need-is-malformed-requires Inv-loop μ-loop
 is-malformed-requires c κs = tt
@@ -91,44 +95,42 @@ returns c =
     let l = m .before .before .before .before .before .before .before in
     says-unread _ (along-malformed (l .loop .inv) (taken m) (sym (m .is-malformed .ensures) ∙ c .before .if1 .taken)) (c .unread .ensures)
 
-sub-put-cell : tie.Need-sub-put-cell Inv-loop μ-loop
-sub-put-cell c = omega arith
-
 add-put-cell : tie.Need-add-put-cell Inv-loop μ-loop
-add-put-cell c = omega arith
+add-put-cell c = omega (arith, within (c .before .before .before .before .before .before .before .before) .2)
 
 put-cell-requires : tie.Need-put-cell-requires Inv-loop μ-loop
-put-cell-requires c κs = omega arith
-
-is-missing-requires : tie.Need-is-missing-requires Inv-loop μ-loop
-is-missing-requires c κs = tt
+put-cell-requires c κs = omega (arith, within (c .before .before .before .before .before .before .before .before) .2)
 
 -- the place behind the field fits a number: each field goes at most one byte past the text, and there are few
 behind : (m : tie.After-is-malformed Inv-loop μ-loop)
     → m .before .before .before .before .before .before .before .loop .next + length (now (m .before .before .before .before .part-from .result)) + 1 < 2 ^ 64
 behind m =
-    let l = m .before .before .before .before .before .before .before in
-    let a = l .loop .inv in
-    omega (arith, along-inside a (taken m), a .high, a .short, l .before .before .before .before .before .before .good .1 .0 .0)
+    let n = m .before .before .before .before .before .before in
+    omega (arith, along-inside (n .before .loop .inv) (taken m), within n .2, n .before .before .before .good .1 .0 .0)
 
 add-next : tie.Need-add-next Inv-loop μ-loop
-add-next c = omega (arith, behind (c .before .before .before .before))
+add-next c = omega (arith, behind (c .before .before .before))
 
 add-next-2 : tie.Need-add-next-2 Inv-loop μ-loop
-add-next-2 c = omega (arith, behind (c .before .before .before .before))
+add-next-2 c = omega (arith, behind (c .before .before .before))
 
 add-i : tie.Need-add-i Inv-loop μ-loop
-add-i c = omega arith
+add-i c = omega (arith, within (c .before .before .before .before .before .before .before .before .before) .2)
 
 loop-less : tie.Need-loop-less Inv-loop μ-loop
-loop-less c = omega arith
+loop-less c = omega (arith, within (c .before .before .before .before .before .before .before .before .before) .0)
 
 loop-again : tie.Need-loop-again Inv-loop μ-loop
 loop-again c =
-    let p = c .before in
-    let m = p .before .before .before in
+    let m = c .before .before .before in
     let l = m .before .before .before .before .before .before .before in
-    along-turn (l .loop .inv) (taken m) (sym (m .is-malformed .ensures) ∙ p .before .before .if1 .left) _ _ _ (p .put-cell .ensures .1) (c .is-missing .ensures) (p .put-cell .ensures .0)
+    along-turn (l .loop .inv) (taken m) (sym (m .is-malformed .ensures) ∙ c .before .before .if1 .left) _ _ (c .put-cell .ensures .1) (c .put-cell .ensures .0)
+
+-- no column is left
+over : (o : tie.After-loop Inv-loop μ-loop) → length (columnsOf (o .before .before .before .args .s)) ≤ o .before .loop .i
+over o =
+    let s = o .before .before .before in
+    omega (arith, o .loop-test .left, some s .0, some s .1)
 
 unread-requires-2 : tie.Need-unread-requires-2 Inv-loop μ-loop
 unread-requires-2 c κs = tt
@@ -136,10 +138,10 @@ unread-requires-2 c κs = tt
 returns-2 : tie.Need-returns-2 Inv-loop μ-loop
 returns-2 c =
     let o = c .before .before in
-    says-unread _ (along-unended (o .before .loop .inv) (o .loop-test .left) (omega (arith, c .before .if2 .taken))) (c .unread2 .ensures)
+    says-unread _ (along-unended (o .before .loop .inv) (over o) (omega (arith, c .before .if2 .taken))) (c .unread2 .ensures)
 
 returns-3 : tie.Need-returns-3 Inv-loop μ-loop
-returns-3 c = along-done (c .before .before .loop .inv) (c .before .loop-test .left) (c .if2 .left)
+returns-3 c = along-done (c .before .before .loop .inv) (over (c .before)) (c .if2 .left)
 
 pub fields-at-spec : {M : Type 1} → statement M
 fields-at-spec =
@@ -147,24 +149,19 @@ fields-at-spec =
     (tie.spec
     Inv-loop
     μ-loop
-    first-column-requires
-    add-first-column
-    first-column-requires-2
-    clear-requires
+    sub-last
     loop-holds
     separator-requires
     part-from-requires
     number-of-requires
     mul-cell-of
-    shared-slice-copy-out-cell-of
+    element-copy-out-cell-of
     cell-of-requires
     is-malformed-requires
     unread-requires
     returns
-    sub-put-cell
     add-put-cell
     put-cell-requires
-    is-missing-requires
     add-next
     add-next-2
     add-i
