@@ -10,3 +10,4 @@ pub mod KeyLaws
 pub mod InsertLaws
 pub mod Every
 pub mod RunLaws
+pub mod GrowLaws

@@ -1,2 +1,2 @@
-// Claims on the lanes' columns, chained by bucket.
+// Chains by bucket, and coordinates read off the buffers.
 pub mod cells;

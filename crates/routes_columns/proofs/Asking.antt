@@ -1,34 +1,33 @@
 -- What the code asks of a tap is what the rules ask.
-use Prim.Native.Nat.{ℕ, zero, suc, _+_, _-_, _*_, _≤_, _<_}
+use Prim.Native.Nat.{ℕ, suc, _+_, _-_, _≤_, _<_}
 use mathlib.Core.Path.{_≡_, refl, ap, sym, subst, _∙_}
 use mathlib.Core.Bool.{Bool, true, false, not, _&&_}
 use mathlib.Core.List.{List, [], _∷_}
 use native.Mathlib.Omega.{arith}
 use lib.Dec.{eqb}
 use lib.ListN.{length, getD, set}
-use borrow.Author.Tests.{eq-eqb, ne-eqb}
+use borrow.Author.Tests.{eq-eqb, ne-eqb, eqb-false}
 use Rattle.sheet.specs.Table.{MISSING}
 use Rattle.base.specs.Lists.{Found, none, at, found}
-use Rattle.base.specs.Views.{view}
-use Rattle.board.specs.Board.{Board, placed, xOf, yOf}
+use Rattle.base.proofs.Bools.{and-right}
+use Rattle.board.specs.Board.{Board, placed}
 use Rattle.board.specs.Rows.{REROUTER_SIZE}
 use Rattle.board.specs.Groups
 use Rattle.board.specs.Groups.{sourceRow}
 use Rattle.board.specs.Demands.{PageLanes}
 use Rattle.board.specs.Tables.{held, flag, tapIn}
-use Rattle.routes.specs.Stops.{newGroup, newRow, newColumn}
+use Rattle.routes.specs.Stops.{newGroup, newRow}
 use Rattle.routes.specs.Levels.{Level, dropped, shared, own, Stop, unclaimed, laneFor}
 use Rattle.routes.specs.Rerouters.{TAP_RESERVE, source}
-use Rattle.routes.specs.Tables.{stopIn}
 use Rattle.routes_taps.specs.declared.taps.Lane.{Lane}
 use Rattle.routes_taps.specs.declared.taps.Tap.{Tap}
 use Rattle.routes_taps.specs.declared.taps.News.{News}
-use Rattle.routes_taps.specs.Taps.{tapOf, tapRead, LaneOf, NewsOf, RowHeld, LowLevel}
+use Rattle.routes_taps.specs.Taps.{tapOf, tapRead, laneRead, LaneOf, NewsOf, RowHeld, LowLevel}
 use Rattle.routes_taps.specs.Asking
 use Rattle.routes_taps.specs.Asking.{servedAt, isOwn, isKept, claimIf, headHere, linkHere, headed, askTap, questionRow, sourceX}
-use Rattle.routes_columns.specs.declared.claims.Claim.{Claim}
 use Rattle.routes_columns.specs.declared.columns.Questions.{Questions}
-use Rattle.routes_columns.specs.Columns.{claimAt, claimedIf, ClaimsHeld, ClaimRoom, Claiming, headIn, headedIn, linkIn, linkedIn, TapAsked, rowIn, NextAsked}
+use Rattle.routes_columns.specs.Columns.{laneKey, claimAt, claimedIf, ClaimsHeld, ClaimRoom, Claiming, TwoMore, headIn, headedIn, linkIn, linkedIn, TapTold, TapAsked, rowIn, NextAsked}
+use Rattle.routes_columns.proofs.Claiming.{not-true, claim-held, one-claim}
 
 -- A level is low enough for a link above it.
 pub low-served : (v : Level) (x : ℕ) → LowLevel v → x ≡ servedAt v → x < 4294967290
@@ -36,38 +35,69 @@ low-served dropped x h e = omega arith
 low-served (shared y) x h e = omega arith
 low-served (own y) x h e = omega arith
 
--- Room for the second claim, behind the first.
-pub room-left : (claims claims′ : List (List ℕ)) (nexts nexts′ : List ℕ) (m m′ : ℕ) → ClaimRoom 2 claims nexts m → m′ ≤ m + 1 → length claims′ ≡ length claims → length nexts′ ≡ length nexts
-    → ClaimRoom 1 claims′ nexts′ m′
-room-left claims claims′ nexts nexts′ m m′ room few rows links =
-    record { rows = let h = room .rows in omega arith; links = let h = room .links in omega arith; numbers = let h = room .numbers in omega arith }
+-- A head is wanted only where its source is placed.
+pub head-there : (fresh : Bool) (x : ℕ) → fresh && not (eqb x MISSING) ≡ true → x ≡ MISSING → ⊥
+head-there fresh x e = eqb-false x MISSING (not-true (eqb x MISSING) (and-right fresh (not (eqb x MISSING)) e))
 
-pub room-one : (claims : List (List ℕ)) (nexts : List ℕ) (m : ℕ) → ClaimRoom 2 claims nexts m → ClaimRoom 1 claims nexts m
-room-one claims nexts m room = room-left claims claims nexts nexts m m room (omega arith) refl refl
+-- The run of a tap's lane, by what the code read of the tap.
+pub lane-keyed : (pages nodes wires facts groups laid : List (List ℕ)) (k : ℕ) (t : Tap) (l : Lane) → t ≡ tapRead (getD laid k []) → l ≡ laneRead pages nodes wires facts groups (t .page) (t .group)
+    → (t .page ≡ getD (getD laid k []) 0 0) × (l .lane ≡ getD (getD groups (getD (getD laid k []) 1 0) []) 4 0)
+lane-keyed pages nodes wires facts groups laid k t l et el =
+    (ap (λ (u : Tap). u .page) et, ap (λ (v : Lane). v .lane) el ∙ ap (λ (u : Tap). getD (getD groups (u .group) []) 4 0) et)
+
+-- Room for one claim, and for the second behind the first.
+pub room-one : (starts nexts xs : List ℕ) (k q : ℕ) → k ≡ q → ClaimRoom 2 starts nexts xs q → ClaimRoom 1 starts nexts xs k
+room-one starts nexts xs k q e r =
+    rw e (record { start = r .start; next = r .next; begun = r .begun; room = let h = r .room in omega arith; inside = r .inside; small = r .small })
+
+pub room-left : {starts nexts xs nexts′ xs′ : List ℕ} {k q x : ℕ} {wanted t : Bool} → k ≡ q → ClaimRoom 2 starts nexts xs q → Claiming starts k x wanted nexts xs nexts′ xs′ t → length nexts′ ≡ length nexts
+    → length xs′ ≡ length xs → ClaimRoom 1 starts nexts′ xs′ k
+room-left {starts} {nexts} {xs} {nexts′} {xs′} {k} {q} {x} {wanted} {t} e r₀ c long wide =
+    let r : ClaimRoom 2 starts nexts xs k = subst (ClaimRoom 2 starts nexts xs) (sym e) r₀ in
+    let m = one-claim (r .next) c in
+    let a = m .0 in
+    let b = m .1 in
+    record {
+      start = r .start;
+      next = let h = r .next in omega arith;
+      begun = let h = r .begun in omega arith;
+      room = let h = r .room in omega arith;
+      inside = let h = r .inside in omega arith;
+      small = let h = r .small in omega arith;
+    }
 
 -- The head asked, then the link.
-module _ (t : Tap) (l : Lane) (news : News) (level : Level) (before : List Stop) (m : ℕ) (claims₁ : List (List ℕ)) (nexts₁ heads₁ : List ℕ) (h : Claim)
-    (asked₁ : Claiming before (news .group && not (eqb (l .«source_x») MISSING)) t (l .lane) (l .«source_x») m claims₁ nexts₁ heads₁ h)
-    (served : ℕ) (keeps : Bool) (eServed : served ≡ servedAt level) (eOwn : keeps ≡ isOwn level) (claims₂ : List (List ℕ)) (nexts₂ heads₂ : List ℕ) (k : Claim)
-    (asked₂ : Claiming (view stopIn claims₁ (h .claims)) (news .row && keeps) t (l .lane) (served + 2) (h .claims) claims₂ nexts₂ heads₂ k) where
-  headed-held : view stopIn claims₁ (h .claims) ≡ headedIn t l news level before
-  headed-held = asked₁ .held .same ∙ ap (λ so. claimedIf so (claimAt t (l .lane) (l .«source_x»)) before) (asked₁ .placed)
+module _ (t : Tap) (l : Lane) (news : News) (level : Level) {starts nexts xs nexts₁ xs₁ nexts₂ xs₂ : List ℕ} {k served : ℕ} {keeps head link : Bool} (few : l .lane < 512) (e : k ≡ laneKey (t .page) (l .lane))
+    (room : ClaimRoom 2 starts nexts xs (laneKey (t .page) (l .lane))) (asked₁ : Claiming starts k (l .«source_x») (news .group && not (eqb (l .«source_x») MISSING)) nexts xs nexts₁ xs₁ head) (long : length nexts₁ ≡ length nexts)
+    (eServed : served ≡ servedAt level) (eOwn : keeps ≡ isOwn level) (asked₂ : Claiming starts k (served + 2) (news .row && keeps) nexts₁ xs₁ nexts₂ xs₂ link) where
+  two-more : TwoMore (laneKey (t .page) (l .lane)) nexts nexts₂
+  two-more =
+      let next = room .next in
+      let a = one-claim (omega (arith, e)) asked₁ in
+      let b = one-claim (omega (arith, e)) asked₂ in
+      let a₀ = a .0 in
+      let a₁ = a .1 in
+      let b₀ = b .0 in
+      let b₁ = b .1 in
+      subst (λ (q : ℕ). TwoMore q nexts nexts₂) e (record { least = omega arith; most = omega arith; others = λ j z. b .2 j z ∙ a .2 j z })
 
-  link-told : k .placed ≡ linkIn t l news level before
-  link-told = asked₂ .placed ∙ (λ i. news .row && eOwn i && unclaimed (headed-held i) (t .page) (l .lane) (eServed i + 2))
-
-  pub tap-asked : TapAsked t l news level before m claims₂ nexts₂ heads₂ (record { head = h .placed; link = k .placed; claims = k .claims })
-  tap-asked =
+  told : (pages : ℕ) (claims : List Stop) → t .page < pages → ClaimsHeld pages claims starts nexts xs → TapTold t l news level pages claims starts nexts₂ xs₂ (record { head = head; link = link })
+  told pages claims on c =
+      let open₀ : getD nexts k 0 + 2 ≤ getD starts (suc k) 0 = subst (λ (q : ℕ). getD nexts q 0 + 2 ≤ getD starts (suc q) 0) (sym e) (room .room) in
+      let next = room .next in
+      let more = one-claim (omega (arith, e)) asked₁ .1 in
+      let first = claim-held c t (l .lane) (l .«source_x») on few e (omega arith) asked₁ in
+      let second = claim-held (first .1) t (l .lane) (served + 2) on few e (omega arith) asked₂ in
+      let headed-same : claimedIf head (claimAt t (l .lane) (l .«source_x»)) claims ≡ headedIn t l news level claims = ap (λ so. claimedIf so (claimAt t (l .lane) (l .«source_x»)) claims) (first .0) in
+      let link-same : link ≡ linkIn t l news level claims = second .0 ∙ (λ i. news .row && eOwn i && unclaimed (headed-same i) (t .page) (l .lane) (eServed i + 2)) in
       record {
-        head = asked₁ .placed;
-        link = link-told;
-        held =
-            record {
-              same = asked₂ .held .same ∙ (λ i. claimedIf (link-told i) (claimAt t (l .lane) (eServed i + 2)) (headed-held i));
-              walkable = asked₂ .held .walkable;
-            };
-        few = let a = asked₁ .few in let b = asked₂ .few in omega arith;
+        head = first .0;
+        link = link-same;
+        held = subst (λ (r : List Stop). ClaimsHeld pages r starts nexts₂ xs₂) (λ i. claimedIf (link-same i) (claimAt t (l .lane) (eServed i + 2)) (headed-same i)) (second .1);
       }
+
+  pub tap-asked : TapAsked t l news level starts nexts xs nexts₂ xs₂ (record { head = head; link = link })
+  tap-asked = record { more = two-more; told = told }
 
 -- The row of a tap's questions, number by number.
 pub row-is : (l : Lane) (news : News) (level : Level) (head link keeps : Bool) (a b c d s : ℕ) → keeps ≡ isKept level → a ≡ flag head → b ≡ flag link → c ≡ flag (head && not (eqb (l .«source_row») MISSING))
@@ -131,22 +161,20 @@ module _ (b : Board) (ts : List Groups.Tap) (ps : List PageLanes) (ls : List Gro
       ∷ servedAt level
       ∷ []
 
-  next-as : (before : List Stop) (m k : ℕ) (claims : List (List ℕ)) (nexts heads : List ℕ) (q : Questions) (asked : List (List ℕ)) (row : List ℕ) → TapAsked t l news level before m claims nexts heads q
-      → row ≡ rowIn l news level (q .head) (q .link) → NextAsked b ts ps ls (tapOf t) level k before asked (view stopIn claims (q .claims)) (set asked k row)
+  next-as : {starts nexts xs nexts′ xs′ : List ℕ} {k : ℕ} {q : Questions} {asked : List (List ℕ)} {row : List ℕ} → TapAsked t l news level starts nexts xs nexts′ xs′ q
+      → row ≡ rowIn l news level (q .head) (q .link) → NextAsked b ts ps ls (tapOf t) level k starts nexts xs asked nexts′ xs′ (set asked k row)
   unfolding askTap
-  next-as before m k claims nexts heads q asked row told er =
+  next-as {starts} {nexts} {xs} {nexts′} {xs′} {k} {q} {asked} {row} tap er =
       record {
-        claims = λ a e. told .held .same ∙ ap (linkedIn t l news level) e ∙ linked-same (a .claims);
-        row = λ a e.
-            ap (set asked k)
-            (er ∙ row-same a (q .head) (q .link) (told .head ∙ ap (headIn t l news level) e) (told .link ∙ ap (linkIn t l news level) e));
+        claims = λ pages a on c. subst (λ (r : List Stop). ClaimsHeld pages r starts nexts′ xs′) (linked-same (a .claims)) (tap .told pages (a .claims) on c .held);
+        row = λ pages a on c. let told = tap .told pages (a .claims) on c in ap (set asked k) (er ∙ row-same a (q .head) (q .link) (told .head) (told .link));
       }
 
 -- The same of the tap as it was read.
 pub next-asked : (b : Board) (ts : List Groups.Tap) (ps : List PageLanes) (ls : List Groups.Tap) (read : List ℕ) (t : Tap) (l : Lane) (news : News) (level : Level) → t ≡ tapRead read → LaneOf b ts ps (tapOf t) l → NewsOf ls (tapIn read) news
-    → (before : List Stop) (m k : ℕ) (claims : List (List ℕ)) (nexts heads : List ℕ) (q : Questions) (asked : List (List ℕ)) (row : List ℕ) → TapAsked t l news level before m claims nexts heads q
-    → row ≡ rowIn l news level (q .head) (q .link) → NextAsked b ts ps ls (tapIn read) level k before asked (view stopIn claims (q .claims)) (set asked k row)
-next-asked b ts ps ls read t l news level et lane n before m k claims nexts heads q asked row told er =
+    → {starts nexts xs nexts′ xs′ : List ℕ} {k : ℕ} {q : Questions} {asked : List (List ℕ)} {row : List ℕ} → TapAsked t l news level starts nexts xs nexts′ xs′ q
+    → row ≡ rowIn l news level (q .head) (q .link) → NextAsked b ts ps ls (tapIn read) level k starts nexts xs asked nexts′ xs′ (set asked k row)
+next-asked b ts ps ls read t l news level et lane n {starts} {nexts} {xs} {nexts′} {xs′} {k} {q} {asked} {row} tap er =
     let same : tapOf t ≡ tapIn read = ap tapOf et in
-    subst (λ (u : Groups.Tap). NextAsked b ts ps ls u level k before asked (view stopIn claims (q .claims)) (set asked k row)) same
-    (next-as b ts ps ls t l news level lane (subst (λ (u : Groups.Tap). NewsOf ls u news) (sym same) n) before m k claims nexts heads q asked row told er)
+    subst (λ (u : Groups.Tap). NextAsked b ts ps ls u level k starts nexts xs asked nexts′ xs′ (set asked k row)) same
+    (next-as b ts ps ls t l news level lane (subst (λ (u : Groups.Tap). NewsOf ls u news) (sym same) n) tap er)

@@ -1,3 +1,4 @@
 pub mod Asking
 pub mod Claiming
+pub mod Rooms
 pub mod Walking

@@ -1,12 +1,13 @@
 // Tap by tap: whether its head and its link are placed, and which rerouters it asks for beside rows.
 use crate::claims::claim_column;
-use crate::claims::copy_stops;
+use crate::claims::lane_key;
+use crate::claims::make_room;
+use crate::claims::put_stops;
 use base::numbers::MISSING;
 use base::numbers::REROUTER_SIZE;
 use base::rows::Record;
 use base::rows::WorkRow;
 use routes::levels::Level;
-use routes_cells::cells::book_claims;
 use routes_taps::taps::Lane;
 use routes_taps::taps::News;
 use routes_taps::taps::Reached;
@@ -18,7 +19,7 @@ use routes_taps::taps::reach;
 use routes_taps::taps::tap_at;
 ghost use mathlib.Core.Path.{_≡_};
 ghost use mathlib.Core.List.{List, []};
-ghost use Prim.Native.Nat.{ℕ, _+_, _*_, _<_, _≤_};
+ghost use Prim.Native.Nat.{ℕ, _<_, _≤_};
 ghost use lib.ListN.{length, getD};
 ghost use Rattle.board.specs.Board.{Board};
 ghost use Rattle.board.specs.Groups.{Tap as LaidTap};
@@ -27,22 +28,14 @@ ghost use Rattle.board.specs.Tables.{tapIn, flag};
 ghost use Rattle.base.specs.Views.{view};
 ghost use Rattle.routes.specs.Tables.{stopIn};
 ghost use Rattle.routes.specs.Holding.{stopLevelOf};
-ghost use Rattle.routes_cells.specs.Chains.{Walkable, stopBucket};
 ghost use Rattle.routes_taps.specs.Taps.{LaneInRange, LaneRanges, LevelRange, NextInRange, WentOn, Tables, TapOn, LaidInRange};
 ghost use Rattle.routes_taps.specs.Asking.{servedAt, isOwn, isKept, QuestionsIn};
-ghost use Rattle.routes_columns.specs.Columns.{ClaimRoom, TapAsked, NextAsked, rowIn, startOf, AskRoom};
+ghost use Rattle.routes_columns.specs.Columns.{laneKey, tapKey, TapKeyed, ClaimRoom, TwoMore, ClaimsHeld, TapAsked, NextAsked, rowIn, startOf, AskRoom};
 
-// Whether a tap's head and link are placed, and how many claims there are then.
+// Whether a tap's head and link are placed.
 pub struct Questions {
     pub head: bool,
     pub link: bool,
-    pub claims: usize,
-}
-
-// What the walk over the taps has come to.
-pub struct Walk {
-    pub claims: usize,
-    pub reached: Reached,
 }
 
 // The level that a tap is served at.
@@ -78,32 +71,29 @@ fn is_own(level: Level) -> bool
 
 // R5, R8: a group's head at its source's x, then a row's link just above its tap.
 fn ask_tap(
-    claims: &mut [WorkRow],
+    starts: &[u32],
     nexts: &mut [u32],
-    heads: &mut [u32],
-    m: usize,
+    xs: &mut [u32],
     t: Tap,
     l: Lane,
     news: News,
     level: Level,
 ) -> Questions
-    requires { ⌜ Walkable (stopBucket (now claims)) (length (now claims)) (now nexts) (now heads) m ⌝ }
-    requires { ⌜ ClaimRoom 2 (now claims) (now nexts) m ⌝ }
+    requires { ⌜ (t .page < 64) × (l .lane < 512) ⌝ }
+    requires { ⌜ ClaimRoom 2 (now starts) (now nexts) (now xs) (laneKey (t .page) (l .lane)) ⌝ }
     requires { ⌜ LevelRange level ⌝ }
-    ensures { λ r. ⌜ TapAsked t l news (stopLevelOf level) (view stopIn (now (claims .entry)) m) m (now (claims .exit)) (now (nexts .exit)) (now (heads .exit)) r ⌝ }
+    ensures { λ r. ⌜ TapAsked t l news (stopLevelOf level) (now (starts .entry)) (now (nexts .entry)) (now (xs .entry)) (now (nexts .exit)) (now (xs .exit)) r ⌝ }
 {
-    let lane = l.lane;
+    let k = lane_key(t.page, l.lane);
     let x = l.source_x;
     let wants_head = news.group & (x != MISSING);
-    let head = claim_column(claims, nexts, heads, m, t, lane, x, wants_head);
-    let so_far = head.claims;
+    let head = claim_column(starts, nexts, xs, k, x, wants_head);
     let above = served_at(level) + REROUTER_SIZE;
     let wants_link = news.row & is_own(level);
-    let link = claim_column(claims, nexts, heads, so_far, t, lane, above, wants_link);
+    let link = claim_column(starts, nexts, xs, k, above, wants_link);
     Questions {
-        head: head.placed,
-        link: link.placed,
-        claims: link.claims,
+        head: head,
+        link: link,
     }
 }
 
@@ -142,50 +132,42 @@ fn ask_next(
     laid: &[WorkRow],
     k: usize,
     stops: &[WorkRow],
-    claims: &mut [WorkRow],
+    starts: &[u32],
     nexts: &mut [u32],
-    heads: &mut [u32],
+    xs: &mut [u32],
     asked: &mut [WorkRow],
-    w: Walk,
-) -> Walk
-    requires { ⌜ Walkable (stopBucket (now claims)) (length (now claims)) (now nexts) (now heads) (w .claims) ⌝ }
-    requires { ⌜ ClaimRoom 2 (now claims) (now nexts) (w .claims) ⌝ }
+    old: Reached,
+) -> Reached
+    requires { ⌜ TapKeyed (now groups) (now laid) k × ClaimRoom 2 (now starts) (now nexts) (now xs) (tapKey (now groups) (now laid) k) ⌝ }
     requires { ⌜ LaneInRange (now pages) (now nodes) (now wires) (now facts) (now groups) (getD (getD (now laid) k []) 0 0) (getD (getD (now laid) k []) 1 0) ⌝ }
-    requires { ⌜ NextInRange (now laid) k (now stops) (w .reached) ⌝ }
+    requires { ⌜ NextInRange (now laid) k (now stops) old ⌝ }
     requires { ⌜ k < length (now asked) ⌝ }
-    ensures { λ r. ⌜ Walkable (stopBucket (now (claims .exit))) (length (now (claims .exit))) (now (nexts .exit)) (now (heads .exit)) (r .claims) × (r .claims ≤ w .claims + 2) ⌝ }
-    ensures { λ r. ⌜ WentOn (now (laid .entry)) k (now (stops .entry)) (w .reached) (r .reached) ⌝ }
+    ensures { λ r. ⌜ TwoMore (tapKey (now (groups .entry)) (now (laid .entry)) k) (now (nexts .entry)) (now (nexts .exit)) ⌝ }
+    ensures { λ r. ⌜ WentOn (now (laid .entry)) k (now (stops .entry)) old r ⌝ }
     ensures { λ r. ⌜ ((b : Board) (ts : List LaidTap) (ps : List PageLanes) → Tables b ts ps (now (pages .entry)) (now (nodes .entry)) (now (wires .entry)) (now (facts .entry)) (now (groups .entry)) → TapOn b ts (getD (now (laid .entry)) k [])
-        → NextAsked b ts ps (view tapIn (now (laid .entry)) k) (tapIn (getD (now (laid .entry)) k [])) (stopLevelOf (r .reached .level)) k (view stopIn (now (claims .entry)) (w .claims)) (now (asked .entry)) (view stopIn (now (claims .exit)) (r .claims)) (now (asked .exit))) ⌝ }
+        → NextAsked b ts ps (view tapIn (now (laid .entry)) k) (tapIn (getD (now (laid .entry)) k [])) (stopLevelOf (r .level)) k (now (starts .entry)) (now (nexts .entry)) (now (xs .entry)) (now (asked .entry)) (now (nexts .exit)) (now (xs .exit)) (now (asked .exit))) ⌝ }
 {
     let t = tap_at(laid, k);
     let l = lane_of(pages, nodes, wires, facts, groups, t.page, t.group);
     let news = news_at(laid, k);
-    let old = w.reached;
     let reached = reach(stops, old, news.row);
     let level = reached.level;
-    let q = ask_tap(claims, nexts, heads, w.claims, t, l, news, level);
+    let q = ask_tap(starts, nexts, xs, t, l, news, level);
     asked[k] = question_row(l, news, level, q.head, q.link);
-    Walk {
-        claims: q.claims,
-        reached: reached,
-    }
+    reached
 }
 
-// The walk before the first tap.
-fn start(s: usize) -> Walk
-    ensures { λ r. ⌜ r ≡ startOf s ⌝ }
+// Before the first tap.
+fn start() -> Reached
+    ensures { λ r. ⌜ r ≡ startOf ⌝ }
 {
-    Walk {
-        claims: s,
-        reached: Reached {
-            stops: 0,
-            level: Level::Dropped,
-        },
+    Reached {
+        stops: 0,
+        level: Level::Dropped,
     }
 }
 
-// All taps, with the claims of the stops chained.
+// All taps, with the claims of the stops in their runs.
 fn ask_all(
     pages: &[Record],
     nodes: &[Record],
@@ -196,22 +178,21 @@ fn ask_all(
     n: usize,
     stops: &[WorkRow],
     s: usize,
-    claims: &mut [WorkRow],
+    starts: &[u32],
     nexts: &mut [u32],
-    heads: &mut [u32],
+    xs: &mut [u32],
     asked: &mut [WorkRow],
 )
     requires { ⌜ LaidInRange (now pages) (now nodes) (now wires) (now facts) (now groups) (now laid) n (now stops) s ⌝ }
-    requires { ⌜ Walkable (stopBucket (now claims)) (length (now claims)) (now nexts) (now heads) s ⌝ }
-    requires { ⌜ AskRoom n s (now claims) (now nexts) (now asked) ⌝ }
-    requires { ⌜ view stopIn (now claims) s ≡ view stopIn (now stops) s ⌝ }
+    requires { ⌜ AskRoom (length (now pages)) (now groups) (now laid) n (now starts) (now nexts) (now xs) (now asked) ⌝ }
+    requires { ⌜ ClaimsHeld (length (now pages)) (view stopIn (now stops) s) (now starts) (now nexts) (now xs) ⌝ }
     ensures { λ _. ⌜ ((b : Board) (ts : List LaidTap) (ps : List PageLanes) → Tables b ts ps (now (pages .entry)) (now (nodes .entry)) (now (wires .entry)) (now (facts .entry)) (now (groups .entry)) → ((k : ℕ) → k < n → TapOn b ts (getD (now (laid .entry)) k []))
         → QuestionsIn b ts ps (view stopIn (now (stops .entry)) s) (now (asked .exit)) (view tapIn (now (laid .entry)) n) (view stopIn (now (stops .entry)) s)) ⌝ }
 {
-    let mut w = start(s);
+    let mut reached = start();
     let mut k: usize = 0;
     while k < n {
-        w = ask_next(
+        reached = ask_next(
             pages,
             nodes,
             wires,
@@ -220,17 +201,17 @@ fn ask_all(
             laid,
             k,
             stops,
-            claims,
+            starts,
             nexts,
-            heads,
+            xs,
             asked,
-            w,
+            reached,
         );
         k += 1;
     }
 }
 
-// What the taps ask, in order: a row for each. The claims are work space.
+// What the taps ask, in order: a row for each.
 pub fn ask_taps(
     pages: &[Record],
     nodes: &[Record],
@@ -241,18 +222,19 @@ pub fn ask_taps(
     n: usize,
     stops: &[WorkRow],
     s: usize,
-    claims: &mut [WorkRow],
     asked: &mut [WorkRow],
 )
     requires { ⌜ LaidInRange (now pages) (now nodes) (now wires) (now facts) (now groups) (now laid) n (now stops) s ⌝ }
-    requires { ⌜ (s ≤ n) × (n ≤ 8192) × (n ≤ length (now asked)) × (3 * n ≤ length (now claims)) ⌝ }
+    requires { ⌜ (s ≤ n) × (n ≤ 8192) × (n ≤ length (now asked)) × (length (now pages) ≤ 64) × ((k : ℕ) → k < n → getD (getD (now groups) (getD (getD (now laid) k []) 1 0) []) 4 0 < 512) ⌝ }
     ensures { λ _. ⌜ ((b : Board) (ts : List LaidTap) (ps : List PageLanes) → Tables b ts ps (now (pages .entry)) (now (nodes .entry)) (now (wires .entry)) (now (facts .entry)) (now (groups .entry)) → ((k : ℕ) → k < n → TapOn b ts (getD (now (laid .entry)) k []))
         → QuestionsIn b ts ps (view stopIn (now (stops .entry)) s) (now (asked .exit)) (view tapIn (now (laid .entry)) n) (view stopIn (now (stops .entry)) s)) ⌝ }
 {
-    copy_stops(stops, s, claims);
-    let mut nexts = [0u32; 24576];
-    let mut heads = [0u32; 8192];
-    book_claims(claims, s, &mut nexts, &mut heads);
+    let count = pages.len();
+    let mut starts = [0u32; 32770];
+    make_room(groups, laid, n, stops, s, count, &mut starts);
+    let mut nexts = starts;
+    let mut xs = [0u32; 24576];
+    put_stops(stops, s, count, &mut nexts, &mut xs);
     ask_all(
         pages,
         nodes,
@@ -263,9 +245,9 @@ pub fn ask_taps(
         n,
         stops,
         s,
-        claims,
+        &starts,
         &mut nexts,
-        &mut heads,
+        &mut xs,
         asked,
     );
 }

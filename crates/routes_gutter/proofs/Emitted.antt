@@ -1,5 +1,5 @@
 -- The laid taps of a planned board, asked for and emitted: what each pass needs, and that the bus is the rules'.
-use Prim.Native.Nat.{ℕ, _+_, _*_, _≤_, _<_}
+use Prim.Native.Nat.{ℕ, _+_, _≤_, _<_}
 use native.Mathlib.Omega.{arith}
 use mathlib.Core.Path.{_≡_, refl, ap, _∙_}
 use mathlib.Core.List.{List, []}
@@ -20,7 +20,7 @@ use Rattle.routes_taps.proofs.Told.{told-right}
 use Rattle.routes_beside.specs.Beside.{RowsAskable}
 use Rattle.routes_emit.specs.Emitting.{RoomForTaps}
 use Rattle.routes_gutter.specs.Lay.{LanesReady, LaidReady}
-use Rattle.routes_gutter.proofs.Supply.{few-wires, tables, laid-at, laid-on, laid-range, bus-is}
+use Rattle.routes_gutter.proofs.Supply.{few-wires, few-pages, tables, laid-at, laid-on, lanes-few, laid-range, bus-is}
 use Rattle.routes_gutter.proofs.Askable.{rows-there, rows-askable}
 
 -- The taps laid and their stops stand in tables as long as before.
@@ -72,8 +72,11 @@ module _ {b : Board} {ps : List PageLanes} {pages nodes wires facts groups taps 
   pub few-taps : n ≤ 8192
   few-taps = let w = few-wires (l .ready) in let c = l .ready .count in let f = l .few in omega arith
 
-  pub room-to-ask : (n ≤ length taps) × (3 * n ≤ length marks)
-  room-to-ask = let c = l .ready .count in let f = l .few in let t = l .ready .wireRoom .2 in let k = l .ready .stopRoom .1 in (omega arith, omega arith)
+  pub room-to-ask : n ≤ length taps
+  room-to-ask = let c = l .ready .count in let f = l .few in let t = l .ready .wireRoom .2 in omega arith
+
+  pub lanes-to-ask : (length pages ≤ 64) × ((k : ℕ) → k < n → getD (getD groups (getD (getD laid k []) 1 0) []) 4 0 < 512)
+  lanes-to-ask = (few-pages (l .ready), lanes-few (l .ready) laid n (l .few) refl (l .laid-are))
 
   pub room-to-emit : RoomForTaps n rerouters busWires
   room-to-emit =
@@ -84,7 +87,7 @@ module _ {b : Board} {ps : List PageLanes} {pages nodes wires facts groups taps 
     pub can-answer : (items : List (List ℕ)) (flags : List ℕ) → length asked ≡ length taps → length items ≡ length marks → 20480 ≤ length flags → ((i : ℕ) → i < 20480 → getD flags i 0 ≡ 0)
         → RowsAskable nodes facts laid n asked items flags
     can-answer items flags la li lf no-flag =
-        rows-askable (l .ready) laid n (l .few) refl (l .laid-are) stops s (l .fewer) refl (l .stops-are) asked items flags questions (let r = room-to-ask .0 in omega arith) li lf no-flag
+        rows-askable (l .ready) laid n (l .few) refl (l .laid-are) stops s (l .fewer) refl (l .stops-are) asked items flags questions (let r = room-to-ask in omega arith) li lf no-flag
 
     pub bus-emitted : (flags : List ℕ) → ((k : ℕ) → k < n → RowsTold b laid asked (length nodes) flags k)
         → emitBy b (tapsOf b) ps (toldIn asked flags (length nodes)) (view tapIn laid n) (view stopIn stops s) .bus ≡ busOf b ps

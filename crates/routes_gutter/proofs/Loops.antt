@@ -1,21 +1,18 @@
--- Groups counted tap by tap, and local tables of zeros.
-use Prim.Native.Nat.{ℕ, suc, _+_, _-_, _*_, _≤_}
+-- Groups counted tap by tap.
+use Prim.Native.Nat.{ℕ, suc, _+_, _-_}
 use native.Mathlib.Omega.{arith}
 use native.Mathlib.Numerals.{add-one}
 use mathlib.Core.Path.{_≡_, sym, ap, _∙_}
 use mathlib.Core.Bool.{true, false, not}
 use mathlib.Core.List.{List, []}
 use lib.Dec.{eqb}
-use lib.ListN.{length, getD, replicate, length-replicate, getD-replicate}
+use lib.ListN.{getD}
 use Rattle.board.specs.Board.{field}
 use Rattle.base.specs.Views.{view}
 use Rattle.board.specs.Tables.{tapIn}
 use Rattle.base.proofs.Bools.{pick-true, pick-false}
 use Rattle.routes.specs.Stops.{newGroup}
 use Rattle.routes.specs.Plan.{groupCount}
-use Rattle.routes_levels.specs.Laying.{NoMarks}
-use Rattle.routes_cells.specs.Chains.{Empty}
-use Rattle.routes_emit.specs.Emitting.{RoomForTaps}
 
 -- A tap after the first begins a group where the one before it is of another.
 pub group-after : (laid : List (List ℕ)) (k : ℕ) → (k ≡ 0 → ⊥) → not (eqb (field laid (k - 1) 1) (field laid k 1)) ≡ newGroup (view tapIn laid k) (tapIn (getD laid k []))
@@ -27,10 +24,3 @@ module _ (laid : List (List ℕ)) (k count : ℕ) (is : count ≡ groupCount (vi
 
   pub count-same : newGroup (view tapIn laid k) (tapIn (getD laid k [])) ≡ false → count ≡ groupCount (view tapIn laid (k + 1))
   count-same e = is ∙ sym (pick-false (newGroup (view tapIn laid k) (tapIn (getD laid k []))) _ _ e) ∙ ap (λ j. groupCount (view tapIn laid j)) (sym (add-one k))
-
--- Local tables of zeros are chains that hold nothing.
-pub zero-heads : (n : ℕ) → 8192 ≤ n → Empty (replicate n 0)
-zero-heads n h = (rw (length-replicate {A = ℕ} n 0) h, λ k l. getD-replicate n k 0 0 (omega arith))
-
-pub zero-marks : (n : ℕ) → 16384 ≤ n → NoMarks (replicate n 0)
-zero-marks n h = record { width = rw (length-replicate {A = ℕ} n 0) h; empty = λ k l. getD-replicate n k 0 0 (omega arith) }

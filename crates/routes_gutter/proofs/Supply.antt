@@ -26,11 +26,11 @@ use Rattle.base.proofs.Views.{view-mem, length-view}
 use Rattle.routes.specs.Stops.{isLaid, laidTaps}
 use Rattle.routes.specs.Levels.{Level, dropped, shared, own, keptAt, stopsOf}
 use Rattle.routes.specs.Tables.{GroupFacts, stopIn}
-use Rattle.routes_levels.specs.Laying.{TapsFit, Tabled, LaidFits, LaidFacts}
+use Rattle.routes_levels.specs.Laying.{TapsFit, Tabled, LaidFits, LaidFacts, LANES_MOST}
 use Rattle.routes_taps.specs.Taps.{LowLevel, LaneInRange, LaidInRange, Tables, TapOn}
 use Rattle.routes.specs.Plan.{busOf, laidGroups, groupCount}
 use Rattle.routes.specs.Rerouters.{TAP_RESERVE, emit}
-use Rattle.routes_levels.proofs.TapTables.{laid-facts}
+use Rattle.routes_levels.proofs.TapTables.{laid-facts, pages-rise}
 use Rattle.routes.proofs.Laid.{of-laid}
 use Rattle.routes_taps.proofs.Reaching.{stops-count}
 use Rattle.routes_gutter.specs.Lay.{LanesReady}
@@ -80,6 +80,9 @@ module _ {b : Board} {ps : List PageLanes} {pages nodes wires facts groups taps 
 
   pub few-wires : length wires ≤ 8192
   few-wires = let h = r .accepted .fewWires in let e = wires-long in omega arith
+
+  pub few-pages : length pages ≤ 64
+  few-pages = let h = r .accepted .fewPages in let e = pages-long in omega arith
 
   group-facts : GroupFacts b (tapsOf b) ps groups
   group-facts = groups-are b ps groups (r .groups-known)
@@ -220,6 +223,19 @@ module _ {b : Board} {ps : List PageLanes} {pages nodes wires facts groups taps 
             rowSmall = source-row t mem (omega arith);
           }
 
+  lane-few : (t : Tap) → Mem t (tapsOf b) → isLaid b (tapsOf b) ps t ≡ true → field groups (t .group) 4 < LANES_MOST
+  unfolding isLaid
+  lane-few t mem l = go (laneOf ps (t .page) (t .group)) refl (and-left _ _ l)
+    where
+      go : (f : Found) → laneOf ps (t .page) (t .group) ≡ f → found f ≡ true → field groups (t .group) 4 < LANES_MOST
+      go none e h = never cc
+      go (at lane) e h =
+          let fits = planned-fits b ps (r .plan) (t .page) (t .group) lane e .1 in
+          let inside = fits .inside in
+          let most = fits .most in
+          let lane-is : field groups (t .group) 4 ≡ lane = group-facts .lanes t mem ∙ ap held e in
+          omega arith
+
   -- The taps laid, and their stops.
   module _ (rows : List (List ℕ)) (n : ℕ) (few : n ≤ m) (long : length rows ≡ length laid) (are : view tapIn rows n ≡ laidTaps b (tapsOf b) ps) where
     abbrev tapAt : ℕ → Tap
@@ -235,9 +251,15 @@ module _ {b : Board} {ps : List PageLanes} {pages nodes wires facts groups taps 
         let ends = r .wireRoom .0 in
         let sums = r .wireRoom .1 in
         record {
-          rows = let l = r .laidRoom in omega arith;
-          most = omega arith;
-          group = λ k h. let g = group-in (tapAt k) (laid-at k h .0) in omega arith;
+          places =
+              record {
+                rows = let l = r .laidRoom in omega arith;
+                most = omega arith;
+                group = λ k h. let g = group-in (tapAt k) (laid-at k h .0) in omega arith;
+                row = λ k h. let o = row-in (tapAt k) (laid-at k h .0) in let f = few-nodes in omega arith;
+                lane = λ k h. let i = laid-at k h in lane-few (tapAt k) (i .0) (i .1);
+                pages = pages-rise b ps rows n are;
+              };
           first = λ k h. let g = group-in (tapAt k) (laid-at k h .0) in omega arith;
           wire = λ k h. let g = wire-in (tapAt k) (laid-at k h .0) in omega arith;
           target = λ k h. let g = target-in (tapAt k) (laid-at k h .0) in let l = r .nodeRoom in omega arith;
@@ -249,6 +271,9 @@ module _ {b : Board} {ps : List PageLanes} {pages nodes wires facts groups taps 
 
     pub laid-on : (k : ℕ) → k < n → TapOn b (tapsOf b) (getD rows k [])
     laid-on k h = let s = tap-stands b (tapAt k) (laid-at k h .0) in record { member = laid-at k h .0; node = s .node; port = s .port }
+
+    pub lanes-few : (k : ℕ) → k < n → field groups (field rows k 1) 4 < 512
+    lanes-few k h = lane-few (tapAt k) (laid-at k h .0) (laid-at k h .1)
 
     module _ (levels : List (List ℕ)) (claims : ℕ) (fewer : claims ≤ n) (wide : length levels ≡ length stops) (stops-are : view stopIn levels claims ≡ stopsOf b ps (view tapIn rows n)) where
       level-at : (i : ℕ) → i < claims → LowLevel (stopIn (getD levels i []) .level)

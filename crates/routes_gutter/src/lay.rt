@@ -12,19 +12,14 @@ use routes_levels::stops::lay_taps;
 use routes_rows::book::CELLS_MOST;
 ghost use mathlib.Core.Path.{_≡_};
 ghost use mathlib.Core.List.{List, []};
-ghost use Prim.Native.Nat.{ℕ, _*_, _<_, _≤_};
+ghost use Prim.Native.Nat.{ℕ, _<_, _≤_};
 ghost use lib.ListN.{length, getD};
 ghost use Rattle.board.specs.Board.{Board};
-ghost use Rattle.board.specs.Groups.{Tap};
 ghost use Rattle.board.specs.Demands.{PageLanes};
 ghost use Rattle.base.specs.Views.{view};
 ghost use Rattle.board.specs.Tables.{tapIn};
 ghost use Rattle.routes.specs.Stops.{newGroup};
-ghost use Rattle.routes.specs.Levels.{stopsOf};
-ghost use Rattle.routes.specs.Rerouters.{emit};
 ghost use Rattle.routes.specs.Plan.{busOf, groupCount, laidGroups};
-ghost use Rattle.routes.specs.Tables.{stopIn};
-ghost use Rattle.routes_levels.specs.Laying.{LaidFits, LaidFacts};
 ghost use Rattle.routes.specs.Holding.{BusHeld};
 ghost use Rattle.routes_gutter.specs.Lay.{LanesReady, LaidReady};
 
@@ -34,29 +29,8 @@ pub struct LanesLaid {
     pub groups: usize,
 }
 
-// The stops of the laid taps, with their levels: how many there are.
-fn lay_levels(
-    facts: &[WorkRow],
-    groups: &[WorkRow],
-    laid: &[WorkRow],
-    n: usize,
-    stops: &mut [WorkRow],
-    marks: &mut [WorkRow],
-) -> usize
-    requires { ⌜ LaidFits (now facts) (now groups) (now laid) n ⌝ }
-    requires { ⌜ (n ≤ length (now stops)) × (2 * n ≤ length (now marks)) ⌝ }
-    ensures { λ r. ⌜ r ≤ n ⌝ }
-    ensures { λ r. ⌜ ((b : Board) (ps : List PageLanes)
-        → LaidFacts b ps (now (facts .entry)) (now (groups .entry)) (now (laid .entry)) n
-        → view stopIn (now (stops .exit)) r ≡ stopsOf b ps (view tapIn (now (laid .entry)) n)) ⌝ }
-{
-    let mut heads = [0u32; 16384];
-    let counts = lane_stops(facts, groups, laid, n, stops, marks, &mut heads);
-    counts.stops
-}
-
 // The rerouters and bus wires of the laid taps: the columns are asked for first, then the rows, and what stands by the answers is written. The taps give way to
-// the questions, the marks to claims and then to a row's items.
+// the questions, the marks to a row's items.
 fn emit_laid(
     pages: &[Record],
     nodes: &[Record],
@@ -76,19 +50,7 @@ fn emit_laid(
     ensures { λ r. ⌜ ((b : Board) (ps : List PageLanes) (m : ℕ) → LaidReady b ps (now (pages .entry)) (now (nodes .entry)) (now (wires .entry)) (now (facts .entry)) (now (groups .entry)) (now (asked .entry)) m (now (laid .entry)) n (now (stops .entry)) s (now (marks .entry)) (now (rerouters .entry)) (now («bus_wires» .entry))
         → BusHeld (busOf b ps) (now (rerouters .entry)) (now («bus_wires» .entry)) (now (rerouters .exit)) (now («bus_wires» .exit)) r) ⌝ }
 {
-    ask_taps(
-        pages,
-        nodes,
-        wires,
-        facts,
-        groups,
-        laid,
-        n,
-        stops,
-        s,
-        marks,
-        asked,
-    );
+    ask_taps(pages, nodes, wires, facts, groups, laid, n, stops, s, asked);
     let mut flags = [0u8; CELLS_MOST];
     answer_rows(nodes, facts, laid, n, asked, marks, &mut flags);
     emit_lanes(
@@ -156,7 +118,7 @@ pub fn lay_lanes(
         → BusHeld (busOf b ps) (now (rerouters .entry)) (now («bus_wires» .entry)) (now (rerouters .exit)) (now («bus_wires» .exit)) (r .count) × (r .groups ≡ laidGroups b ps)) ⌝ }
 {
     let n = lay_taps(nodes, facts, groups, taps, m, laid, marks);
-    let s = lay_levels(facts, groups, laid, n, stops, marks);
+    let s = lane_stops(facts, groups, laid, n, stops);
     let count = emit_laid(
         pages,
         nodes,

@@ -18,9 +18,6 @@ use Rattle.base.proofs.Bools.{never, pick-true, pick-false}
 use Rattle.routes.specs.Stops.{near, stopX}
 use Rattle.routes.specs.Levels.{Level, dropped, shared, own, Stop, keptAt, previousStop, levelWithBase, levelOf, ownLevel, findLevel}
 use Rattle.routes_levels.specs.Laying.{levelAnswer, stopAnswer, keptEnd, Ends}
-use Rattle.base.specs.Views.{view}
-use Rattle.routes_levels.specs.Marks.{Marks, markIn, onRow, inColumn, marksWith}
-use Rattle.routes_levels.specs.declared.marks.Mark.{Mark}
 use Rattle.routes_levels.specs.declared.levels.Found.the-variants.{None, At}
 use Rattle.routes.specs.declared.levels.Level.the-variants.{Dropped, Shared, Own}
 use Rattle.routes_levels.proofs.LevelLaws.{same-test}
@@ -169,20 +166,3 @@ module _ {ends : List (List ℕ)} {ss : List Stop} (x : Ends ends ss) (s : Stop)
 pub stop-with : (p lane g r base : ℕ) (u v : Level) → u ≡ v
     → _≡_ {A = Stop} (record { page = p; lane = lane; group = g; row = r; base = base; level = u }) (record { page = p; lane = lane; group = g; row = r; base = base; level = v })
 stop-with p lane g r base u v e = λ w. record { page = p; lane = lane; group = g; row = r; base = base; level = e w }
-
--- The marks of a stop added.
-module _ (p lane r n : ℕ) (v : Level) where
-  pub marked-none : v ≡ dropped → (ms : List Mark) → ms ≡ marksWith p lane r v ms
-  marked-none e ms = sym (ap (λ u. marksWith p lane r u ms) e)
-
-  pub marked-row : (l : ℕ) → v ≡ shared l → (ms ms′ : List Mark) → ms′ ≡ onRow p r l ∷ ms → ms′ ≡ marksWith p lane r v ms
-  marked-row l e ms ms′ h = h ∙ sym (ap (λ u. marksWith p lane r u ms) e)
-
-  pub marked-both : (l : ℕ) → v ≡ own l → (rows : List (List ℕ)) (ms ms′ : List Mark) → ms′ ≡ onRow p r l ∷ ms → view markIn rows (n + 1 + 1) ≡ inColumn p lane l ∷ ms′
-      → view markIn rows (n + 2) ≡ marksWith p lane r v ms
-  marked-both l e rows ms ms′ h h′ =
-      let z : n + 2 ≡ n + 1 + 1 = omega arith in
-      ap (view markIn rows) z ∙ h′ ∙ ap (λ u. inColumn p lane l ∷ u) h ∙ sym (ap (λ u. marksWith p lane r u ms) e)
-
-pub marks-two : (n : ℕ) {rows : List (List ℕ)} {heads : List ℕ} → Marks rows heads (n + 1 + 1) → Marks rows heads (n + 2)
-marks-two n x = let z : n + 2 ≡ n + 1 + 1 = omega arith in rw z x

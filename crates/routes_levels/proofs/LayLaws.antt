@@ -1,12 +1,12 @@
--- Laying stops: one more stop keeps its marks and ends, and is the definition's.
-use Prim.Native.Nat.{ℕ, suc, _+_, _-_, _*_, _≤_, _<_}
+-- Laying stops: one more stop keeps the ends and the runs, and is the definition's.
+use Prim.Native.Nat.{ℕ, suc, _+_, _-_, _≤_, _<_}
 use mathlib.Core.Path.{_≡_, refl, ap, sym, subst, _∙_}
 use mathlib.Core.Bool.{true, false, not, _&&_}
 use mathlib.Core.List.{List, [], _∷_}
 use native.Mathlib.Numerals.{add-one}
 use native.Mathlib.Omega.{arith}
 use lib.Dec.{eqb}
-use lib.ListN.{length, getD, set, length-set, replicate, length-replicate, getD-replicate}
+use lib.ListN.{length, getD, set, replicate, length-replicate, getD-replicate}
 use borrow.Author.Tests.{eq-eqb, ne-eqb}
 use Rattle.base.specs.Lists.{at}
 use Rattle.board.specs.Board.{Board, field}
@@ -18,11 +18,12 @@ use Rattle.board.specs.Index.{link}
 use Rattle.base.proofs.Bools.{pick-true, pick-false}
 use Rattle.base.proofs.Views.{view-more}
 use Rattle.routes.specs.Stops.{newRow, stopX}
-use Rattle.routes.specs.Levels.{Level, dropped, shared, own, Stop, previousStop, levelWithBase, levelOf, stopFor, stopsOf, laneFor}
+use Rattle.routes.specs.Levels.{Level, Stop, keptAt, previousStop, levelWithBase, levelOf, stopFor, stopsOf, laneFor}
 use Rattle.routes.specs.Tables.{stopIn}
 use Rattle.routes.specs.Holding.{stopLevelOf}
-use Rattle.routes_levels.specs.Laying.{stopAnswer, keptEnd, Ends, StopIndex, NoMarks, WIRES_MOST}
-use Rattle.routes_levels.specs.Marks.{Marks, markIn, marksOf, marksWith}
+use Rattle.routes_levels.specs.Laying.{stopAnswer, keptEnd, Ends, StopIndex, WIRES_MOST}
+use Rattle.routes_levels.specs.Pages.{laneKey, claimOf, levelsOn, claimsOn, Grown, Runs, PageRuns, RoomFor, Onward, StopLaid}
+use Rattle.routes_levels.proofs.PageLaws.{level-kept, claim-kept, none-later}
 use Rattle.routes.specs.declared.levels.Level.{Level as LevelHeld}
 use Rattle.routes.specs.declared.levels.Level.the-variants.{Dropped, Shared, Own}
 
@@ -36,40 +37,35 @@ answer-back (Own l) = refl
 abbrev pub stopWith : Tap → ℕ → ℕ → Level → Stop
 stopWith t lane base v = record { page = t .page; lane = lane; group = t .group; row = t .row; base = base; level = v }
 
-module _ {n : ℕ} {stops ends marks : List (List ℕ)} {heads : List ℕ} {s m : ℕ} (x : StopIndex n stops ends marks heads s m)
-    (t : Tap) (lane base : ℕ) (a : LevelHeld) (row : List ℕ) (room : s < n)
+module _ (stops : List (List ℕ)) (s : ℕ) (t : Tap) (lane base : ℕ) (a : LevelHeld) (row : List ℕ) (room : s < length stops)
     (row-is : (v : Level) → a ≡ stopAnswer v → stopIn row ≡ stopWith t lane base v) where
   stop-seen : (v : Level) → a ≡ stopAnswer v → view stopIn (set stops s row) (s + 1) ≡ stopWith t lane base v ∷ view stopIn stops s
   stop-seen v e =
-      let r = x .room in
-      let inside : s < length stops = omega arith in
-      let more : view stopIn (set stops s row) (s + 1) ≡ stopIn row ∷ view stopIn stops s = rw (add-one s) (view-more stopIn stops s row inside) in
+      let more : view stopIn (set stops s row) (s + 1) ≡ stopIn row ∷ view stopIn stops s = rw (add-one s) (view-more stopIn stops s row room) in
       more ∙ ap (λ u. u ∷ view stopIn stops s) (row-is v e)
 
-  -- The index after the stop.
-  pub indexed : {ends′ marks′ : List (List ℕ)} {heads′ : List ℕ} {more : ℕ}
+  -- The ends and the runs after the stop.
+  pub laid-with : {ends ends′ : List (List ℕ)} {starts nexts xs nexts′ xs′ : List ℕ}
+      → Ends ends (view stopIn stops s) → PageRuns (t .page) (view stopIn stops s) starts nexts xs
       → ((ss : List Stop) (u : Stop) → u .group ≡ t .group → u .base ≡ base → a ≡ stopAnswer (u .level) → Ends ends ss → Ends ends′ (u ∷ ss))
-      → Marks marks′ heads′ more → more ≤ m + 2
-      → ((v : Level) → a ≡ stopAnswer v → view markIn marks′ more ≡ marksWith (t .page) lane (t .row) v (view markIn marks m))
-      → length ends′ ≡ length ends → length marks′ ≡ length marks
-      → StopIndex n (set stops s row) ends′ marks′ heads′ (s + 1) more
-  indexed {ends′} {marks′} {heads′} {more} ends-are marked few marks-are ends-long marks-long =
+      → ((v : Level) (rows lanes rows′ lanes′ : ℕ → List ℕ) → a ≡ stopAnswer v → Runs rows lanes starts nexts xs → Grown (t .row) (keptAt v) rows rows′ → Grown lane (claimOf v) lanes lanes′ → Runs rows′ lanes′ starts nexts′ xs′)
+      → Onward (t .row) (laneKey lane) nexts nexts′
+      → StopLaid (t .page) (t .row) lane (set stops s row) ends′ starts nexts nexts′ xs′ (s + 1)
+  laid-with {ends} {ends′} {starts} {nexts} {xs} {nexts′} {xs′} lasts held ends-are runs-are onward =
       let v : Level = stopLevelOf a in
       let e = answer-back a in
-      let now-seen = stop-seen v e in
-      let stops-long = length-set stops s row in
-      let r = x .room in
-      let er = x .groupRoom in
-      let mr = x .markRoom in
-      let mf = x .marksFew in
+      let u : Stop = stopWith t lane base v in
+      let ss : List Stop = view stopIn stops s in
+      let seen : u ∷ ss ≡ view stopIn (set stops s row) (s + 1) = sym (stop-seen v e) in
+      let more : PageRuns (t .page) (u ∷ ss) starts nexts′ xs′ =
       record {
-        room = omega arith;
-        groupRoom = omega arith;
-        markRoom = omega arith;
-        marked = marked;
-        marksAre = marks-are v e ∙ ap (marksWith (t .page) lane (t .row) v) (x .marksAre) ∙ sym (ap marksOf now-seen);
-        marksFew = omega arith;
-        lasts = subst (λ l. Ends ends′ l) (sym now-seen) (ends-are (view stopIn stops s) (stopWith t lane base v) refl refl e (x .lasts));
+        runs = runs-are v (levelsOn ss (t .page)) (claimsOn ss (t .page)) (levelsOn (u ∷ ss) (t .page)) (claimsOn (u ∷ ss) (t .page)) e (held .runs) (level-kept u ss (t .page) refl) (claim-kept u ss (t .page) refl);
+        later = none-later u ss (t .page) refl (held .later);
+      } in
+      record {
+        lasts = subst (Ends ends′) seen (ends-are ss u refl refl e lasts);
+        held = subst (λ l. PageRuns (t .page) l starts nexts′ xs′) seen more;
+        onward = onward;
       }
 
   -- The stop is the definition's.
@@ -82,7 +78,7 @@ module _ {n : ℕ} {stops ends marks : List (List ℕ)} {heads : List ℕ} {s m 
       stop-seen (levelOf b ss lane base t) e ∙ (λ w. stopWith t lane (base-is w) (levelOf b ss lane (base-is w) t) ∷ ss)
 
 -- What the ends say of a tap's group.
-module _ {n : ℕ} {stops ends marks : List (List ℕ)} {heads : List ℕ} {s m : ℕ} (x : StopIndex n stops ends marks heads s m)
+module _ {n : ℕ} {stops ends : List (List ℕ)} {s : ℕ} (x : StopIndex n stops ends s)
     (t : Tap) (g : ℕ) (is : g ≡ t .group) (small : t .group < WIRES_MOST) where
   in-ends : t .group < length ends
   in-ends = let r = x .groupRoom in omega arith
@@ -106,6 +102,14 @@ module _ (laid : List (List ℕ)) (k : ℕ) (t : Tap) (some : k ≡ 0 → ⊥) w
 
   pub row-decides : u .group ≡ t .group → not (eqb (u .row) (t .row)) ≡ newRow (view tapIn laid k) t
   row-decides e = sym (after-one ∙ ap (λ v. not (v && eqb (u .row) (t .row))) (eq-eqb (u .group) (t .group) e))
+
+-- A group's lane, by the number of its row.
+pub room-in-lane : (groups : List (List ℕ)) (row : ℕ) (starts nexts : List ℕ) (g : ℕ) {h : ℕ} → g ≡ h → RoomFor row (field groups h 4) starts nexts → RoomFor row (field groups g 4) starts nexts
+room-in-lane groups row starts nexts g e r = subst (λ j. RoomFor row (field groups j 4) starts nexts) (sym e) r
+
+pub stop-in-lane : (groups : List (List ℕ)) (g : ℕ) {h p row s : ℕ} {stops ends : List (List ℕ)} {starts nexts nexts′ xs′ : List ℕ} → g ≡ h
+    → StopLaid p row (field groups g 4) stops ends starts nexts nexts′ xs′ s → StopLaid p row (field groups h 4) stops ends starts nexts nexts′ xs′ s
+stop-in-lane groups g {h} {p} {row} {s} {stops} {ends} {starts} {nexts} {nexts′} {xs′} e x = subst (λ j. StopLaid p row (field groups j 4) stops ends starts nexts nexts′ xs′ s) e x
 
 -- The stops of one more tap.
 module _ (b : Board) (ps : List PageLanes) (laid : List (List ℕ)) (k : ℕ) where
@@ -134,27 +138,13 @@ no-stops b ps = refl
 pub stops-all : (b : Board) (ps : List PageLanes) (laid : List (List ℕ)) (n k : ℕ) (ss : List Stop) → k ≤ n → n ≤ k → ss ≡ stopsOf b ps (view tapIn laid k) → ss ≡ stopsOf b ps (view tapIn laid n)
 stops-all b ps laid n k ss l m h = let e : k ≡ n = omega arith in h ∙ ap (λ i. stopsOf b ps (view tapIn laid i)) e
 
--- The index of no stops: empty chains, and ends of zeros.
-pub no-index : (n : ℕ) (stops ends marks : List (List ℕ)) (heads : List ℕ) → n ≤ length stops → WIRES_MOST ≤ length ends → 2 * n ≤ length marks → NoMarks heads
-    → ((g : ℕ) → g < length ends → (field ends g 0 ≡ 0) × (field ends g 1 ≡ 0)) → StopIndex n stops ends marks heads 0 0
-no-index n stops ends marks heads room groups more none-there zeros =
+-- The index of no stops: ends of zeros.
+pub no-index : (n : ℕ) (stops ends : List (List ℕ)) → n ≤ length stops → WIRES_MOST ≤ length ends
+    → ((g : ℕ) → g < length ends → (field ends g 0 ≡ 0) × (field ends g 1 ≡ 0)) → StopIndex n stops ends 0
+no-index n stops ends room groups zeros =
     record {
       room = room;
       groupRoom = groups;
-      markRoom = more;
-      marked =
-          record {
-            chained =
-                record {
-                  entries = omega arith;
-                  width = none-there .width;
-                  head = λ k h. none-there .empty k h;
-                  next = λ i h. absurd (omega arith);
-                };
-            counted = λ i h. absurd (omega arith);
-          };
-      marksAre = refl;
-      marksFew = omega arith;
       lasts =
           record {
             previous = λ g h. zeros g h .0;

@@ -1,8 +1,11 @@
 pub mod EndLaws
 pub mod LayLaws
 pub mod LevelLaws
-pub mod MarkLaws
+pub mod PageLaws
+pub mod Paging
 pub mod PickLaws
 pub mod Searches
+pub mod ShareLaws
 pub mod StopLaws
 pub mod TapTables
+pub mod WindowLaws

@@ -1,27 +1,18 @@
 -- The searches over levels, whatever test and load they go by.
 use Prim.Native.Nat.{ℕ, suc, _+_, _-_, _*_, _≤_, _<_}
 use mathlib.Core.Path.{_≡_, refl, ap, sym, _∙_}
-use mathlib.Core.Bool.{Bool, true, false, not, _||_}
-use mathlib.Core.List.{List, [], _∷_}
+use mathlib.Core.Bool.{Bool, true, false}
 use native.Mathlib.Omega.{arith}
-use lib.Dec.{eqb, leb}
-use lib.ListN.{length}
-use borrow.Author.Tests.{eq-eqb, ne-eqb, le-leb, lt-leb, leb-true, leb-false}
+use lib.Dec.{leb}
+use borrow.Author.Tests.{le-leb, lt-leb, leb-true, leb-false}
 use Rattle.sheet.specs.Table.{MISSING}
-use Rattle.base.specs.Lists.{Found, none, at, any, keep}
+use Rattle.base.specs.Lists.{Found, none, at}
 use Rattle.base.proofs.Bools.{never, pick-true, pick-false}
 use Rattle.routes.specs.Levels.{STAGGER_STEP, lowest, lighter, lightest, levelsIn}
 use Rattle.routes_levels.specs.Laying.{levelAnswer}
+pub use Rattle.routes_levels.specs.Search.{leastOf, bestFrom, Best}
 use Rattle.routes_levels.specs.declared.levels.Found.{Found as LevelFound}
 use Rattle.routes_levels.specs.declared.levels.Found.the-variants.{None, At}
-
-pub none-kept : {A : Type 0} (p : A → Bool) (l : List A) → eqb (length (keep p l)) 0 ≡ not (any p l)
-none-kept p [] = eq-eqb 0 0 refl
-none-kept {A} p (x ∷ l) = go (p x) (none-kept p l)
-  where
-    go : (t : Bool) → eqb (length (keep p l)) 0 ≡ not (any p l) → eqb (length {A = A} (elim t [ true ↦ x ∷ keep p l | false ↦ keep p l ])) 0 ≡ not (t || any p l)
-    go true h = ne-eqb (suc (length (keep p l))) 0 (λ e. omega arith)
-    go false h = h
 
 -- The levels from one on: none, or that one and those from the next on.
 levels-none : (x top : ℕ) → leb (x + STAGGER_STEP) top ≡ false → levelsIn x top ≡ 0
@@ -41,11 +32,6 @@ module _ (free : ℕ → Bool) (x top : ℕ) where
     pub lowest-next : free x ≡ false → lowest free x (levelsIn x top) ≡ lowest free (x + STAGGER_STEP) (levelsIn (x + STAGGER_STEP) top)
     lowest-next f = ap (lowest free x) (levels-more x top e) ∙ pick-false (free x) _ _ f
 
--- The load of the best level so far: above every load where there is none.
-abbrev pub leastOf : (ℕ → ℕ) → Found → ℕ
-leastOf load none = MISSING
-leastOf load (at x) = load x
-
 lighter-taken : (load : ℕ → ℕ) (x : ℕ) (f : Found) → load x ≤ leastOf load f → lighter load x f ≡ at x
 lighter-taken load x none h = refl
 lighter-taken load x (at y) h = pick-true (leb (load x) (load y)) _ _ (le-leb (load x) (load y) h)
@@ -53,14 +39,6 @@ lighter-taken load x (at y) h = pick-true (leb (load x) (load y)) _ _ (le-leb (l
 lighter-left : (load : ℕ → ℕ) (x : ℕ) (f : Found) → load x ≤ MISSING → leastOf load f < load x → lighter load x f ≡ f
 lighter-left load x none few h = absurd (omega arith)
 lighter-left load x (at y) few h = pick-false (leb (load x) (load y)) _ _ (lt-leb (load x) (load y) h)
-
--- The best of the levels from the k-th on, of count levels.
-unfoldable pub bestFrom : (ℕ → Bool) → (ℕ → ℕ) → ℕ → ℕ → ℕ → Found
-bestFrom ok load base count k = lightest ok load (base + STAGGER_STEP * k) (count - k)
-
-pub record Best (ok : ℕ → Bool) (load : ℕ → ℕ) (base count k : ℕ) (best : LevelFound) (least : ℕ) : Type 0 where
-  pub level : best ≡ levelAnswer (bestFrom ok load base count k)
-  pub lightly : least ≡ leastOf load (bestFrom ok load base count k)
 
 module _ (ok : ℕ → Bool) (load : ℕ → ℕ) (base count k : ℕ) (best : LevelFound) (least : ℕ) (h : Best ok load base count k best least) (some : 0 < k) (in-reach : k ≤ count) where
   abbrev x : ℕ

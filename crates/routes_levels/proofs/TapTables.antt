@@ -1,14 +1,16 @@
 -- What the tables of a board say of its laid taps: what `lane_stops` is told of them.
-use Prim.Native.Nat.{ℕ, zero, suc, _<_}
+use Prim.Native.Nat.{ℕ, zero, suc, _≤_, _<_}
 use mathlib.Core.Path.{_≡_, refl, ap, sym, subst, _∙_}
 use mathlib.Core.Logic.{_⊎_, inl, inr}
-use mathlib.Core.Bool.{Bool, true, not, _&&_, _||_}
+use mathlib.Core.Bool.{Bool, true, false, not, _&&_, _||_}
 use mathlib.Core.List.{List, [], List·Memᴰ, List·Memᴰ·cases-cons, List·Memᴰ·not-nil}
 use native.Mathlib.Omega.{arith}
+use native.Mathlib.Decide.{decLt}
 use lib.Dec.{eqb}
 use lib.ListN.{length, getD}
-use Rattle.base.specs.Sort.{sorted}
-use Rattle.base.specs.Lists.{Found, none, at, found, keep, fold, upto, newest}
+use borrow.Author.Tests.{ltb-false}
+use Rattle.base.specs.Sort.{lexLess}
+use Rattle.base.specs.Lists.{Found, none, at, found, fold, upto, newest}
 use Rattle.board.specs.Board.{Board, classInline, kindCoerce, classOf, kindOf, field, hasRow, pageOf, sourceNode, targetNode}
 use Rattle.board.specs.Refusals.{bodyOf, innerOf}
 use Rattle.board.specs.Rows.{rowOf, rowTop}
@@ -17,15 +19,15 @@ use Rattle.board.specs.Demands.{PageLanes, laneOf}
 use Rattle.base.specs.Views.{view}
 use Rattle.board.specs.Tables.{NodeFacts, held, tapIn}
 use Rattle.board.specs.Index.{link}
-use Rattle.base.proofs.Bools.{never, and-left, and-right}
-use Rattle.base.proofs.Lists.{byTest, byFound, in-keep, in-sorted, in-reverse}
+use Rattle.base.proofs.Bools.{never, and-left, and-right, or-left}
+use Rattle.base.proofs.Lists.{Pairs, byTest, byFound}
 use Rattle.board.proofs.Taps.{taps-of}
 use Rattle.board.proofs.Newest.{link-below}
 use Rattle.base.proofs.Views.{view-mem}
 use Rattle.routes.specs.Stops.{isLaid, laidTaps, tapBefore}
 use Rattle.routes.specs.Levels.{laneFor}
 use Rattle.routes_levels.specs.Laying.{Tabled, LaidFacts}
-use Rattle.routes.proofs.Laid.{of-laid}
+use Rattle.routes.proofs.Laid.{of-laid, laid-in}
 
 -- An anchor is one of the nodes.
 found-below : (p : ℕ → Bool) (n i : ℕ) → newest p n ≡ at i → i < n
@@ -113,3 +115,18 @@ module _ (b : Board) (ps : List PageLanes) (nodes facts groups laid : List (List
   -- What `lane_stops` asks of the tables.
   pub laid-facts : LaidFacts b ps facts groups laid n
   laid-facts = record { lanes = lane-at; tops = top-at }
+
+-- The pages of the laid taps rise, for they are sorted by page first.
+module _ (b : Board) (ps : List PageLanes) (laid : List (List ℕ)) where
+  sorted-next : (n k : ℕ) → suc k < n → Pairs (λ t u. tapBefore t u ≡ false) (view tapIn laid n) → tapBefore (tapIn (getD laid (suc k) [])) (tapIn (getD laid k [])) ≡ false
+  sorted-next zero k h f = absurd (omega arith)
+  sorted-next (suc n) k h f = elim (decLt (suc k) n) [
+    | yes l ↦ sorted-next n k l (f .1)
+    | no l ↦ let e : n ≡ suc k = omega arith in rw e at (f .0 (tapIn (getD laid k [])) (view-mem tapIn laid n k (omega arith)))
+  ]
+
+  pub pages-rise : (n : ℕ) → view tapIn laid n ≡ laidTaps b (tapsOf b) ps → (k : ℕ) → suc k < n → field laid k 0 ≤ field laid (suc k) 0
+  unfolding lexLess
+  pages-rise n are k h =
+      let f = subst (Pairs (λ t u. tapBefore t u ≡ false)) (sym are) (laid-in b ps .falls) in
+      ltb-false (field laid (suc k) 0) (field laid k 0) (or-left _ _ (sorted-next n k h f))

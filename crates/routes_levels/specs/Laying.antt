@@ -1,5 +1,5 @@
--- How the code of stops and levels holds its taps and marks. No rule stands here.
-use Prim.Native.Nat.{ℕ, suc, _*_, _≤_, _<_}
+-- How the code of stops and levels holds its taps and stops. No rule stands here.
+use Prim.Native.Nat.{ℕ, suc, _≤_, _<_}
 use mathlib.Core.Path.{_≡_}
 use mathlib.Core.Bool.{true, false}
 use mathlib.Core.List.{List, [], List·Memᴰ}
@@ -7,6 +7,7 @@ use lib.Dec.{eqb}
 use lib.ListN.{length, getD}
 use Rattle.sheet.specs.Table.{MISSING}
 use Rattle.base.specs.Lists.{Found, none, at}
+use Rattle.lanes.specs.Lanes.{laneMost}
 use Rattle.board.specs.Board.{Board, field}
 use Rattle.board.specs.Groups.{Tap}
 use Rattle.board.specs.Demands.{PageLanes, laneOf}
@@ -16,7 +17,6 @@ use Rattle.board.specs.Tables.{WireFacts, tapIn}
 use Rattle.board.specs.Index.{link}
 use Rattle.routes.specs.Levels.{Level, dropped, shared, own, Stop, previousStop, levelWithBase, laneFor}
 use Rattle.routes.specs.Tables.{GroupFacts, stopIn}
-use Rattle.routes_levels.specs.Marks.{Marks, markIn, marksOf, MARK_BUCKETS}
 use Rattle.routes_levels.specs.declared.levels.Found.{Found as LevelFound}
 use Rattle.routes_levels.specs.declared.levels.Found.the-variants.{None, At}
 use Rattle.routes.specs.declared.levels.Level.{Level as LevelHeld}
@@ -25,6 +25,13 @@ use Rattle.routes.specs.declared.levels.Level.the-variants.{Dropped, Shared, Ow
 -- The most wires (S12).
 abbrev pub WIRES_MOST : ℕ
 WIRES_MOST = 8192
+
+-- The most rows of a page, one for each node (S12), and the most lanes.
+abbrev pub ROWS_MOST : ℕ
+ROWS_MOST = 4096
+
+abbrev pub LANES_MOST : ℕ
+LANES_MOST = laneMost
 
 -- A group's row is in its table, and so is its source anchor's: no index of a node is MISSING.
 pub record GroupFits (nodes facts groups : List (List ℕ)) (g : ℕ) : Type 0 where
@@ -65,32 +72,24 @@ pub record Ends (ends : List (List ℕ)) (ss : List Stop) : Type 0 where
   pub previous : (g : ℕ) → g < length ends → field ends g 0 ≡ link (previousStop ss g)
   pub kept : (g base : ℕ) → g < length ends → levelWithBase ss g base ≡ keptEnd (getD ends g []) base
 
--- The first s stops with their marks and their groups' ends, and room for n stops.
-pub record StopIndex (n : ℕ) (stops ends marks : List (List ℕ)) (heads : List ℕ) (s m : ℕ) : Type 0 where
+-- The first s stops with their groups' ends, and room for n stops.
+pub record StopIndex (n : ℕ) (stops ends : List (List ℕ)) (s : ℕ) : Type 0 where
   pub room : n ≤ length stops
   pub groupRoom : WIRES_MOST ≤ length ends
-  pub markRoom : 2 * n ≤ length marks
-  pub marked : Marks marks heads m
-  pub marksAre : view markIn marks m ≡ marksOf (view stopIn stops s)
-  pub marksFew : m ≤ 2 * s
   pub lasts : Ends ends (view stopIn stops s)
 
--- The first s stops with their marks.
-pub record StopsMarked (stops marks : List (List ℕ)) (heads : List ℕ) (s m : ℕ) : Type 0 where
-  pub marked : Marks marks heads m
-  pub marksAre : view markIn marks m ≡ marksOf (view stopIn stops s)
-  pub marksFew : m ≤ 2 * s
-
--- Heads of empty chains.
-pub record NoMarks (heads : List ℕ) : Type 0 where
-  pub width : MARK_BUCKETS ≤ length heads
-  pub empty : (k : ℕ) → k < MARK_BUCKETS → getD heads k 0 ≡ 0
-
--- The first n rows of laid taps name rows of the tables.
-pub record LaidFits (facts groups laid : List (List ℕ)) (n : ℕ) : Type 0 where
+-- The first n rows of laid taps stand page by page, on rows and in lanes that there are.
+pub record PlacesFit (groups laid : List (List ℕ)) (n : ℕ) : Type 0 where
   pub rows : n ≤ length laid
   pub most : n ≤ WIRES_MOST
   pub group : (k : ℕ) → k < n → field laid k 1 < length groups
+  pub row : (k : ℕ) → k < n → field laid k 2 < ROWS_MOST
+  pub lane : (k : ℕ) → k < n → field groups (field laid k 1) 4 < LANES_MOST
+  pub pages : (k : ℕ) → suc k < n → field laid k 0 ≤ field laid (suc k) 0
+
+-- The first n rows of laid taps name rows of the tables.
+pub record LaidFits (facts groups laid : List (List ℕ)) (n : ℕ) : Type 0 where
+  pub places : PlacesFit groups laid n
   pub first : (k : ℕ) → k < n → field laid k 1 < WIRES_MOST
   pub wire : (k : ℕ) → k < n → field laid k 7 < length facts
   pub target : (k : ℕ) → k < n → field facts (field laid k 7) 3 < length facts

@@ -1,2 +1,3 @@
 pub mod Laying
-pub mod Marks
+pub mod Pages
+pub mod Search

@@ -1,5 +1,7 @@
 // The stops of a lane and their levels.
+pub mod finding;
 pub mod laying;
 pub mod levels;
-pub mod marks;
+pub mod pages;
 pub mod stops;
+pub mod windows;

@@ -19,7 +19,7 @@ use base::sort::sort_rows;
 // A lane whose source and taps span less is already a short hop.
 pub const MIN_LANE_TRAVEL: u32 = 6;
 
-fn lesser(a: u32, b: u32) -> u32
+pub fn lesser(a: u32, b: u32) -> u32
     ensures { λ r. ⌜ r ≡ min a b ⌝ }
 {
     if a < b { a } else { b }

@@ -1,27 +1,40 @@
--- `ask_taps` meets its contract, with local chains. Assumes nothing.
-use mathlib.Core.Path.{_∙_}
+-- `ask_taps` meets its contract, with local runs. Assumes nothing.
 use lib.Dec.{lit≤}
+use lib.ListN.{length}
 use native.Mathlib.Omega.{arith}
-use Rattle.routes_columns.proofs.Claiming.{zero-heads, zero-links, ask-room}
+use Rattle.routes_columns.proofs.Rooms.{taps-keyed, no-counts, still-long, starts-grow, numbers-few, stops-room, ask-room}
+use Rattle.routes_columns.proofs.Claiming.{stops-held}
 use borrow.Author.Needs.{needs}
 use Rattle.routes_columns.proofs.columns.ask_taps.Statement.{statement}
 use Rattle.routes_columns.proofs.columns.ask_taps.Tie as tie
+use Rattle.routes_columns.proofs.claims.make_room.Reads as make-room-reads
+use Rattle.routes_columns.proofs.claims.put_stops.Reads as put-stops-reads
+use Rattle.routes_columns.proofs.columns.ask_all.Reads as ask-all-reads
 
-copy-stops-requires : tie.Need-copy-stops-requires
-copy-stops-requires c κs = let s = c .before in let p = s .pre .1 in let rows = p .3 in let few = p .0 in (s .pre .0 .onStops, omega (arith, rows, few))
+slice-aggregate-make-room : tie.Need-slice-aggregate-make-room
+slice-aggregate-make-room c = search needs
 
-slice-aggregate-book-claims : tie.Need-slice-aggregate-book-claims
-slice-aggregate-book-claims c = search needs
-
-slice-aggregate-book-claims-2 : tie.Need-slice-aggregate-book-claims-2
-slice-aggregate-book-claims-2 c = search needs
-
-book-claims-requires : tie.Need-book-claims-requires
-book-claims-requires c κs =
-    let s = c .before .before .before .before .before .before in
+make-room-requires : tie.Need-make-room-requires
+make-room-requires c κs =
+    let s = c .before in
     let p = s .pre .1 in
-    let k = c .before .before .before .before .copy-stops .kept .1 .1 .0 in
-    (zero-heads 8192 (lit≤ tt), (omega (arith, p .0, p .1, p .3, k), zero-links 24576 (s .args .n) (s .args .s) (lit≤ tt) (p .0) (p .1), omega (arith, p .0, p .1)))
+    let none = no-counts 32770 (lit≤ tt) in
+    ((s .pre .0 .onStops, p .0, p .1, p .3, none .0, taps-keyed (s .pre .0) (p .3) (p .4)), none .1)
+
+slice-aggregate-put-stops : tie.Need-slice-aggregate-put-stops
+slice-aggregate-put-stops c = search needs
+
+slice-aggregate-put-stops-2 : tie.Need-slice-aggregate-put-stops-2
+slice-aggregate-put-stops-2 c = search needs
+
+put-stops-requires : tie.Need-put-stops-requires
+put-stops-requires c κs =
+    let s = c .before .before .before .before .before in
+    let a = s .args in
+    let p = s .pre .1 in
+    let made = c .before .before .before .make-room in
+    let long = still-long 32770 (made .last .1 .1 .1 .1 .1 .1 .0) (lit≤ tt) (made .kept .1 .1 .1 .1 .1 .1 .0) in
+    ((s .pre .0 .onStops, p .3, numbers-few (length (a .pages .now)) (a .groups .now) (a .laid .now) (a .n) (a .stops .now) (a .s) (made .last .1 .1 .1 .1 .1 .1 .0) (p .3) (p .0) (p .1) long (made .ensures) 24576 (lit≤ tt) (omega arith), starts-grow (length (a .pages .now)) (a .groups .now) (a .laid .now) (a .n) (a .stops .now) (a .s) (made .last .1 .1 .1 .1 .1 .1 .0) (p .3) (p .0) (p .1) long (made .ensures) 24576 (lit≤ tt) (omega arith)), stops-room (length (a .pages .now)) (a .groups .now) (a .laid .now) (a .n) (a .stops .now) (a .s) (made .last .1 .1 .1 .1 .1 .1 .0) (p .3) (p .0) (p .1) long (made .ensures) 24576 (lit≤ tt) (omega arith))
 
 slice-aggregate-ask-all : tie.Need-slice-aggregate-ask-all
 slice-aggregate-ask-all c = search needs
@@ -29,35 +42,42 @@ slice-aggregate-ask-all c = search needs
 slice-aggregate-ask-all-2 : tie.Need-slice-aggregate-ask-all-2
 slice-aggregate-ask-all-2 c = search needs
 
+slice-aggregate-ask-all-3 : tie.Need-slice-aggregate-ask-all-3
+slice-aggregate-ask-all-3 c = search needs
+
 ask-all-requires : tie.Need-ask-all-requires
 ask-all-requires c κs =
-    let s = c .before .before .before .before .before .before .before .before .before .before .before .before .before in
+    let s = c .before .before .before .before .before .before .before .before .before .before .before .before in
     let a = s .args in
     let p = s .pre .1 in
-    let copied = c .before .before .before .before .before .before .before .before .before .before .before .copy-stops in
-    let booked = c .before .before .before .before .before .before .book-claims in
-    (s .pre .0, (booked .ensures, (ask-room (a .n) (a .s) 24576 (a .claims .now) (copied .last .1 .1 .0) (booked .last .1 .1 .0) (a .asked .now) (lit≤ tt) (p .0) (p .1) (p .2) (p .3) (copied .kept .1 .1 .0) (booked .kept .1 .1 .0), copied .ensures)))
+    let made = c .before .before .before .before .before .before .before .before .before .before .make-room in
+    let put = c .before .before .before .before .before .before .put-stops in
+    let long = still-long 32770 (made .last .1 .1 .1 .1 .1 .1 .0) (lit≤ tt) (made .kept .1 .1 .1 .1 .1 .1 .0) in (
+      s .pre .0,
+      (
+        ask-room (length (a .pages .now)) (a .groups .now) (a .laid .now) (a .n) (a .stops .now) (a .s) (made .last .1 .1 .1 .1 .1 .1 .0) (p .3) (p .0) (p .1) long (made .ensures) 24576 (lit≤ tt) (omega arith) (put .last .1 .1 .1 .0) (put .last .1 .1 .1 .1 .0) (a .asked .now) (put .ensures) (put .kept .1 .1 .1 .1 .0) (p .2) (taps-keyed (s .pre .0) (p .3) (p .4)),
+        stops-held (length (a .pages .now)) (a .stops .now) (a .s) (made .last .1 .1 .1 .1 .1 .1 .0) (put .last .1 .1 .1 .0) (put .last .1 .1 .1 .1 .0) (put .ensures),
+      ),
+    )
 
 same-length : tie.Need-same-length
-same-length c = c .before .before .before .before .ask-all .kept .1 .1 .1 .1 .1 .1 .1 .1 .1 .0 ∙ c .before .before .before .before .before .before .before .before .before .before .before .before .before .before .before .before .copy-stops .kept .1 .1 .0
-
-same-length-2 : tie.Need-same-length-2
-same-length-2 c = c .before .before .before .before .ask-all .kept .1 .1 .1 .1 .1 .1 .1 .1 .1 .1 .1 .1 .0
+same-length c = search needs
 
 returns : tie.Need-returns
-returns c = c .before .before .before .before .ask-all .ensures
+returns c = search needs
 
 pub ask-taps-spec : {M : Type 1} → statement M
 ask-taps-spec =
     tie.close
     (tie.spec
-    copy-stops-requires
-    slice-aggregate-book-claims
-    slice-aggregate-book-claims-2
-    book-claims-requires
+    slice-aggregate-make-room
+    make-room-requires
+    slice-aggregate-put-stops
+    slice-aggregate-put-stops-2
+    put-stops-requires
     slice-aggregate-ask-all
     slice-aggregate-ask-all-2
+    slice-aggregate-ask-all-3
     ask-all-requires
     same-length
-    same-length-2
     returns)

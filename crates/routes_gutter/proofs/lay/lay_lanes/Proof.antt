@@ -27,36 +27,39 @@ Given s b ps =
 abbrev start : tie.After-lay-taps → tie.Start
 start c = c .before .before .before .before
 
-abbrev tapped : tie.After-lay-levels → tie.After-lay-taps
-tapped c = c .before .before .before .before .before .before
+abbrev tapped : tie.After-lane-stops → tie.After-lay-taps
+tapped c = c .before .before .before .before .before
 
-abbrev leveled : tie.After-emit-laid → tie.After-lay-levels
-leveled c = c .before .before .before .before .before .before .before .before .before
+abbrev leveled : tie.After-emit-laid → tie.After-lane-stops
+leveled c = c .before .before .before .before .before .before .before .before
 
 abbrev rows : tie.After-lay-taps → List (List ℕ)
 rows c = c .lay-taps .last .1 .1 .1 .1 .1 .0
 
-abbrev levels : tie.After-lay-levels → List (List ℕ)
-levels c = c .lay-levels .last .1 .1 .1 .1 .0
+abbrev spare : tie.After-lay-taps → List (List ℕ)
+spare c = c .lay-taps .last .1 .1 .1 .1 .1 .1 .0
+
+abbrev levels : tie.After-lane-stops → List (List ℕ)
+levels c = c .lane-stops .last .1 .1 .1 .1 .0
 
 rows-are : (c : tie.After-lay-taps) (b : Board) (ps : List PageLanes) → Given (start c) b ps → view tapIn (rows c) (c .lay-taps .result) ≡ laidTaps b (tapsOf b) ps
 rows-are c b ps r = laid-are r (c .lay-taps .ensures .1 b ps)
 
-levels-are : (c : tie.After-lay-levels) (b : Board) (ps : List PageLanes) → Given (start (tapped c)) b ps → view stopIn (levels c) (c .lay-levels .result) ≡ stopsOf b ps (view tapIn (rows (tapped c)) (tapped c .lay-taps .result))
+levels-are : (c : tie.After-lane-stops) (b : Board) (ps : List PageLanes) → Given (start (tapped c)) b ps → view stopIn (levels c) (c .lane-stops .result) ≡ stopsOf b ps (view tapIn (rows (tapped c)) (tapped c .lay-taps .result))
 levels-are c b ps r =
     let t = tapped c in
-    c .lay-levels .ensures .1 b ps (laid-known r (rows t) (t .lay-taps .result) (t .lay-taps .ensures .0) (t .lay-taps .kept .1 .1 .1 .1 .1 .0) (rows-are t b ps r))
+    c .lane-stops .ensures .1 b ps (laid-known r (rows t) (t .lay-taps .result) (t .lay-taps .ensures .0) (t .lay-taps .kept .1 .1 .1 .1 .1 .0) (rows-are t b ps r))
 
 -- The taps laid and their stops, for the passes that follow.
-to-emit : (c : tie.After-lay-levels) (b : Board) (ps : List PageLanes) → Given (start (tapped c)) b ps
+to-emit : (c : tie.After-lane-stops) (b : Board) (ps : List PageLanes) → Given (start (tapped c)) b ps
     → (let a = start (tapped c) .args in
-    LaidReady b ps (a .pages .now) (a .nodes .now) (a .wires .now) (a .facts .now) (a .groups .now) (a .taps .now) (a .m) (rows (tapped c)) (tapped c .lay-taps .result) (levels c) (c .lay-levels .result) (c .lay-levels .last .1 .1 .1 .1 .1 .0) (a .rerouters .now) (a .bus-wires .now))
+    LaidReady b ps (a .pages .now) (a .nodes .now) (a .wires .now) (a .facts .now) (a .groups .now) (a .taps .now) (a .m) (rows (tapped c)) (tapped c .lay-taps .result) (levels c) (c .lane-stops .result) (spare (tapped c)) (a .rerouters .now) (a .bus-wires .now))
 to-emit c b ps r =
     let t = tapped c in
     let k = t .lay-taps .kept .1 .1 .1 .1 .1 in
-    let l = c .lay-levels .kept .1 .1 .1 .1 in
-    laid-ready r (rows t) (t .lay-taps .result) (t .lay-taps .ensures .0) (k .0) (rows-are t b ps r) (levels c) (c .lay-levels .result) (c .lay-levels .ensures .0) (l .0) (levels-are c b ps r)
-    (c .lay-levels .last .1 .1 .1 .1 .1 .0) (l .1 .0 ∙ k .1 .0)
+    let l = c .lane-stops .kept .1 .1 .1 .1 in
+    laid-ready r (rows t) (t .lay-taps .result) (t .lay-taps .ensures .0) (k .0) (rows-are t b ps r) (levels c) (c .lane-stops .result) (c .lane-stops .ensures .0) (l .0) (levels-are c b ps r)
+    (spare t) (k .1 .0)
 
 lay-taps-requires : tie.Need-lay-taps-requires
 lay-taps-requires c κs =
@@ -66,20 +69,19 @@ lay-taps-requires c κs =
     let s = r .stopRoom .1 in
     (taps-fit r, (omega arith, omega arith))
 
-lay-levels-requires : tie.Need-lay-levels-requires
-lay-levels-requires c κs =
-    let t = c .before .before .before .before .before in
+lane-stops-requires : tie.Need-lane-stops-requires
+lane-stops-requires c κs =
+    let t = c .before .before .before .before in
     let g = start t .pre in
     let r = g .2 in
     let few = t .lay-taps .ensures .0 in
     let h = r .count in
-    let l = r .stopRoom in
-    let m = t .lay-taps .kept .1 .1 .1 .1 .1 .1 .0 in
-    (laid-fits r (rows t) (t .lay-taps .result) few (t .lay-taps .kept .1 .1 .1 .1 .1 .0) (rows-are t (g .0) (g .1) r), (omega (arith, l .0), omega (arith, l .1)))
+    let l = r .stopRoom .0 in
+    (laid-fits r (rows t) (t .lay-taps .result) few (t .lay-taps .kept .1 .1 .1 .1 .1 .0) (rows-are t (g .0) (g .1) r), omega arith)
 
 emit-laid-requires : tie.Need-emit-laid-requires
 emit-laid-requires c κs =
-    let v = c .before .before .before .before .before .before .before .before in
+    let v = c .before .before .before .before .before .before .before in
     let g = start (tapped v) .pre in
     (g .0, g .1, start (tapped v) .args .m, to-emit v (g .0) (g .1) (g .2))
 
@@ -125,7 +127,7 @@ lay-lanes-spec =
     tie.close
     (tie.spec
     lay-taps-requires
-    lay-levels-requires
+    lane-stops-requires
     emit-laid-requires
     count-groups-requires
     same-length

@@ -1,4 +1,4 @@
--- The first pass, from empty chains and no stops.
+-- The first pass, from no stops.
 use mathlib.Core.List.{[], _∷_}
 use mathlib.Core.Path.{refl}
 use lib.Dec.{lit≤}
@@ -13,28 +13,15 @@ slice-aggregate-fill-stops c = search needs
 
 fill-stops-requires : tie.Need-fill-stops-requires
 fill-stops-requires c κs =
-    let s = c .before .before .before .before .before in
-    (s .pre .0, no-index (s .args .n) (s .args .stops .now) (replicate 8192 (0 ∷ 0 ∷ 0 ∷ 0 ∷ [])) (s .args .marks .now) (s .args .heads .now) (s .pre .1 .0) (lit≤ tt) (s .pre .1 .1) (s .pre .1 .2) (λ g h. zero-rows 8192 (0 ∷ 0 ∷ 0 ∷ 0 ∷ []) g h refl refl))
+    let s = c .before .before in
+    (s .pre .0, no-index (s .args .n) (s .args .stops .now) (replicate 8192 (0 ∷ 0 ∷ 0 ∷ 0 ∷ [])) (s .pre .1) (lit≤ tt) (λ g h. zero-rows 8192 (0 ∷ 0 ∷ 0 ∷ 0 ∷ []) g h refl refl))
 
 same-length : tie.Need-same-length
 same-length c = search needs
-
-same-length-2 : tie.Need-same-length-2
-same-length-2 c = search needs
-
-same-length-3 : tie.Need-same-length-3
-same-length-3 c = search needs
 
 returns : tie.Need-returns
 returns c = search needs
 
 pub lane-stops-spec : {M : Type 1} → statement M
 lane-stops-spec =
-    tie.close
-    (tie.spec
-    slice-aggregate-fill-stops
-    fill-stops-requires
-    same-length
-    same-length-2
-    same-length-3
-    returns)
+    tie.close (tie.spec slice-aggregate-fill-stops fill-stops-requires same-length returns)

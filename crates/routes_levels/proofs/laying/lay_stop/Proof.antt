@@ -1,11 +1,13 @@
--- One more stop: its x, its level, its row, its group's ends and its marks.
-use mathlib.Core.Path.{refl, sym, _∙_}
+-- One more stop: its x, its level, its row, its group's ends and its level in the runs.
 use native.Mathlib.Omega.{arith}
+use mathlib.Core.Path.{sym, _∙_}
 use Rattle.base.specs.Views.{view}
 use Rattle.board.specs.Tables.{tapIn}
 use Rattle.routes.specs.Levels.{previousStop}
 use Rattle.routes.specs.Tables.{stopIn}
-use Rattle.routes_levels.proofs.LayLaws.{indexed, stop-is, end-previous, end-kept}
+use Rattle.routes_levels.specs.Pages.{laneKey}
+use Rattle.routes_levels.proofs.LayLaws.{laid-with, stop-is, end-previous, end-kept}
+use Rattle.routes_levels.proofs.PageLaws.{room-inside}
 use borrow.Author.Needs.{needs}
 use Rattle.routes_levels.proofs.laying.lay_stop.Statement.{statement}
 use Rattle.routes_levels.proofs.laying.lay_stop.Tie as tie
@@ -34,24 +36,27 @@ level-of-requires c κs = search needs
 stop-row-requires : tie.Need-stop-row-requires
 stop-row-requires c κs = search needs
 
-mul-mark-stop : tie.Need-mul-mark-stop
-mul-mark-stop c = search needs
+mul-t17 : tie.Need-mul-t17
+mul-t17 c = search needs
 
-slice-set-from-mark-stop : tie.Need-slice-set-from-mark-stop
-slice-set-from-mark-stop c = search needs
+slice-set-from-stops : tie.Need-slice-set-from-stops
+slice-set-from-stops c = search needs
 
 note-end-requires : tie.Need-note-end-requires
 note-end-requires c κs = search needs
 
-mark-stop-requires : tie.Need-mark-stop-requires
-mark-stop-requires c κs =
-    let s = c .before .before .before .before .before .before .before .before .before .before .before .before .before in
-    let x = s .pre .0 in
-    let p = s .pre .1 in
-    (x .marked, (omega (arith, x .markRoom, x .marksFew, p), omega (arith, x .marksFew, p)))
+array-read-keep-level : tie.Need-array-read-keep-level
+array-read-keep-level c = search needs
 
-add-t20 : tie.Need-add-t20
-add-t20 c = search needs
+keep-level-requires : tie.Need-keep-level-requires
+keep-level-requires c κs =
+    let s = c .before .before .before .before .before .before .before .before .before .before .before .before .before .before .before in
+    let held = s .pre .1 .0 in
+    let room = s .pre .1 .1 in
+    let g = held .runs .grows in
+    let small = room .rowSmall in
+    let lane = room .laneSmall in
+    ((small, omega (arith, g .nextsLong), held .runs .few), (room-inside g (tapIn (s .args .t1) .row) (omega arith) (room .rowRoom), room-inside g (laneKey (s .args .lane)) (omega arith) (room .laneRoom)))
 
 same-length : tie.Need-same-length
 same-length c = search needs
@@ -67,24 +72,24 @@ same-length-4 c = search needs
 
 returns : tie.Need-returns
 returns c =
-    let start = c .before .before .before .before .before .before .before .before .before .before .before .before .before .before .before .before .before in
+    let start = c .before .before .before .before .before .before .before .before .before .before .before .before .before .before .before .before .before .before .before .before in
     let a = start .args in
-    let x = start .pre .0 in
-    let p = start .pre .1 in
-    let marked = c .before .before .before .mark-stop in
-    let ended = c .before .before .before .before .before .before .before .note-end in
-    let row = c .before .before .before .before .before .before .before .before .before .stop-row in
-    let level = c .before .before .before .before .before .before .before .before .before .before .level-of in
-    let base = c .before .before .before .before .before .before .before .before .before .before .before .before .before .stop-x in
-    let group = c .before .before .before .before .before .before .before .before .before .before .before .before .before .before .before .group-of in (
-      indexed x (tapIn (a .t1)) (a .lane) (base .result) (level .result) (row .result) (p .0) (row .ensures)
-          (λ ss u g b l e. ended .ensures ss u (g ∙ sym (group .ensures .0)) b l e) (marked .ensures .0) (marked .ensures .1 .0) (marked .ensures .1 .1) (ended .kept .0) (marked .kept .0),
-      (
-        refl,
-        λ b t. stop-is x (tapIn (a .t1)) (a .lane) (base .result) (level .result) (row .result) (p .0) (row .ensures) b
-            (base .ensures .1 (previousStop (view stopIn (a .stops .now) (a .counts .stops)) (tapIn (a .t1) .group)) (end-previous x (tapIn (a .t1)) (group .result) (group .ensures .0) (p .2)))
-            (level .ensures b _ (x .marksAre) (end-kept x (tapIn (a .t1)) (group .result) (group .ensures .0) (p .2) (base .result)) t),
-      ),
+    let x = start .pre .0 .0 in
+    let held = start .pre .1 .0 in
+    let room = start .pre .1 .1 in
+    let inside = x .room in
+    let kept = c .before .before .before .before .keep-level in
+    let ended = c .before .before .before .before .before .before .before .before .note-end in
+    let row = c .before .before .before .before .before .before .before .before .before .before .stop-row in
+    let level = c .before .before .before .before .before .before .before .before .before .before .before .level-of in
+    let base = c .before .before .before .before .before .before .before .before .before .before .before .before .before .before .stop-x in
+    let group = c .before .before .before .before .before .before .before .before .before .before .before .before .before .before .before .before .group-of in
+    let t = tapIn (a .t1) in (
+      laid-with (a .stops .now) (a .s) t (a .lane) (base .result) (level .result) (row .result) (omega (arith, inside)) (row .ensures) (x .lasts) held
+          (λ ss u g b l e. ended .ensures ss u (g ∙ sym (group .ensures .0)) b l e) (λ v rows lanes rows′ lanes′ e y g h. kept .ensures .1 v (a .starts .now) rows lanes rows′ lanes′ e y room g h) (kept .ensures .0),
+      λ b top. stop-is (a .stops .now) (a .s) t (a .lane) (base .result) (level .result) (row .result) (omega (arith, inside)) (row .ensures) b
+          (base .ensures .1 (previousStop (view stopIn (a .stops .now) (a .s)) (t .group)) (end-previous x t (group .result) (group .ensures .0) (start .pre .0 .1)))
+          (level .ensures b (view stopIn (a .stops .now) (a .s)) (held .runs .rowRuns (t .row) (room .rowSmall)) (held .runs .laneRuns (a .lane) (room .laneSmall)) (end-kept x t (group .result) (group .ensures .0) (start .pre .0 .1) (base .result)) top),
     )
 
 pub lay-stop-spec : {M : Type 1} → statement M
@@ -99,11 +104,11 @@ lay-stop-spec =
     stop-x-requires
     level-of-requires
     stop-row-requires
-    mul-mark-stop
-    slice-set-from-mark-stop
+    mul-t17
+    slice-set-from-stops
     note-end-requires
-    mark-stop-requires
-    add-t20
+    array-read-keep-level
+    keep-level-requires
     same-length
     same-length-2
     same-length-3

@@ -16,18 +16,15 @@ array-read-t19 : tie.Need-array-read-t19
 array-read-t19 c = search needs
 
 returns : tie.Need-returns
-returns c = λ b ss e k t.
-    let a = c .before .before .args in
+returns c = λ b ss er el k t.
+    let a = c .before .before .before .before .args in
     level-shared b ss (a .lane) (a .base) (a .top) (a .t4) (tapIn (a .t5)) k (c .if1 .taken)
 
-array-read-find-level : tie.Need-array-read-find-level
-array-read-find-level c = search needs
+array-read-find-in-runs : tie.Need-array-read-find-in-runs
+array-read-find-in-runs c = search needs
 
-array-read-find-level-2 : tie.Need-array-read-find-level-2
-array-read-find-level-2 c = search needs
-
-find-level-requires : tie.Need-find-level-requires
-find-level-requires c κs = search needs
+find-in-runs-requires : tie.Need-find-in-runs-requires
+find-in-runs-requires c κs = search needs
 
 enum-known-level : tie.Need-enum-known-level
 enum-known-level c = search needs
@@ -36,14 +33,14 @@ enum-told : tie.Need-enum-told
 enum-told c = search needs
 
 returns-2 : tie.Need-returns-2
-returns-2 c = λ b ss e k t.
-    let a = c .before .before .before .before .before .before .args in
-    level-own b ss (a .lane) (a .base) (a .top) (a .t4) (tapIn (a .t5)) k (c .before .before .before .before .if1 .left) t _ (sym (c .before .level .given .1) ∙ c .before .before .before .find-level .ensures ss e)
+returns-2 c = λ b ss er el k t.
+    let a = c .before .before .before .before .before .before .before .before .args in
+    level-own b ss (a .lane) (a .base) (a .top) (a .t4) (tapIn (a .t5)) k (c .before .before .before .before .if1 .left) t _ (sym (c .before .level .given .1) ∙ c .before .before .before .find-in-runs .ensures ss (tapIn (a .t5) .page) er el)
 
 returns-3 : tie.Need-returns-3
-returns-3 c = λ b ss e k t.
-    let a = c .before .before .before .before .before .args in
-    level-dropped b ss (a .lane) (a .base) (a .top) (a .t4) (tapIn (a .t5)) k (c .before .before .before .if1 .left) t (sym (c .enum-told .given .1) ∙ c .before .before .find-level .ensures ss e)
+returns-3 c = λ b ss er el k t.
+    let a = c .before .before .before .before .before .before .before .args in
+    level-dropped b ss (a .lane) (a .base) (a .top) (a .t4) (tapIn (a .t5)) k (c .before .before .before .if1 .left) t (sym (c .enum-told .given .1) ∙ c .before .before .find-in-runs .ensures ss (tapIn (a .t5) .page) er el)
 
 pub level-of-spec : {M : Type 1} → statement M
 level-of-spec =
@@ -53,9 +50,8 @@ level-of-spec =
     add-if1
     array-read-t19
     returns
-    array-read-find-level
-    array-read-find-level-2
-    find-level-requires
+    array-read-find-in-runs
+    find-in-runs-requires
     enum-known-level
     enum-told
     returns-2
