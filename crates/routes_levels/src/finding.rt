@@ -62,6 +62,17 @@ fn lowest_free(row: &[u32], lane: &[u32], base: u32, count: u32) -> Found
     Found::None
 }
 
+// The lightest of a few levels and of those above them.
+fn lightest_in_few(row: &[u32], lane: &[u32], start: u32, size: u32, best: Lightest) -> Lightest
+    requires { ⌜ (length (now row) < MISSING) × (size ≤ 64) × (start + STAGGER_STEP * size ≤ MISSING) ⌝ }
+    ensures { λ r. ⌜ ((base count k : ℕ) → start ≡ base + STAGGER_STEP * k → k + size ≤ count
+        → Best (openIn (now (lane .entry))) (loadIn (now (row .entry))) base count (k + size) (best .level) (best .load) → Best (openIn (now (lane .entry))) (loadIn (now (row .entry))) base count k (r .level) (r .load)) ⌝ }
+{
+    let mut loads = [0u32; FEW as usize];
+    weigh_window(row, lane, start, &mut loads);
+    lightest_in(&loads, start, size, best)
+}
+
 // The lightest of many levels and of those above them.
 fn lightest_in_many(row: &[u32], lane: &[u32], start: u32, size: u32, best: Lightest) -> Lightest
     requires { ⌜ (length (now row) < MISSING) × (size ≤ 4096) × (start + STAGGER_STEP * size ≤ MISSING) ⌝ }
@@ -71,6 +82,18 @@ fn lightest_in_many(row: &[u32], lane: &[u32], start: u32, size: u32, best: Ligh
     let mut loads = [0u32; MANY as usize];
     weigh_window(row, lane, start, &mut loads);
     lightest_in(&loads, start, size, best)
+}
+
+// The same of a window as long as it needs to be: one of zeros has to be made for each.
+fn lightest_in_window(row: &[u32], lane: &[u32], start: u32, size: u32, best: Lightest) -> Lightest
+    requires { ⌜ (length (now row) < MISSING) × (size ≤ 4096) × (start + STAGGER_STEP * size ≤ MISSING) ⌝ }
+    ensures { λ r. ⌜ ((base count k : ℕ) → start ≡ base + STAGGER_STEP * k → k + size ≤ count
+        → Best (openIn (now (lane .entry))) (loadIn (now (row .entry))) base count (k + size) (best .level) (best .load) → Best (openIn (now (lane .entry))) (loadIn (now (row .entry))) base count k (r .level) (r .load)) ⌝ }
+{
+    if size <= FEW {
+        return lightest_in_few(row, lane, start, size, best);
+    }
+    lightest_in_many(row, lane, start, size, best)
 }
 
 // V7: the least loaded of `count` levels from `base` on that is unclaimed, or none. The windows go from the highest down.
@@ -86,7 +109,7 @@ fn least_loaded(row: &[u32], lane: &[u32], base: u32, count: u32) -> Found
     while 0 < k {
         let size = lesser(k, MANY);
         k -= size;
-        best = lightest_in_many(row, lane, base + STAGGER_STEP * k, size, best);
+        best = lightest_in_window(row, lane, base + STAGGER_STEP * k, size, best);
     }
     best.level
 }

@@ -12,7 +12,7 @@ use lib.Seq.{getD-set-same}
 use borrow.Author.Tests.{ne-eqb, ltb-true, ltb-false, lt-ltb, le-ltb}
 use Rattle.sheet.specs.Table.{MISSING}
 use Rattle.base.specs.Lists.{Found, none, at, any, keep}
-use Rattle.base.proofs.Bools.{never, either-right, pick-true, pick-false}
+use Rattle.base.proofs.Bools.{never, and-false, either-right, pick-true, pick-false}
 use Rattle.board.specs.Rows
 use Rattle.board.specs.Rows.{cellsOverlap, rerouterCell}
 use Rattle.board.specs.Tables.{held}
@@ -91,6 +91,39 @@ module _ (booked : List Entry) (span : Cell) (sink class : ℕ) where
       go true o f q is = let z : none ≡ at l = sym (taken o) ∙ is in never cc
       go false o none q is = inside (lightest-within (clearAt booked (span .y0)) (loadAt booked sink) (span .x0) (countIn span) l (sym (ways none o q) ∙ is))
       go false o (at k) q is = inside (lowest-within (λ l. eqb (loadAt booked sink l) 0 && clearAt booked (span .y0) l) (span .x0) (countIn span) l (q ∙ sym (ways (at k) o q) ∙ is))
+
+-- where no level is clear none is found
+lowest-closed : (free : ℕ → Bool) (x n : ℕ) → ((k : ℕ) → k < n → free (x + 2 * k) ≡ false) → lowest free x n ≡ none
+lowest-closed free x zero h = refl
+lowest-closed free x (suc n) h =
+    let z : x + 2 * 0 ≡ x = omega arith in
+    let here : free x ≡ false = subst (λ (l : ℕ). free l ≡ false) z (h 0 (omega arith)) in
+    pick-false (free x) (at x) (lowest free (x + 2) n) here
+    ∙ lowest-closed free (x + 2) n (λ k low. let z : x + 2 * suc k ≡ x + 2 + 2 * k = omega arith in subst (λ (l : ℕ). free l ≡ false) z (h (suc k) (omega (arith, low))))
+
+lightest-closed : (ok : ℕ → Bool) (load : ℕ → ℕ) (x n : ℕ) → ((k : ℕ) → k < n → ok (x + 2 * k) ≡ false) → lightest ok load x n ≡ none
+lightest-closed ok load x zero h = refl
+lightest-closed ok load x (suc n) h =
+    let z : x + 2 * 0 ≡ x = omega arith in
+    let here : ok x ≡ false = subst (λ (l : ℕ). ok l ≡ false) z (h 0 (omega arith)) in
+    pick-false (ok x) (lighter load x (lightest ok load (x + 2) n)) (lightest ok load (x + 2) n) here
+    ∙ lightest-closed ok load (x + 2) n (λ k low. let z : x + 2 * suc k ≡ x + 2 + 2 * k = omega arith in subst (λ (l : ℕ). ok l ≡ false) z (h (suc k) (omega (arith, low))))
+
+pub level-closed : (booked : List Entry) (span : Cell) (sink class : ℕ) → ((k : ℕ) → k < countIn span → clearAt booked (span .y0) (levelNo span k) ≡ false) → None ≡ levelAnswer (levelBy booked span sink class)
+level-closed booked span sink class h = go (ofClass booked class) refl
+  where
+    free : ℕ → Bool
+    free l = eqb (loadAt booked sink l) 0 && clearAt booked (span .y0) l
+
+    low : lowest free (span .x0) (countIn span) ≡ none
+    low = lowest-closed free (span .x0) (countIn span) (λ k b. ap (λ t. eqb (loadAt booked sink (levelNo span k)) 0 && t) (h k b) ∙ and-false (eqb (loadAt booked sink (levelNo span k)) 0))
+
+    light : lightest (clearAt booked (span .y0)) (loadAt booked sink) (span .x0) (countIn span) ≡ none
+    light = lightest-closed (clearAt booked (span .y0)) (loadAt booked sink) (span .x0) (countIn span) h
+
+    go : (t : Bool) → ofClass booked class ≡ t → None ≡ levelAnswer (levelBy booked span sink class)
+    go true o = level-taken booked span sink class (sym o) refl
+    go false o = level-lightest booked span sink class (sym o) refl (ap levelAnswer (sym low)) refl (ap levelAnswer (sym light))
 
 level-by : (items : List (List ℕ)) (booked : List Entry) (i : ℕ) → levelAt items booked i ≡ levelBy booked (spanOf items i) (sinkIn items i) (classIn items i)
 unfolding levelAt levelBy

@@ -8,7 +8,7 @@ use native.Mathlib.Numerals.{add-one}
 use lib.Dec.{eqb, ltb, leb}
 use lib.ListN.{length, getD, set}
 use lib.Seq.{getD-set-same, getD-set-other}
-use borrow.Author.Tests.{eqb-true, eqb-false, eq-eqb, ne-eqb, ltb-false, lt-ltb, le-ltb, leb-true, leb-false}
+use borrow.Author.Tests.{eqb-true, eqb-false, eq-eqb, ne-eqb, ltb-false, lt-ltb, le-ltb, lt-leb, leb-true, leb-false}
 use Rattle.sheet.specs.Table.{MISSING}
 use Rattle.base.specs.Lists.{Found, none, at, keep}
 use Rattle.base.proofs.Bools.{and-left, and-right, false-first, neither, either-left, clash, pick-true, pick-false}
@@ -344,3 +344,15 @@ pub open-at : (clear : ℕ → Bool) (load : ℕ → ℕ) (ends loads : List ℕ
     → level ≡ x + 2 * k → k < levelsIn x top → r ≡ eqb (getD loads k 0) 0 && leb (getD ends k 0) level → r ≡ eqb (load level) 0 && clear level
 open-at clear load ends loads x top k level r h g e low is =
     is ∙ ap₂ (λ s t. eqb s 0 && t) (g k low .0 ∙ ap load (sym e)) (ap (leb (getD ends k 0)) e ∙ h k low ∙ ap clear (sym e))
+
+-- one level more is not clear
+pub none-clear : (clear : ℕ → Bool) (ends : List ℕ) (x top k level : ℕ) → TellsClear (across x top) clear ends → level ≡ x + 2 * k → k < levelsIn x top → level < getD ends k 0
+    → ((j : ℕ) → j < k → clear (x + 2 * j) ≡ false) → (j : ℕ) → j < k + 1 → clear (x + 2 * j) ≡ false
+none-clear clear ends x top k level h e low beyond before j below = go (eqb j k) refl
+  where
+    here : clear (x + 2 * k) ≡ false
+    here = sym (h k low) ∙ lt-leb (getD ends k 0) (x + 2 * k) (omega (arith, e, beyond))
+
+    go : (t : Bool) → eqb j k ≡ t → clear (x + 2 * j) ≡ false
+    go true q = let same : j ≡ k = eqb-true j k q in subst (λ (i : ℕ). clear (x + 2 * i) ≡ false) (sym same) here
+    go false q = let other = eqb-false j k q in before j (omega (arith, below, other))

@@ -19,7 +19,7 @@ use routes_levels::levels::STAGGER_STEP;
 use routes_levels::levels::is_within;
 use routes_levels::levels::levels_in;
 ghost use mathlib.Core.Path.{_≡_};
-ghost use mathlib.Core.Bool.{Bool, _&&_};
+ghost use mathlib.Core.Bool.{Bool, false, _&&_};
 ghost use Prim.Native.Nat.{ℕ, _+_, _-_, _<_, _≤_};
 ghost use lib.Dec.{eqb, ltb, leb};
 ghost use lib.ListN.{length, getD};
@@ -27,7 +27,7 @@ ghost use Rattle.base.specs.Lists.{Found as FoundX};
 ghost use Rattle.board.specs.Tables.{held as heldAs};
 ghost use Rattle.routes.specs.Levels.{lowest, lightest};
 ghost use Rattle.routes_levels.specs.Laying.{levelAnswer};
-ghost use Rattle.routes_rows.specs.Blocked.{countIn};
+ghost use Rattle.routes_rows.specs.Blocked.{countIn, levelNo};
 ghost use Rattle.routes_rows.specs.Booking.{orderAt, unless, countAfter};
 ghost use Rattle.routes_rows.specs.Turning.{cornerY, clearAt, answersAfter};
 ghost use Rattle.routes_rows.specs.Entries.{inSlice, rowBefore, spanOf, spanFor, BlockedBy, BlockedFor, levelBy, TellsClear, TellsLoads, RowFits, Decidable, Decided, TurnsFit};
@@ -156,8 +156,26 @@ fn least_loaded_corner(span: Cell, ends: &[u32], loads: &[u32]) -> Found
     best
 }
 
-// K5, K6: a corner's level, or none (K7), by what is booked on the row before the item that comes p-th.
-fn corner_level(
+// Whether the row leaves a level of the span clear: where it does not, nothing else need be asked.
+fn has_clear(span: Cell, ends: &[u32]) -> bool
+    requires { ⌜ countIn span ≤ length (now ends) ⌝ }
+    ensures { λ r. ⌜ ((clear : ℕ → Bool) → TellsClear span clear (now (ends .entry)) → r ≡ false → (k : ℕ) → k < countIn span → clear (levelNo span k) ≡ false) ⌝ }
+{
+    let top = span.x1;
+    let mut level = span.x0;
+    let mut k: usize = 0;
+    while is_within(level, top) {
+        if ends[k] <= level {
+            return true;
+        }
+        level += STAGGER_STEP;
+        k += 1;
+    }
+    false
+}
+
+// K5, K6: the level of a corner whose row leaves one clear, or none (K7).
+fn seek_level(
     items: &[WorkRow],
     p: usize,
     first: usize,
@@ -180,6 +198,27 @@ fn corner_level(
         return Found::At(level);
     }
     least_loaded_corner(span, ends, &loads)
+}
+
+// K5, K6: a corner's level, or none (K7), by what is booked on the row before the item that comes p-th.
+fn corner_level(
+    items: &[WorkRow],
+    p: usize,
+    first: usize,
+    answers: &[u32],
+    span: Cell,
+    sink: u32,
+    class: u32,
+    ends: &[u32],
+) -> Found
+    requires { ⌜ RowFits (now items) p first (now answers) × (countIn span ≤ 1000) × (countIn span ≤ length (now ends)) ⌝ }
+    requires { ⌜ TellsClear span (clearAt (rowBefore (now items) first (now answers) p) (span .y0)) (now ends) × (sink ≡ 4294967295 → ⊥) × (class ≡ 4294967295 → ⊥) ⌝ }
+    ensures { λ r. ⌜ r ≡ levelAnswer (levelBy (rowBefore (now (items .entry)) first (now (answers .entry)) p) span sink class) ⌝ }
+{
+    if !has_clear(span, ends) {
+        return Found::None;
+    }
+    seek_level(items, p, first, answers, span, sink, class, ends)
 }
 
 // A level as an answer.
