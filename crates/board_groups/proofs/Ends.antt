@@ -5,18 +5,18 @@ use mathlib.Core.Path.{_≡_, refl, sym, ap, _∙_}
 use mathlib.Core.Bool.{Bool, true, false, not}
 use mathlib.Core.List.{List}
 use lib.Dec.{eqb}
-use lib.ListN.{length}
+use lib.ListN.{length, getD}
 use mir.Val.{boolByte}
 use Rattle.sheet.specs.Table.{MISSING}
 use Rattle.base.specs.Lists.{Found, none, at, newest}
-use Rattle.board.specs.Board.{Board, field, classOf, classInline, innerChip, innerClass}
+use Rattle.board.specs.Board.{Board, field, classOf, classInline, innerClass}
 use Rattle.board.specs.Refusals.{bodyOf, innerOf}
 use Rattle.board.specs.Groups.{anchorOf, isBussable, topChip}
 use Rattle.board.specs.Index.{Ids, entryOf, foundOf, link}
 use Rattle.board.specs.declared.ids.Found.{Found as FoundId}
 use Rattle.board.specs.declared.ids.Found.the-variants.{At, Nothing}
 use Rattle.board.specs.Tables.{held, flag}
-use Rattle.board_groups.specs.Collecting.{Indexes}
+use Rattle.board_groups.specs.Collecting.{Indexes, innerAnchor, InnerAnchors}
 use Rattle.base.proofs.Bools.{never}
 use Rattle.board.proofs.Newest.{newest-same, link-below}
 
@@ -50,7 +50,7 @@ module _ (b : Board) (id : ℕ) where
     bussable-body = rw (e, isBussable)
 
   module _ (e : bodyOf b id ≡ none) where
-    pub anchor-inner : (f : ℕ) → innerOf b id ≡ at f → anchorOf b id ≡ bodyOf b (topChip b (length (b .chips)) (innerChip b f))
+    pub anchor-inner : (f : ℕ) → innerOf b id ≡ at f → anchorOf b id ≡ innerAnchor b f
     unfolding anchorOf
     anchor-inner f g = rw (e, g, anchorOf)
 
@@ -97,9 +97,16 @@ pub entry-below : (ids : List (List ℕ)) (n id i : ℕ) → entryOf ids n id �
 unfolding entryOf
 entry-below ids n id i e = found-below (λ j. eqb (field ids j 0) id) n i e
 
+-- The anchor of an inner record, as `find_anchors` finds it.
+pub anchor-found : (nodes chips inner bi : List (List ℕ)) → Ids bi (length nodes) (λ i. field nodes i 1) → (f top r : ℕ)
+    → ((b : Board) → b .chips ≡ chips → top ≡ topChip b (length chips) (field inner f 2)) → r ≡ held (entryOf bi (length nodes) top)
+    → (b : Board) → b .nodes ≡ nodes → b .chips ≡ chips → b .inner ≡ inner → r ≡ held (innerAnchor b f)
+anchor-found nodes chips inner bi known f top r t e b n c i =
+    e ∙ ap held (body-entry nodes bi known top b n ∙ ap (bodyOf b) (t b c ∙ (λ z. topChip b (length (sym c z)) (field (sym i z) f 2))))
+
 -- The end at a node: what `find_end` finds of a board whose body nodes and nodes inside chips are indexed.
-module _ (nodes chips inner bi ii : List (List ℕ)) (known : Indexes nodes inner bi ii) (id i : ℕ) (is : i ≡ held (entryOf bi (length nodes) id))
-    (b : Board) (n : b .nodes ≡ nodes) (c : b .chips ≡ chips) (f : b .inner ≡ inner) where
+module _ (nodes inner bi ii : List (List ℕ)) (known : Indexes nodes inner bi ii) (id i : ℕ) (is : i ≡ held (entryOf bi (length nodes) id))
+    (b : Board) (n : b .nodes ≡ nodes) (f : b .inner ≡ inner) where
   module _ (h : i < length nodes) where
     at-body : bodyOf b id ≡ at i
     at-body = sym (body-entry nodes bi (known .body) id b n) ∙ entry-there nodes bi (known .body) id (known .few) i (sym is) h
@@ -118,12 +125,12 @@ module _ (nodes chips inner bi ii : List (List ℕ)) (known : Indexes nodes inne
       at-inner : innerOf b id ≡ at j
       at-inner = sym (inner-entry inner ii (known .inside) id b f) ∙ entry-there inner ii (known .inside) id (known .fewInner) j (sym is-inner) k
 
-      pub end-inner : (top r : ℕ) → ((b : Board) → b .chips ≡ chips → top ≡ topChip b (length chips) (field inner j 2)) → r ≡ held (entryOf bi (length nodes) top)
-          → (r ≡ held (anchorOf b id)) × (not (eqb (field inner j 3) 2) ≡ isBussable b id)
-      end-inner top r t e = (
-        e ∙ ap held (body-entry nodes bi (known .body) top b n ∙ ap (bodyOf b) (t b c ∙ (λ z. topChip b (length (sym c z)) (field (sym f z) j 2))) ∙ sym (anchor-inner b id no-body j at-inner)),
-        (λ z. not (eqb (field (sym f z) j 3) 2)) ∙ sym (bussable-inner b id no-body j at-inner),
-      )
+      pub end-inner : (anchors : List ℕ) → InnerAnchors b anchors → (getD anchors j 0 ≡ held (anchorOf b id)) × (not (eqb (field inner j 3) 2) ≡ isBussable b id)
+      end-inner anchors a =
+          let same : length (b .inner) ≡ length inner = ap length f in (
+            a j (omega arith) ∙ sym (ap held (anchor-inner b id no-body j at-inner)),
+            (λ z. not (eqb (field (sym f z) j 3) 2)) ∙ sym (bussable-inner b id no-body j at-inner),
+          )
 
     pub end-none : length inner ≤ j → (MISSING ≡ held (anchorOf b id)) × (false ≡ isBussable b id)
     end-none k =

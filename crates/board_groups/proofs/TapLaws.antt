@@ -211,7 +211,7 @@ ends-all b facts n all known =
       opens = λ w h. known .opens w (omega arith);
     }
 
--- A wire's row with its ends, as `find_ends` writes it.
+-- A wire's row with its ends, as `write_ends` writes it.
 abbrev pub endsRow : List (List ℕ) → ℕ → ℕ → ℕ → ℕ → List ℕ
 endsRow facts w s t f = field facts w 0 ∷ field facts w 1 ∷ s ∷ t ∷ f ∷ 0 ∷ 0 ∷ 0 ∷ []
 

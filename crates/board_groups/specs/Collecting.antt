@@ -11,12 +11,13 @@ use Rattle.base.specs.Keys.{Rising}
 use Rattle.lanes.specs.LaneCall.{rowMost, countMost}
 use Rattle.board_groups.specs.declared.rows.Run.{Run}
 use Rattle.base.specs.Lists.{Found, none, at}
-use Rattle.board.specs.Board.{Board, field, hasRow, pageOf, downOf}
+use Rattle.board.specs.Board.{Board, field, hasRow, pageOf, downOf, innerChip}
+use Rattle.board.specs.Refusals.{bodyOf}
 use Rattle.board.specs.Index.{Ids}
 use Rattle.board.specs.Rows.{brickCell}
-use Rattle.board.specs.Groups.{Tap}
+use Rattle.board.specs.Groups.{Tap, topChip}
 use Rattle.board.specs.Demands.{needsLane}
-use Rattle.board.specs.Tables.{groupRow}
+use Rattle.board.specs.Tables.{held, groupRow}
 
 -- Above the x end of every brick: the rank of an x end counts down from it.
 abbrev pub END_MOST : ℕ
@@ -53,6 +54,14 @@ pub record Indexes (nodes inner bodyIds innerIds : List (List ℕ)) : Type 0 whe
   pub fewInner : length inner ≤ libraryMost .inner
   pub body : Ids bodyIds (length nodes) (λ i. field nodes i 1)
   pub inside : Ids innerIds (length inner) (λ f. field inner f 1)
+
+-- G2: the anchor of inner record f, the brick of its chip's top chip.
+abbrev pub innerAnchor : Board → ℕ → Found
+innerAnchor b f = bodyOf b (topChip b (length (b .chips)) (innerChip b f))
+
+-- The anchors of all inner records, entry by entry.
+abbrev pub InnerAnchors : Board → List ℕ → Type 0
+InnerAnchors b anchors = (f : ℕ) → f < length (b .inner) → getD anchors f 0 ≡ held (innerAnchor b f)
 
 -- One more than the greatest number of 32 bits.
 abbrev pub WORD : ℕ

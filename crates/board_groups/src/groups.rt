@@ -1,16 +1,14 @@
 // `collect_bus_groups`: which wires a lane may carry, and which of them share one. First each wire's ends, then its target, then its tap.
+use crate::anchors::CLASS_INLINE;
+use crate::anchors::find_ends;
 use crate::execs::sort_execs;
 use crate::execs::targets_exec;
 use crate::shares::share_groups;
-use base::ids::NodeId;
 use base::numbers::KIND_CHIP;
 use base::numbers::MISSING;
 use base::rows::IdRow;
 use base::rows::Record;
 use base::rows::WorkRow;
-use board::ids::Found;
-use board::ids::find_id;
-use board::ids::top_chip;
 ghost use mathlib.Core.Path.{_≡_};
 ghost use mathlib.Core.Bool.{not, _&&_, _||_};
 ghost use mathlib.Core.List.{List, []};
@@ -20,9 +18,7 @@ ghost use Rattle.sheet.specs.Table.{libraryMost};
 ghost use lib.ListN.{length, getD};
 ghost use Rattle.base.specs.Lists.{any, upto};
 ghost use Rattle.board.specs.Board.{Board, field, given, kindChip, kindInput, kindCoerce, classStorage, classInline, sourceNode, targetNode};
-ghost use Rattle.board.specs.Groups.{anchorOf, isBussable, wireOpen};
-ghost use Rattle.board.specs.Index.{Index, entryOf};
-ghost use Rattle.board.specs.Groups.{Tap, addWire, tapsOf};
+ghost use Rattle.board.specs.Groups.{Tap, anchorOf, wireOpen, addWire, tapsOf};
 ghost use Rattle.base.specs.Views.{view};
 ghost use Rattle.board.specs.Tables.{held, flag, tapIn, tapTarget, NodeFacts, WireFacts, TapTargets};
 ghost use Rattle.board_groups.specs.Collecting.{Indexes, ExecKeys};
@@ -33,81 +29,6 @@ const KIND_INPUT: u32 = 3;
 const KIND_COERCE: u32 = 5;
 
 const CLASS_STORAGE: u32 = 1;
-
-const CLASS_INLINE: u32 = 2;
-
-const PORT_LAYOUT: u32 = 0;
-
-// The entry that has the id, or MISSING.
-fn held_id(index: &[IdRow], n: usize, id: NodeId) -> u32
-    requires { ⌜ Index (now index) n ⌝ }
-    requires { ⌜ n ≤ libraryMost .nodes ⌝ }
-    ensures { λ r. ⌜ r ≡ held (entryOf (now (index .entry)) n (id .0)) ⌝ }
-{
-    match find_id(index, n, id) {
-        Found::At(i) => i as u32,
-        Found::Nothing => MISSING,
-    }
-}
-
-// A wire's end: the anchor of its node, and whether the node itself may be on the bus.
-pub struct End {
-    pub anchor: u32,
-    pub open: bool,
-}
-
-// G2: the end at a node. A body node is its own anchor, a node inside a chip has the brick of the chip's top chip.
-fn find_end(
-    nodes: &[Record],
-    chips: &[Record],
-    inner: &[Record],
-    body_index: &[IdRow],
-    inner_index: &[IdRow],
-    id: NodeId,
-) -> End
-    requires { ⌜ Indexes (now nodes) (now inner) (now «body_index») (now «inner_index») ⌝ }
-    ensures { λ r. ⌜ ((b : Board) → b .nodes ≡ now (nodes .entry) → b .chips ≡ now (chips .entry) → b .inner ≡ now (inner .entry)
-        → (r .anchor ≡ held (anchorOf b (id .0))) × (r .open ≡ isBussable b (id .0))) ⌝ }
-{
-    let anchor = held_id(body_index, nodes.len(), id);
-    let i = anchor as usize;
-    if i < nodes.len() {
-        let node = nodes[i];
-        return End {
-            anchor,
-            open: node[3] != CLASS_INLINE,
-        };
-    }
-    let f = held_id(inner_index, inner.len(), id) as usize;
-    if f < inner.len() {
-        let record = inner[f];
-        let top = top_chip(chips, chips.len(), NodeId(record[2]));
-        return End {
-            anchor: held_id(body_index, nodes.len(), top),
-            open: record[3] != CLASS_INLINE,
-        };
-    }
-    End {
-        anchor: MISSING,
-        open: false,
-    }
-}
-
-// The tests on a wire before any on its anchors.
-fn wire_open(wire: [u32; 16], source_open: bool, target_open: bool) -> bool
-    ensures { λ r. ⌜ r ≡ (not (eqb (getD wire 2 0) 0) && not (eqb (getD wire 4 0) 0) && not (eqb (getD wire 1 0) (getD wire 3 0)) && «source_open» && «target_open») ⌝ }
-{
-    if wire[2] == PORT_LAYOUT {
-        return false;
-    }
-    if wire[4] == PORT_LAYOUT {
-        return false;
-    }
-    if wire[1] == wire[3] {
-        return false;
-    }
-    if source_open { target_open } else { false }
-}
 
 // G3: whether an anchor is bus-worthy, by its kind, its pin or its class.
 pub fn is_bus_worthy_source(node: [u32; 16]) -> bool
@@ -130,56 +51,6 @@ pub fn crosses_at(anchor: [u32; 16], id: u32) -> bool
         return true;
     }
     anchor[2] == KIND_CHIP
-}
-
-// Finds the ends of every wire: both anchors, and whether it passes the tests before any on them. What is known of the nodes stays.
-fn find_ends(
-    nodes: &[Record],
-    chips: &[Record],
-    inner: &[Record],
-    wires: &[Record],
-    body_index: &[IdRow],
-    inner_index: &[IdRow],
-    facts: &mut [WorkRow],
-)
-    requires { ⌜ Indexes (now nodes) (now inner) (now «body_index») (now «inner_index») ⌝ }
-    requires { ⌜ length (now wires) ≤ length (now facts) ⌝ }
-    ensures { λ _. ⌜ ((b : Board) → b .nodes ≡ now (nodes .entry) → b .chips ≡ now (chips .entry) → b .inner ≡ now (inner .entry) → b .wires ≡ now (wires .entry)
-        → NodeFacts b (now (facts .entry)) → NodeFacts b (now (facts .exit)) × WireFacts b (now (facts .exit))) ⌝ }
-{
-    let mut w: usize = 0;
-    while w < wires.len() {
-        let wire = wires[w];
-        let source = find_end(
-            nodes,
-            chips,
-            inner,
-            body_index,
-            inner_index,
-            NodeId(wire[1]),
-        );
-        let target = find_end(
-            nodes,
-            chips,
-            inner,
-            body_index,
-            inner_index,
-            NodeId(wire[3]),
-        );
-        let open = wire_open(wire, source.open, target.open);
-        let row = facts[w];
-        facts[w] = [
-            row[0],
-            row[1],
-            source.anchor,
-            target.anchor,
-            open as u32,
-            0,
-            0,
-            0,
-        ];
-        w += 1;
-    }
 }
 
 // The tests on a wire's anchors.

@@ -6,21 +6,22 @@ use mathlib.Core.Path.{_≡_, refl, sym, ap, _∙_, subst}
 use lib.ListN.{length, length-set}
 use Rattle.board.specs.Board.{Board}
 use Rattle.board.specs.Tables.{NodeFacts}
+use Rattle.board_groups.specs.Collecting.{InnerAnchors}
 use Rattle.board_groups.proofs.TapLaws.{EndsUpto, ends-none, ends-all, ends-nodes, ends-more}
-use Rattle.board_groups.proofs.groups.find_ends.Statement.{statement}
-use Rattle.board_groups.proofs.groups.find_ends.Tie as tie
+use Rattle.board_groups.proofs.anchors.write_ends.Statement.{statement}
+use Rattle.board_groups.proofs.anchors.write_ends.Tie as tie
 
 abbrev Inv-loop : tie.InvT-loop
-Inv-loop nodes chips inner wires body-index inner-index facts₀ w₀ facts w = (w ≤ length wires) × (length facts ≡ length facts₀) × ((b : Board) → b .nodes ≡ nodes → b .chips ≡ chips → b .inner ≡ inner → b .wires ≡ wires → NodeFacts b facts₀ → NodeFacts b facts × EndsUpto b facts w)
+Inv-loop nodes inner wires anchors body-index inner-index facts₀ w₀ facts w = (w ≤ length wires) × (length facts ≡ length facts₀) × ((b : Board) → b .nodes ≡ nodes → b .inner ≡ inner → b .wires ≡ wires → InnerAnchors b anchors → NodeFacts b facts₀ → NodeFacts b facts × EndsUpto b facts w)
 
 abbrev μ-loop : tie.MeasureT-loop
-μ-loop nodes chips inner wires body-index inner-index facts₀ w₀ facts w = length wires - w
+μ-loop nodes inner wires anchors body-index inner-index facts₀ w₀ facts w = length wires - w
 
 w-small : (c : tie.In-loop Inv-loop μ-loop) → c .before .loop .w * 64 < 2 ^ 63
 w-small c = omega arith
 
 loop-holds : tie.Need-loop-holds Inv-loop μ-loop
-loop-holds c = (search needs, refl, λ b n p f e k. (k, ends-none b _))
+loop-holds c = (search needs, refl, λ b n f e a k. (k, ends-none b _))
 
 mul-wire : tie.Need-mul-wire Inv-loop μ-loop
 mul-wire c = search needs
@@ -32,13 +33,13 @@ array-read-t20 : tie.Need-array-read-t20 Inv-loop μ-loop
 array-read-t20 c = search needs
 
 find-end-requires : tie.Need-find-end-requires Inv-loop μ-loop
-find-end-requires c κs = c .before .before .before .pre .0
+find-end-requires c κs = let s = c .before .before .before .before in (s .pre .0, s .pre .1 .0)
 
 array-read-t20-2 : tie.Need-array-read-t20-2 Inv-loop μ-loop
 array-read-t20-2 c = search needs
 
 find-end-requires-2 : tie.Need-find-end-requires-2 Inv-loop μ-loop
-find-end-requires-2 c κs = c .before .before .before .before .pre .0
+find-end-requires-2 c κs = let s = c .before .before .before .before .before in (s .pre .0, s .pre .1 .0)
 
 wire-open-requires : tie.Need-wire-open-requires Inv-loop μ-loop
 wire-open-requires c κs = search needs
@@ -74,15 +75,15 @@ loop-again : tie.Need-loop-again Inv-loop μ-loop
 loop-again c =
     let o = c .before in
     let l = o .before .before .before .before .before in
-    let wide = l .before .pre .1 in
+    let wide = l .before .before .pre .1 .1 in
     let kept = l .loop .inv .1 in
     let room : l .loop .w < length (l .loop .facts) = omega arith in (
       search needs,
       length-set (l .loop .facts) _ _ ∙ l .loop .inv .1,
-      λ b n p f e k.
-          let i = l .loop .inv .2 b n p f e k in (
+      λ b n f e a k.
+          let i = l .loop .inv .2 b n f e a k in (
             ends-nodes b (l .loop .facts) (l .loop .w) _ _ _ room (i .0),
-            ends-more b (l .loop .facts) (l .loop .w) _ _ _ room _ e _ _ (o .wire-open .result) (o .before .before .find-end .ensures b n p f) (o .before .find-end2 .ensures b n p f) (o .wire-open .ensures) (byte-flag (o .wire-open .result)) (i .1),
+            ends-more b (l .loop .facts) (l .loop .w) _ _ _ room _ e _ _ (o .wire-open .result) (o .before .before .find-end .ensures b n f a) (o .before .find-end2 .ensures b n f a) (o .wire-open .ensures) (byte-flag (o .wire-open .result)) (i .1),
           ),
     )
 
@@ -90,10 +91,10 @@ same-length : tie.Need-same-length Inv-loop μ-loop
 same-length c = c .before .loop .inv .1
 
 returns : tie.Need-returns Inv-loop μ-loop
-returns c = λ b n p f e k. let i = c .before .loop .inv .2 b n p f e k in (i .0, ends-all b _ (c .before .loop .w) (let q = ap length e in omega arith) (i .1))
+returns c = λ b n f e a k. let i = c .before .loop .inv .2 b n f e a k in (i .0, ends-all b _ (c .before .loop .w) (let q = ap length e in omega arith) (i .1))
 
-pub find-ends-spec : {M : Type 1} → statement M
-find-ends-spec =
+pub write-ends-spec : {M : Type 1} → statement M
+write-ends-spec =
     tie.close
     (tie.spec
     Inv-loop

@@ -1,8 +1,8 @@
 use borrow.Author.Tests.{eq-eqb, ne-eqb}
 use mathlib.Core.Path.{refl}
 use borrow.Author.Needs.{needs}
-use Rattle.board_groups.proofs.groups.wire_open.Statement.{statement}
-use Rattle.board_groups.proofs.groups.wire_open.Tie as tie
+use Rattle.board_groups.proofs.anchors.wire_open.Statement.{statement}
+use Rattle.board_groups.proofs.anchors.wire_open.Tie as tie
 
 array-read-if1 : tie.Need-array-read-if1
 array-read-if1 c = search needs

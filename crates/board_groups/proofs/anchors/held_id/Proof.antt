@@ -6,8 +6,8 @@ use Rattle.board.specs.Index.{entryOf}
 use Rattle.board.specs.Tables.{held}
 use Rattle.board_groups.proofs.Ends.{found-at, found-nothing, entry-below}
 use borrow.Author.Needs.{needs}
-use Rattle.board_groups.proofs.groups.held_id.Statement.{statement}
-use Rattle.board_groups.proofs.groups.held_id.Tie as tie
+use Rattle.board_groups.proofs.anchors.held_id.Statement.{statement}
+use Rattle.board_groups.proofs.anchors.held_id.Tie as tie
 
 abbrev search-of : tie.After-known-told → tie.After-find-id
 search-of c = c .before .before .before

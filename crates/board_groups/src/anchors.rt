@@ -1,0 +1,194 @@
+// The ends of the wires: each one's anchor, and whether the wire passes the tests before any on its anchors.
+use base::ids::NodeId;
+use base::numbers::MISSING;
+use base::rows::IdRow;
+use base::rows::Record;
+use base::rows::WorkRow;
+use board::ids::Found;
+use board::ids::find_id;
+use board::ids::top_chip;
+ghost use mathlib.Core.Path.{_≡_};
+ghost use mathlib.Core.Bool.{not, _&&_};
+ghost use Prim.Native.Nat.{_≤_};
+ghost use lib.Dec.{eqb};
+ghost use Rattle.sheet.specs.Table.{libraryMost};
+ghost use lib.ListN.{length, getD};
+ghost use Rattle.board.specs.Board.{Board, field};
+ghost use Rattle.board.specs.Groups.{anchorOf, isBussable};
+ghost use Rattle.board.specs.Index.{Index, Ids, entryOf};
+ghost use Rattle.board.specs.Tables.{held, NodeFacts, WireFacts};
+ghost use Rattle.board_groups.specs.Collecting.{Indexes, InnerAnchors};
+
+pub const CLASS_INLINE: u32 = 2;
+
+const PORT_LAYOUT: u32 = 0;
+
+// The entry that has the id, or MISSING.
+fn held_id(index: &[IdRow], n: usize, id: NodeId) -> u32
+    requires { ⌜ Index (now index) n ⌝ }
+    requires { ⌜ n ≤ libraryMost .nodes ⌝ }
+    ensures { λ r. ⌜ r ≡ held (entryOf (now (index .entry)) n (id .0)) ⌝ }
+{
+    match find_id(index, n, id) {
+        Found::At(i) => i as u32,
+        Found::Nothing => MISSING,
+    }
+}
+
+// A wire's end: the anchor of its node, and whether the node itself may be on the bus.
+pub struct End {
+    pub anchor: u32,
+    pub open: bool,
+}
+
+// G2: the anchors of the nodes inside chips, found once for all wires: the brick of each one's top chip.
+fn find_anchors(
+    nodes: &[Record],
+    chips: &[Record],
+    inner: &[Record],
+    body_index: &[IdRow],
+    anchors: &mut [u32],
+)
+    requires { ⌜ (length (now nodes) ≤ libraryMost .nodes) × Ids (now «body_index») (length (now nodes)) (λ i. field (now nodes) i 1) ⌝ }
+    requires { ⌜ length (now inner) ≤ length (now anchors) ⌝ }
+    ensures { λ _. ⌜ ((b : Board) → b .nodes ≡ now (nodes .entry) → b .chips ≡ now (chips .entry) → b .inner ≡ now (inner .entry) → InnerAnchors b (now (anchors .exit))) ⌝ }
+{
+    let mut f: usize = 0;
+    while f < inner.len() {
+        let record = inner[f];
+        let top = top_chip(chips, chips.len(), NodeId(record[2]));
+        anchors[f] = held_id(body_index, nodes.len(), top);
+        f += 1;
+    }
+}
+
+// G2: the end at a node. A body node is its own anchor, a node inside a chip has the one found for it.
+fn find_end(
+    nodes: &[Record],
+    inner: &[Record],
+    anchors: &[u32],
+    body_index: &[IdRow],
+    inner_index: &[IdRow],
+    id: NodeId,
+) -> End
+    requires { ⌜ Indexes (now nodes) (now inner) (now «body_index») (now «inner_index») ⌝ }
+    requires { ⌜ length (now inner) ≤ length (now anchors) ⌝ }
+    ensures { λ r. ⌜ ((b : Board) → b .nodes ≡ now (nodes .entry) → b .inner ≡ now (inner .entry) → InnerAnchors b (now (anchors .entry))
+        → (r .anchor ≡ held (anchorOf b (id .0))) × (r .open ≡ isBussable b (id .0))) ⌝ }
+{
+    let anchor = held_id(body_index, nodes.len(), id);
+    let i = anchor as usize;
+    if i < nodes.len() {
+        let node = nodes[i];
+        return End {
+            anchor,
+            open: node[3] != CLASS_INLINE,
+        };
+    }
+    let f = held_id(inner_index, inner.len(), id) as usize;
+    if f < inner.len() {
+        let record = inner[f];
+        return End {
+            anchor: anchors[f],
+            open: record[3] != CLASS_INLINE,
+        };
+    }
+    End {
+        anchor: MISSING,
+        open: false,
+    }
+}
+
+// The tests on a wire before any on its anchors.
+fn wire_open(wire: [u32; 16], source_open: bool, target_open: bool) -> bool
+    ensures { λ r. ⌜ r ≡ (not (eqb (getD wire 2 0) 0) && not (eqb (getD wire 4 0) 0) && not (eqb (getD wire 1 0) (getD wire 3 0)) && «source_open» && «target_open») ⌝ }
+{
+    if wire[2] == PORT_LAYOUT {
+        return false;
+    }
+    if wire[4] == PORT_LAYOUT {
+        return false;
+    }
+    if wire[1] == wire[3] {
+        return false;
+    }
+    if source_open { target_open } else { false }
+}
+
+// Writes the ends of every wire: both anchors, and whether it passes the tests before any on them. What is known of the nodes stays.
+fn write_ends(
+    nodes: &[Record],
+    inner: &[Record],
+    wires: &[Record],
+    anchors: &[u32],
+    body_index: &[IdRow],
+    inner_index: &[IdRow],
+    facts: &mut [WorkRow],
+)
+    requires { ⌜ Indexes (now nodes) (now inner) (now «body_index») (now «inner_index») ⌝ }
+    requires { ⌜ (length (now inner) ≤ length (now anchors)) × (length (now wires) ≤ length (now facts)) ⌝ }
+    ensures { λ _. ⌜ ((b : Board) → b .nodes ≡ now (nodes .entry) → b .inner ≡ now (inner .entry) → b .wires ≡ now (wires .entry) → InnerAnchors b (now (anchors .entry))
+        → NodeFacts b (now (facts .entry)) → NodeFacts b (now (facts .exit)) × WireFacts b (now (facts .exit))) ⌝ }
+{
+    let mut w: usize = 0;
+    while w < wires.len() {
+        let wire = wires[w];
+        let source = find_end(
+            nodes,
+            inner,
+            anchors,
+            body_index,
+            inner_index,
+            NodeId(wire[1]),
+        );
+        let target = find_end(
+            nodes,
+            inner,
+            anchors,
+            body_index,
+            inner_index,
+            NodeId(wire[3]),
+        );
+        let open = wire_open(wire, source.open, target.open);
+        let row = facts[w];
+        facts[w] = [
+            row[0],
+            row[1],
+            source.anchor,
+            target.anchor,
+            open as u32,
+            0,
+            0,
+            0,
+        ];
+        w += 1;
+    }
+}
+
+// Finds the ends of every wire. Nodes inside chips get their anchors first, so that a chip's parents are not walked again for each wire.
+pub fn find_ends(
+    nodes: &[Record],
+    chips: &[Record],
+    inner: &[Record],
+    wires: &[Record],
+    body_index: &[IdRow],
+    inner_index: &[IdRow],
+    facts: &mut [WorkRow],
+)
+    requires { ⌜ Indexes (now nodes) (now inner) (now «body_index») (now «inner_index») ⌝ }
+    requires { ⌜ length (now wires) ≤ length (now facts) ⌝ }
+    ensures { λ _. ⌜ ((b : Board) → b .nodes ≡ now (nodes .entry) → b .chips ≡ now (chips .entry) → b .inner ≡ now (inner .entry) → b .wires ≡ now (wires .entry)
+        → NodeFacts b (now (facts .entry)) → NodeFacts b (now (facts .exit)) × WireFacts b (now (facts .exit))) ⌝ }
+{
+    let mut anchors = [0u32; 4096];
+    find_anchors(nodes, chips, inner, body_index, &mut anchors);
+    write_ends(
+        nodes,
+        inner,
+        wires,
+        &anchors,
+        body_index,
+        inner_index,
+        facts,
+    );
+}
