@@ -4,6 +4,7 @@ pub mod LevelLaws
 pub mod PageLaws
 pub mod Paging
 pub mod PickLaws
+pub mod Picking
 pub mod Searches
 pub mod ShareLaws
 pub mod StopLaws

@@ -201,6 +201,12 @@ module _ (free : ℕ → Bool) (x size count : ℕ) (h : size ≤ count) where
   pub in-window : (l : ℕ) → lowest free x size ≡ at l → lowest free x count ≡ at l
   in-window l e = ap (lowest free x) split ∙ lowest-first free x size (count - size) l e
 
+pub past-none : (free : ℕ → Bool) (base count : ℕ) → lowest free base count ≡ lowest free (base + STAGGER_STEP * 0) (count - 0)
+past-none free base count =
+    let z : base ≡ base + 2 * 0 = omega arith in
+    let n : count ≡ count - 0 = omega arith in
+    λ w. lowest free (z w) (n w)
+
 pub past-more : (free : ℕ → Bool) (base done size count : ℕ) → done + size ≤ count → lowest free (base + STAGGER_STEP * done) size ≡ none
     → lowest free (base + STAGGER_STEP * done) (count - done) ≡ lowest free (base + STAGGER_STEP * (done + size)) (count - (done + size))
 past-more free base done size count h e =

@@ -10,7 +10,7 @@ use Rattle.sheet.specs.Table.{MISSING}
 use Rattle.base.specs.Lists.{Found, none, at}
 use Rattle.base.specs.Runs.{having}
 use Rattle.routes.specs.Stops.{near}
-use Rattle.routes.specs.Levels.{Stop, STAGGER_STEP, lightest, loadAt, unclaimed}
+use Rattle.routes.specs.Levels.{Stop, STAGGER_STEP, lowest, lightest, loadAt, unclaimed}
 use Rattle.routes_levels.specs.Laying.{levelAnswer}
 use Rattle.routes_levels.specs.declared.levels.Found.{Found as LevelFound}
 
@@ -42,6 +42,10 @@ openIn lane x = not (nearOne lane x (length lane))
 
 unfoldable pub freeIn : List ℕ → List ℕ → ℕ → Bool
 freeIn row lane x = eqb (loadIn row x) 0 && openIn lane x
+
+-- The lowest free of so many levels, else the least loaded that is unclaimed, or none.
+unfoldable pub picked : List ℕ → List ℕ → ℕ → ℕ → Found
+picked row lane base count = elim (lowest (freeIn row lane) base count) [ at l ↦ at l | none ↦ lightest (openIn lane) (loadIn row) base count ]
 
 -- What the levels of a window weigh, from the given one on.
 pub record Weighed (row lane : List ℕ) (start : ℕ) (loads : List ℕ) : Type 0 where

@@ -13,7 +13,7 @@ ghost use Rattle.sheet.specs.Table.{MISSING};
 ghost use Rattle.routes.specs.Stops.{near};
 ghost use Rattle.routes.specs.Levels.{STAGGER_STEP, lowest};
 ghost use Rattle.routes_levels.specs.Laying.{levelAnswer};
-ghost use Rattle.routes_levels.specs.Search.{counted, weigh, nearOne, loadIn, openIn, freeIn, Weighed, Best};
+ghost use Rattle.routes_levels.specs.Search.{counted, weigh, nearOne, loadIn, openIn, freeIn, picked, Weighed, Best};
 
 // What a claimed level weighs: more than any load.
 pub const CLAIMED: u32 = MISSING;
@@ -141,6 +141,22 @@ pub fn lightest_in(loads: &[u32], start: u32, size: u32, best: Lightest) -> Ligh
         level: level,
         load: least,
     }
+}
+
+// V3, V7: of the first `size` levels of a window the lowest free one, else the lightest that can be claimed, or none.
+pub fn pick_in(loads: &[u32], start: u32, size: u32) -> Found
+    requires { ⌜ (size ≤ length (now loads)) × (start + STAGGER_STEP * size ≤ MISSING) ⌝ }
+    ensures { λ r. ⌜ ((row lane : List ℕ) → length row < MISSING → Weighed row lane start (now (loads .entry)) → r ≡ levelAnswer (picked row lane start size)) ⌝ }
+{
+    if let Found::At(level) = lowest_in(loads, start, size) {
+        return Found::At(level);
+    }
+    let none = Lightest {
+        level: Found::None,
+        load: CLAIMED,
+    };
+    let best = lightest_in(loads, start, size, none);
+    best.level
 }
 
 // `claim_column`'s test: no claim of the lane overlaps the span of 2 at `level`.

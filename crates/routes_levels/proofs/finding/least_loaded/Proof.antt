@@ -23,14 +23,14 @@ lesser-requires c κs = search needs
 sub-k : tie.Need-sub-k Inv-loop μ-loop
 sub-k c = omega (arith, c .lesser .ensures)
 
-mul-lightest-in-window : tie.Need-mul-lightest-in-window Inv-loop μ-loop
-mul-lightest-in-window c = omega (arith, c .before .before .before .before .before .pre .1, c .before .before .loop .inv .0)
+mul-lightest-in-many : tie.Need-mul-lightest-in-many Inv-loop μ-loop
+mul-lightest-in-many c = omega (arith, c .before .before .before .before .before .pre .1, c .before .before .loop .inv .0)
 
-add-lightest-in-window : tie.Need-add-lightest-in-window Inv-loop μ-loop
-add-lightest-in-window c = omega (arith, c .before .before .before .before .before .pre .1, c .before .before .loop .inv .0)
+add-lightest-in-many : tie.Need-add-lightest-in-many Inv-loop μ-loop
+add-lightest-in-many c = omega (arith, c .before .before .before .before .before .pre .1, c .before .before .loop .inv .0)
 
-lightest-in-window-requires : tie.Need-lightest-in-window-requires Inv-loop μ-loop
-lightest-in-window-requires c κs = (c .before .before .before .before .before .pre .0, omega (arith, c .lesser .ensures), omega (arith, c .lesser .ensures, c .before .before .before .before .before .pre .1, c .before .before .loop .inv .0))
+lightest-in-many-requires : tie.Need-lightest-in-many-requires Inv-loop μ-loop
+lightest-in-many-requires c κs = (c .before .before .before .before .before .pre .0, omega (arith, c .lesser .ensures), omega (arith, c .lesser .ensures, c .before .before .before .before .before .pre .1, c .before .before .loop .inv .0))
 
 loop-less : tie.Need-loop-less Inv-loop μ-loop
 loop-less c = omega (arith, c .before .lesser .ensures, c .before .before .loop-test .taken)
@@ -42,7 +42,7 @@ loop-again c =
     let size = c .before .lesser .result in
     let z : l .k ≡ l .k - size + size = omega (arith, c .before .lesser .ensures) in
     let b : Best (openIn (a .lane .now)) (loadIn (a .row .now)) (a .base) (a .count) (l .k - size + size) (l .best .level) (l .best .load) = rw z at (l .inv .1) in
-    (omega (arith, l .inv .0), c .lightest-in-window .ensures (a .base) (a .count) (l .k - size) refl (omega (arith, l .inv .0, c .before .lesser .ensures)) b)
+    (omega (arith, l .inv .0), c .lightest-in-many .ensures (a .base) (a .count) (l .k - size) refl (omega (arith, l .inv .0, c .before .lesser .ensures)) b)
 
 returns : tie.Need-returns Inv-loop μ-loop
 returns c = best-all _ _ _ _ _ _ _ (c .before .loop .inv .1) (c .loop-test .left)
@@ -56,9 +56,9 @@ least-loaded-spec =
     loop-holds
     lesser-requires
     sub-k
-    mul-lightest-in-window
-    add-lightest-in-window
-    lightest-in-window-requires
+    mul-lightest-in-many
+    add-lightest-in-many
+    lightest-in-many-requires
     loop-less
     loop-again
     returns)
