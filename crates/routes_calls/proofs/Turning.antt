@@ -55,6 +55,7 @@ module _ (b : Board) (a : Accepted b) where
       record {
         wiresFew = a .fewWires;
         endsLong = wf;
+        ports = λ w. a .target w .1;
         bricks = record { few = a .fewNodes; onFacts = nf; inRange = brick-in-range facts known };
         onPages = a .pageThere;
         inside = λ i h. in-edge i;

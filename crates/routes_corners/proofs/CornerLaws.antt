@@ -44,7 +44,7 @@ turns-rows b s t e =
     (and-right lines (hasRow b s) (and-left (lines && hasRow b s) (hasRow b t) both′), and-right (lines && hasRow b s) (hasRow b t) both′)
 
 -- An end is a body node exactly where its anchor has its id.
-pub newest-none : (p : ℕ → Bool) (n i : ℕ) → newest p n ≡ none → i < n → p i ≡ true → ⊥
+newest-none : (p : ℕ → Bool) (n i : ℕ) → newest p n ≡ none → i < n → p i ≡ true → ⊥
 newest-none p zero i e h t = omega arith
 newest-none p (suc n) i e h t = go (p n) refl e (decLt i n) (λ f l. newest-none p n i f l t)
   where

@@ -1,167 +1,230 @@
--- Wires by target port: a port's newest wire found along its chain, classes, and flags of suppressed ports.
-use Prim.Native.Nat.{ℕ, suc, _-_, _≤_, _<_}
+-- Wires by target port, along their sorted keys: classes, a port's place among the keys, and flags of suppressed ports.
+use Prim.Native.Nat.{ℕ, zero, suc, _+_, _*_, _-_, _/_, _≤_, _<_}
 use mathlib.Core.Path.{_≡_, refl, ap, sym, subst, _∙_}
-use mathlib.Core.Bool.{Bool, true, false, not, _&&_, _||_}
+use mathlib.Core.Bool.{Bool, true, false, not, _||_}
 use mathlib.Core.List.{List}
 use native.Mathlib.Omega.{arith}
+use native.Mathlib.Decide.{decLt, ℕ-discrete}
 use lib.Dec.{eqb}
-use lib.ListN.{length, getD, set}
+use lib.ListN.{length, getD, set, length-set}
 use lib.Seq.{getD-set-same, getD-set-other}
 use borrow.Author.Tests.{eq-eqb, ne-eqb, eqb-true, eqb-false}
-use Rattle.base.specs.Lists.{Found, none, at, newest}
-use Rattle.board.specs.Board.{field}
-use Rattle.board.specs.Index.{link}
+use Rattle.base.specs.Keys.{Risen, FirstNotBelow}
+use Rattle.base.proofs.Bools.{clash, both}
 use Rattle.base.proofs.Lists.{same-two}
-use Rattle.board.proofs.Newest.{Following, chain-start, chain-next, link-below, link-held, Implies}
+use Rattle.board.specs.Board.{field}
 use Rattle.routes.specs.Bus.{Port, samePort}
-use Rattle.routes_cells.specs.Chains.{BUCKETS, Empty}
-use Rattle.routes_cells.proofs.Walks.{chained-none, chained-on}
 use Rattle.routes_corners.specs.CornerTables.{portAt, Classed}
-use Rattle.routes_corners.specs.Ports.{portBucket, wireBucket, thePort, goesTo, WireWalk, classFor, Ported, PortRoom, FlaggedBy}
-use Rattle.routes_corners.proofs.CornerLaws.{newest-none, flag-set}
+use Rattle.routes_corners.specs.Ports.{portKey, wireKey, PortsLow, NUMBERS, wireAt, classAt, PortKeys, PortRoom, thePort, goesTo, FlaggedBy}
+use Rattle.routes_corners.proofs.CornerLaws.{flag-set}
+
+-- The keys of the wires, sorted.
+pub keys-sorted : (wires : List (List ℕ)) (given risen : List ℕ) → PortsLow wires → length wires ≤ NUMBERS → length wires ≤ length risen → Risen given risen (length wires)
+    → ((w : ℕ) → w < length wires → getD given w 0 ≡ wireKey wires w * NUMBERS + w) → PortKeys wires risen
+keys-sorted wires given risen low few room r is =
+    record {
+      few = few;
+      low = low;
+      room = room;
+      rising = r .rising;
+      comes = λ p h.
+          let f = r .from p h in
+          let value : getD risen p 0 ≡ wireKey wires (f .0) * NUMBERS + f .0 = sym (f .2) ∙ is (f .0) (f .1) in
+          let same : f .0 ≡ wireAt risen p = omega (arith, f .1) in
+          (omega (arith, f .1), value ∙ ap (λ (w : ℕ). wireKey wires w * NUMBERS + w) same);
+      reached = λ w h. let t = r .to w h in (t .0, t .1, t .2 ∙ is w h);
+    }
+
+-- Ports in range are the same where their keys are.
+pub ports-by-key : (node port node′ port′ : ℕ) → port ≤ 65535 → port′ ≤ 65535 → portKey node port ≡ portKey node′ port′ → samePort (thePort node port) (thePort node′ port′) ≡ true
+ports-by-key node port node′ port′ low low′ e =
+    both (eqb node node′) (eqb port port′) (eq-eqb node node′ (omega arith)) (eq-eqb port port′ (omega arith))
 
 -- Ports that are the same.
 pub port-same : (p q : Port) → samePort p q ≡ true → p ≡ q
 port-same p q e = let h = same-two (p .node) (q .node) (p .port) (q .port) e in λ i. record { node = h .0 i; port = h .1 i }
 
-eqb-swap : (a b : ℕ) → eqb a b ≡ eqb b a
-eqb-swap a b = go (eqb b a) refl
-  where
-    go : (t : Bool) → eqb b a ≡ t → eqb a b ≡ t
-    go true e = eq-eqb a b (sym (eqb-true b a e))
-    go false e = ne-eqb a b (λ z. eqb-false b a e (sym z))
+-- The class of wire w is c: the first wire with its key.
+pub record Leads (wires : List (List ℕ)) (w c : ℕ) : Type 0 where
+  pub low : c ≤ w
+  pub same : wireKey wires c ≡ wireKey wires w
+  pub first : (v : ℕ) → v < c → wireKey wires v ≡ wireKey wires w → ⊥
 
-port-swap : (p q : Port) → samePort p q ≡ samePort q p
-port-swap p q = λ i. eqb-swap (p .node) (q .node) i && eqb-swap (p .port) (q .port) i
-
-port-itself : (p : Port) → samePort p p ≡ true
-port-itself p = λ i. eq-eqb (p .node) (p .node) refl i && eq-eqb (p .port) (p .port) refl i
-
--- The wires of a port lie in its bucket.
-abbrev pub Seeking : List (List ℕ) → ℕ → ℕ → ℕ → ℕ → Type 0
-Seeking wires node port n l = Following (goesTo wires (thePort node port)) (λ i. eqb (wireBucket wires i) (portBucket node port)) n l
-
-module _ (wires : List (List ℕ)) (nexts heads : List ℕ) (n : ℕ) (walk : WireWalk wires nexts heads n) (node port : ℕ) where
-  implied : Implies (goesTo wires (thePort node port)) (λ i. eqb (wireBucket wires i) (portBucket node port))
-  implied i e =
-      let h = same-two (field wires i 3) node (field wires i 4) port e in
-      eq-eqb (wireBucket wires i) (portBucket node port) (λ j. portBucket (h .0 j) (h .1 j))
-
-  pub seek-start : (k : ℕ) → k ≡ portBucket node port → Seeking wires node port n (getD heads k 0)
-  seek-start k e =
-      subst (λ (m : ℕ). Seeking wires node port n (getD heads m 0)) (sym e)
-      (chain-start BUCKETS (wireBucket wires) nexts heads n (walk .chained) (goesTo wires (thePort node port)) (portBucket node port) implied (omega arith))
-
-  pub seek-next : (l : ℕ) → Seeking wires node port n l → (l ≡ 0 → ⊥) → goesTo wires (thePort node port) (l - 1) ≡ false → Seeking wires node port n (getD nexts (l - 1) 0)
-  seek-next l f nz no′ =
-      chain-next BUCKETS (wireBucket wires) nexts heads n (walk .chained) (goesTo wires (thePort node port)) (portBucket node port) implied l (l - 1) (omega (arith, nz)) f no′
-
-  pub seek-less : (l : ℕ) → Seeking wires node port n l → (l ≡ 0 → ⊥) → getD nexts (l - 1) 0 < l
-  seek-less l f nz =
-      let low = f .below in
-      let e : getD nexts (l - 1) 0 ≡ link (newest (λ j. eqb (wireBucket wires j) (wireBucket wires (l - 1))) (l - 1)) = walk .chained .next (l - 1) (omega (arith, nz)) in
-      let h = link-below (λ j. eqb (wireBucket wires j) (wireBucket wires (l - 1))) (l - 1) in
-      rw e (omega (arith, nz))
-
-  pub seek-inside : (l : ℕ) → Seeking wires node port n l → (l ≡ 0 → ⊥) → (l - 1 < length wires) × (l - 1 < length nexts)
-  seek-inside l f nz = let low = f .below in let r = walk .room in let q = walk .chained .entries in (omega (arith, nz), omega (arith, nz))
-
--- What is found passes and lies below.
-pub found-below : (p : ℕ → Bool) (n v : ℕ) → newest p n ≡ at v → (v < n) × (p v ≡ true)
-found-below p n v e = let l : link (newest p n) ≡ suc v = ap link e in let low = link-below p n in (omega arith, link-held p n v l)
-
--- What is not found does not pass.
-pub found-none : (p : ℕ → Bool) (n v : ℕ) → newest p n ≡ none → v < n → p v ≡ false
-found-none p n v e h = go (p v) refl
-  where
-    go : (t : Bool) → p v ≡ t → p v ≡ false
-    go true f = absurd (newest-none p n v e h f)
-    go false f = f
-
--- One more wire has its class.
-module _ (wires : List (List ℕ)) (classes : List ℕ) (n : ℕ) (c : Classed wires classes n) (room : n < length classes) where
-  abbrev here : ℕ → Bool
-  here v = goesTo wires (portAt wires n) v
-
-  classed-with : (k : ℕ) → k ≤ n → ((v : ℕ) → v < n → eqb (getD classes v 0) k ≡ here v) → Classed wires (set classes n k) (suc n)
-  classed-with k low same =
-      record {
-        same = λ v w hv hw. pair v w hv hw (eqb v n) (eqb w n) refl refl;
-        low = λ w h. below w h (eqb w n) refl;
-      }
+module _ (wires : List (List ℕ)) (low : PortsLow wires) where
+  same-by-key : (v w : ℕ) → samePort (portAt wires v) (portAt wires w) ≡ eqb (wireKey wires v) (wireKey wires w)
+  same-by-key v w = go (eqb (wireKey wires v) (wireKey wires w)) refl (samePort (portAt wires v) (portAt wires w)) refl
     where
-      new : (v : ℕ) → v ≡ n → getD (set classes n k) v 0 ≡ k
-      new v e = ap (λ j. getD (set classes n k) j 0) e ∙ getD-set-same classes n k 0 room
+      go : (s : Bool) → eqb (wireKey wires v) (wireKey wires w) ≡ s → (t : Bool) → samePort (portAt wires v) (portAt wires w) ≡ t → t ≡ s
+      go true e t f = sym f ∙ ports-by-key (field wires v 3) (field wires v 4) (field wires w 3) (field wires w 4) (low v) (low w) (eqb-true (wireKey wires v) (wireKey wires w) e)
+      go false e true f =
+          let h = same-two (field wires v 3) (field wires w 3) (field wires v 4) (field wires w 4) f in
+          absurd (eqb-false (wireKey wires v) (wireKey wires w) e (λ i. portKey (h .0 i) (h .1 i)))
+      go false e false f = refl
 
-      old : (v : ℕ) → (v ≡ n → ⊥) → getD (set classes n k) v 0 ≡ getD classes v 0
-      old v o = getD-set-other classes n v k 0 o
+  pub classed-by : (classes : List ℕ) (n : ℕ) → ((w : ℕ) → w < n → Leads wires w (getD classes w 0)) → Classed wires classes n
+  classed-by classes n leads =
+      record { same = λ v w hv hw. pair v w (leads v hv) (leads w hw) (eqb (wireKey wires v) (wireKey wires w)) refl ∙ sym (same-by-key v w); low = λ w h. leads w h .low }
+    where
+      pair : (v w : ℕ) → Leads wires v (getD classes v 0) → Leads wires w (getD classes w 0) → (t : Bool) → eqb (wireKey wires v) (wireKey wires w) ≡ t → eqb (getD classes v 0) (getD classes w 0) ≡ t
+      pair v w lv lw true e =
+          let keys = eqb-true (wireKey wires v) (wireKey wires w) e in
+          eq-eqb (getD classes v 0) (getD classes w 0)
+          (elim (decLt (getD classes v 0) (getD classes w 0)) [
+            | yes h ↦ absurd (lw .first (getD classes v 0) h (lv .same ∙ keys))
+            | no o ↦ elim (decLt (getD classes w 0) (getD classes v 0)) [ yes h ↦ absurd (lv .first (getD classes w 0) h (lw .same ∙ sym keys)) | no q ↦ omega arith ]
+          ])
+      pair v w lv lw false e =
+          ne-eqb (getD classes v 0) (getD classes w 0) (λ z. eqb-false (wireKey wires v) (wireKey wires w) e (sym (lv .same) ∙ (ap (wireKey wires) z ∙ lw .same)))
 
-      below : (w : ℕ) → w < suc n → (t : Bool) → eqb w n ≡ t → getD (set classes n k) w 0 ≤ w
-      below w h true e = let z = new w (eqb-true w n e) in let q = eqb-true w n e in omega arith
-      below w h false e = let o = eqb-false w n e in let z = old w o in let l = c .low w (omega (arith, o)) in omega arith
+-- What `class_at` gives.
+module _ (keys : List ℕ) (class : ℕ) where
+  pub class-first : (p : ℕ) → p ≡ 0 → wireAt keys p ≡ classAt keys p class
+  unfolding classAt
+  class-first zero e = refl
+  class-first (suc p) e = absurd (omega arith)
 
-      pair : (v w : ℕ) → v < suc n → w < suc n → (s t : Bool) → eqb v n ≡ s → eqb w n ≡ t → eqb (getD (set classes n k) v 0) (getD (set classes n k) w 0) ≡ samePort (portAt wires v) (portAt wires w)
-      pair v w hv hw true true e f =
-          let ev = eqb-true v n e in
-          let ew = eqb-true w n f in
-          (λ i. eqb (new v ev i) (new w ew i)) ∙ eq-eqb k k refl ∙ sym ((λ i. samePort (portAt wires (ev i)) (portAt wires (ew i))) ∙ port-itself (portAt wires n))
-      pair v w hv hw true false e f =
-          let ev = eqb-true v n e in
-          let o = eqb-false w n f in
-          (λ i. eqb (new v ev i) (old w o i)) ∙ eqb-swap k (getD classes w 0) ∙ same w (omega (arith, o)) ∙ port-swap (portAt wires w) (portAt wires n) ∙ (λ i. samePort (portAt wires (sym ev i)) (portAt wires w))
-      pair v w hv hw false true e f =
-          let o = eqb-false v n e in
-          let ew = eqb-true w n f in
-          (λ i. eqb (old v o i) (new w ew i)) ∙ same v (omega (arith, o)) ∙ (λ i. samePort (portAt wires v) (portAt wires (sym ew i)))
-      pair v w hv hw false false e f =
-          let o = eqb-false v n e in
-          let q = eqb-false w n f in
-          (λ i. eqb (old v o i) (old w q i)) ∙ c .same v w (omega (arith, o)) (omega (arith, q))
+  class-behind : (p : ℕ) → (t : Bool) → eqb (getD keys p 0 / NUMBERS) (getD keys (suc p) 0 / NUMBERS) ≡ t → classAt keys (suc p) class ≡ elim t [ true ↦ class | false ↦ wireAt keys (suc p) ]
+  unfolding classAt
+  class-behind p t e = ap (λ (b : Bool). elim b as (λ _. ℕ) [ true ↦ class | false ↦ wireAt keys (suc p) ]) e
 
-  pub classed-more : (f : Found) → newest here n ≡ f → Classed wires (set classes n (classFor classes n f)) (suc n)
-  classed-more none e =
-      classed-with n (omega arith) (λ v h. let l = c .low v h in ne-eqb (getD classes v 0) n (λ z. omega arith) ∙ sym (found-none here n v e h))
-  classed-more (at u) e =
-      let g = found-below here n u e in
-      let low = c .low u (g .0) in
-      let ports : portAt wires u ≡ portAt wires n = port-same (portAt wires u) (portAt wires n) (g .1) in
-      classed-with (getD classes u 0) (let l = g .0 in omega arith) (λ v h. c .same v u h (g .0) ∙ (λ i. samePort (portAt wires v) (ports i)))
+  pub class-same : (p : ℕ) → (p ≡ 0 → ⊥) → getD keys (p - 1) 0 / NUMBERS ≡ getD keys p 0 / NUMBERS → class ≡ classAt keys p class
+  class-same zero o e = absurd (o refl)
+  class-same (suc p) o e =
+      let behind : suc p - 1 ≡ p = omega arith in
+      let same : getD keys p 0 / NUMBERS ≡ getD keys (suc p) 0 / NUMBERS = ap (λ (q : ℕ). getD keys q 0 / NUMBERS) (sym behind) ∙ e in
+      sym (class-behind p true (eq-eqb (getD keys p 0 / NUMBERS) (getD keys (suc p) 0 / NUMBERS) same))
 
-pub classed-none : (wires : List (List ℕ)) (classes : List ℕ) → Classed wires classes 0
-classed-none wires classes = record { same = λ v w h k. absurd (omega arith); low = λ w h. absurd (omega arith) }
+  pub class-new : (p : ℕ) → (p ≡ 0 → ⊥) → (getD keys (p - 1) 0 / NUMBERS ≡ getD keys p 0 / NUMBERS → ⊥) → wireAt keys p ≡ classAt keys p class
+  class-new zero o e = absurd (o refl)
+  class-new (suc p) o e =
+      let behind : suc p - 1 ≡ p = omega arith in
+      let other : getD keys p 0 / NUMBERS ≡ getD keys (suc p) 0 / NUMBERS → ⊥ = λ z. e (ap (λ (q : ℕ). getD keys q 0 / NUMBERS) behind ∙ z) in
+      sym (class-behind p false (ne-eqb (getD keys p 0 / NUMBERS) (getD keys (suc p) 0 / NUMBERS) other))
 
--- One more wire is chained and has its class.
-pub ported-none : (wires : List (List ℕ)) (classes nexts heads : List ℕ) → Empty heads → Ported wires classes nexts heads 0
-ported-none wires classes nexts heads e = record { walk = record { room = omega arith; chained = chained-none (wireBucket wires) nexts heads e }; classed = classed-none wires classes }
+-- Along the keys
+module _ (wires : List (List ℕ)) (keys : List ℕ) (k : PortKeys wires keys) where
+  -- A wire with the same key and a lower number comes before.
+  before : (p : ℕ) → p < length wires → (v : ℕ) → v < wireAt keys p → wireKey wires v ≡ wireKey wires (wireAt keys p) → (q : ℕ) × (q < p) × (getD keys q 0 ≡ wireKey wires v * NUMBERS + v)
+  before p h v l e =
+      let c = k .comes p h in
+      let t = k .reached v (omega (arith, c .0)) in
+      (t .0, elim (decLt (t .0) p) [ yes a ↦ a | no f ↦ absurd (let a = k .rising p (t .0) (omega arith) (t .1) in omega (arith, c .1, t .2)) ], t .2)
 
-pub ported-more : (wires : List (List ℕ)) (classes nexts heads nexts′ heads′ : List ℕ) (w k class : ℕ) → Ported wires classes nexts heads w → w < length wires → w < length classes → w < length nexts
-    → class ≡ classFor classes w (newest (goesTo wires (portAt wires w)) w) → k ≡ wireBucket wires w → (nexts′ ≡ set nexts w (getD heads k 0)) × (heads′ ≡ set heads k (suc w))
-    → Ported wires (set classes w class) nexts′ heads′ (suc w)
-ported-more wires classes nexts heads nexts′ heads′ w k class p there room links is bucket step =
-    record {
-      walk = record { room = omega arith; chained = chained-on (wireBucket wires) nexts heads nexts′ heads′ w k (p .walk .chained) links bucket (omega arith) step };
-      classed = subst (λ (c : ℕ). Classed wires (set classes w c) (suc w)) (sym is) (classed-more wires classes w (p .classed) room (newest (goesTo wires (portAt wires w)) w) refl);
-    }
+  -- Where a key is another than the one before, its wire is the first with it.
+  run-first : (p : ℕ) → suc p < length wires → eqb (getD keys p 0 / NUMBERS) (getD keys (suc p) 0 / NUMBERS) ≡ false
+      → (v : ℕ) → v < wireAt keys (suc p) → wireKey wires v ≡ wireKey wires (wireAt keys (suc p)) → ⊥
+  run-first p h o v l e =
+      let b = before (suc p) h v l e in
+      let c = k .comes (suc p) h in
+      let low = k .rising (b .0) p (omega (arith, b .1)) (omega arith) in
+      let high = k .rising p (suc p) (omega arith) h in
+      eqb-false (getD keys p 0 / NUMBERS) (getD keys (suc p) 0 / NUMBERS) o (omega (arith, b .2, c .1, c .0))
+
+  class-leads : (p class : ℕ) → p < length wires → (0 < p → Leads wires (wireAt keys (p - 1)) class) → Leads wires (wireAt keys p) (classAt keys p class)
+  unfolding classAt
+  class-leads zero class h old = record { low = omega arith; same = refl; first = λ v l e. let q = before zero h v l e .1 in omega arith }
+  class-leads (suc p) class h old = go (eqb (getD keys p 0 / NUMBERS) (getD keys (suc p) 0 / NUMBERS)) refl (subst (λ (q : ℕ). Leads wires (wireAt keys q) class) behind (old (omega arith)))
+    where
+      behind : suc p - 1 ≡ p
+      behind = omega arith
+
+      go : (t : Bool) → eqb (getD keys p 0 / NUMBERS) (getD keys (suc p) 0 / NUMBERS) ≡ t → Leads wires (wireAt keys p) class
+          → Leads wires (wireAt keys (suc p)) (elim t as (λ _. ℕ) [ true ↦ class | false ↦ wireAt keys (suc p) ])
+      go true e l =
+          let here = k .comes (suc p) h in
+          let there = k .comes p (omega arith) in
+          let rises = k .rising p (suc p) (omega arith) h in
+          let runs = eqb-true (getD keys p 0 / NUMBERS) (getD keys (suc p) 0 / NUMBERS) e in
+          let same : wireKey wires (wireAt keys p) ≡ wireKey wires (wireAt keys (suc p)) = omega (arith, here .1, there .1) in
+          let below = l .low in
+          record { low = omega (arith, here .1, there .1, below); same = l .same ∙ same; first = λ v b f. l .first v b (f ∙ sym same) }
+      go false e l = record { low = omega arith; same = refl; first = run-first p h e }
+
+-- The walk: the first p wires along the keys have their classes, the last of them the class at hand.
+pub record Walked (wires : List (List ℕ)) (keys old classes : List ℕ) (class p : ℕ) : Type 0 where
+  pub long : length classes ≡ length old
+  pub last : 0 < p → Leads wires (wireAt keys (p - 1)) class
+  pub done : (q : ℕ) → q < p → Leads wires (wireAt keys q) (getD classes (wireAt keys q) 0)
+
+module _ (wires : List (List ℕ)) (keys old : List ℕ) (k : PortKeys wires keys) where
+  pub walked-start : Walked wires keys old old 0 0
+  walked-start = record { long = refl; last = λ h. absurd (omega arith); done = λ q h. absurd (omega arith) }
+
+  module _ (classes : List ℕ) (class p : ℕ) (walked : Walked wires keys old classes class p) where
+    pub walked-on : (c w : ℕ) → p < length wires → c ≡ classAt keys p class → w ≡ wireAt keys p → w < length classes → Walked wires keys old (set classes w c) c (p + 1)
+    walked-on c w h is at room =
+        record {
+          long = length-set classes w c ∙ walked .long;
+          last = λ z. subst (λ (q : ℕ). Leads wires (wireAt keys q) c) behind leads;
+          done = λ q l. elim (ℕ-discrete (wireAt keys q) w) [
+            | yes e ↦ subst (Leads wires (wireAt keys q)) (sym (ap (λ (j : ℕ). getD (set classes w c) j 0) e ∙ getD-set-same classes w c 0 room)) (subst (λ (j : ℕ). Leads wires j c) (sym (e ∙ at)) leads)
+            | no f ↦ subst (Leads wires (wireAt keys q)) (sym (getD-set-other classes w (wireAt keys q) c 0 f)) (walked .done q (below q l f))
+          ];
+        }
+      where
+        behind : p ≡ p + 1 - 1
+        behind = omega arith
+
+        leads : Leads wires (wireAt keys p) c
+        leads = subst (Leads wires (wireAt keys p)) (sym is) (class-leads wires keys k p class h (walked .last))
+
+        below : (q : ℕ) → q < p + 1 → (wireAt keys q ≡ w → ⊥) → q < p
+        below q l f = elim (decLt q p) [ yes b ↦ b | no o ↦ let e : q ≡ p = omega arith in absurd (f (ap (wireAt keys) e ∙ sym at)) ]
+
+    pub walked-done : length wires ≤ p → Classed wires classes (length wires)
+    walked-done all = classed-by wires (k .low) classes (length wires) leads
+      where
+        leads : (w : ℕ) → w < length wires → Leads wires w (getD classes w 0)
+        leads w h =
+            let r = k .reached w h in
+            let few = k .few in
+            let is : wireAt keys (r .0) ≡ w = omega (arith, r .2) in
+            subst (λ (j : ℕ). Leads wires j (getD classes j 0)) is (walked .done (r .0) (omega (arith, r .1)))
+
+-- The place of a port among the keys
+module _ (wires : List (List ℕ)) (keys : List ℕ) (k : PortKeys wires keys) (node port key p : ℕ) (is : key ≡ portKey node port * NUMBERS + 0) (first : FirstNotBelow keys (length wires) key p) where
+  -- If any wire leads to the port, then the one at that place does.
+  port-here : (v : ℕ) → v < length wires → goesTo wires (thePort node port) v ≡ true → (p < length wires) × (goesTo wires (thePort node port) (wireAt keys p) ≡ true)
+  port-here v h t =
+      let own = same-two (field wires v 3) node (field wires v 4) port t in
+      let low = k .low v in
+      let few = k .few in
+      let at = k .reached v h in
+      let value : getD keys (at .0) 0 ≡ portKey node port * NUMBERS + v = at .2 ∙ (λ i. portKey (own .0 i) (own .1 i) * NUMBERS + v) in
+      elim (decLt (at .0) p) [
+        | yes l ↦ absurd (let b = first .before (at .0) l in omega arith)
+        | no f ↦
+            let inside : p < length wires = omega (arith, at .1) in
+            let high = first .here inside in
+            let rises = k .rising p (at .0) (omega arith) (at .1) in
+            let c = k .comes p inside in
+            (inside, ports-by-key (field wires (wireAt keys p) 3) (field wires (wireAt keys p) 4) node port (k .low (wireAt keys p)) (omega (arith, own .1)) (omega (arith, c .0, c .1)))
+      ]
+
+  pub port-nowhere : (p < length wires → goesTo wires (thePort node port) (wireAt keys p) ≡ false) → (w : ℕ) → w < length wires → goesTo wires (thePort node port) w ≡ false
+  port-nowhere no-one w h = go (goesTo wires (thePort node port) w) refl
+    where
+      go : (t : Bool) → goesTo wires (thePort node port) w ≡ t → t ≡ false
+      go true e = let f = port-here w h e in clash (f .1) (no-one (f .0))
+      go false e = refl
 
 -- The flags with one more port.
 module _ (wires : List (List ℕ)) (classes flags : List ℕ) (c : Classed wires classes (length wires)) (p : Port) (test : ℕ → Bool) (h : FlaggedBy test wires classes flags) where
   abbrev more : ℕ → Bool
   more w = goesTo wires p w || test w
 
-  pub flag-none : newest (goesTo wires p) (length wires) ≡ none → FlaggedBy more wires classes flags
-  flag-none e = λ w l. h w l ∙ ap not (sym (ap (λ t. t || test w) (found-none (goesTo wires p) (length wires) w e l)))
+  pub flag-none : ((w : ℕ) → w < length wires → goesTo wires p w ≡ false) → FlaggedBy more wires classes flags
+  flag-none none w l = h w l ∙ ap not (sym (ap (λ t. t || test w) (none w l)))
 
-  pub flag-found : length wires ≤ length flags → (v : ℕ) → newest (goesTo wires p) (length wires) ≡ at v → FlaggedBy more wires classes (set flags (getD classes v 0) 1)
-  flag-found room v e =
-      let g = found-below (goesTo wires p) (length wires) v e in
-      let low = c .low v (g .0) in
-      let inside : getD classes v 0 < length flags = let l = g .0 in omega arith in
-      let ports : portAt wires v ≡ p = port-same (portAt wires v) p (g .1) in
-      λ w l. flag-set flags (getD classes v 0) (getD classes w 0) (goesTo wires p w) (test w) inside (c .same w v l (g .0) ∙ (λ i. samePort (portAt wires w) (ports i))) (h w l)
+  pub flag-found : length wires ≤ length flags → (v : ℕ) → v < length wires → goesTo wires p v ≡ true → FlaggedBy more wires classes (set flags (getD classes v 0) 1)
+  flag-found room v b t =
+      let low = c .low v b in
+      let inside : getD classes v 0 < length flags = omega arith in
+      let ports : portAt wires v ≡ p = port-same (portAt wires v) p t in
+      λ w l. flag-set flags (getD classes v 0) (getD classes w 0) (goesTo wires p w) (test w) inside (c .same w v l b ∙ (λ i. samePort (portAt wires w) (ports i))) (h w l)
 
 pub flags-none : (wires : List (List ℕ)) (classes flags : List ℕ) → Classed wires classes (length wires) → ((k : ℕ) → k < length wires → getD flags k 0 ≡ 0) → FlaggedBy (λ w. false) wires classes flags
 flags-none wires classes flags c zeros = λ w l. let low = c .low w l in eq-eqb (getD flags (getD classes w 0) 0) 0 (zeros (getD classes w 0) (omega arith))
 
-pub room-same : (wires : List (List ℕ)) (classes nexts flags flags′ : List ℕ) → length flags′ ≡ length flags → PortRoom wires classes nexts flags → PortRoom wires classes nexts flags′
-room-same wires classes nexts flags flags′ e r =
-    record { wiresFew = r .wiresFew; classRoom = r .classRoom; nextRoom = r .nextRoom; flagRoom = let h = r .flagRoom in omega arith }
+pub room-same : (wires : List (List ℕ)) (classes flags flags′ : List ℕ) → length flags′ ≡ length flags → PortRoom wires classes flags → PortRoom wires classes flags′
+room-same wires classes flags flags′ e r = record { classRoom = r .classRoom; flagRoom = let h = r .flagRoom in omega arith }

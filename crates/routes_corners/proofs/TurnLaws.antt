@@ -16,15 +16,11 @@ use Rattle.routes.specs.Bus.{samePort}
 use Rattle.routes.specs.Buffers.{portIn}
 use Rattle.routes.specs.Corners.{turns, turnable}
 use Rattle.routes.specs.declared.bus.BusCounts.{BusCounts}
-use Rattle.routes_cells.specs.Chains.{BUCKETS, Empty}
 use Rattle.routes_corners.specs.CornerTables.{BoardOf, portAt, Classed, Flagged, Turners}
 use Rattle.routes_corners.specs.Handed.{Mutes}
 use Rattle.routes_corners.specs.Ports.{FlaggedBy, amongPorts}
 use Rattle.routes_corners.specs.Turning.{hasRoom, Found}
 use Rattle.routes_corners.proofs.Writing.{length-firsts}
-
-pub fresh-heads : (n : ℕ) → BUCKETS ≤ n → Empty (replicate n 0)
-fresh-heads n h = (simp length-replicate h, λ k l. getD-replicate n k 0 0 (omega arith))
 
 -- A list for W wires, and no flag set in it.
 pub fresh-list : (W : ℕ) → W ≤ 8192 → W ≤ length (replicate {A = ℕ} 8192 0)

@@ -1,25 +1,61 @@
--- How the code finds the wires of a target port: chained by bucket, each with its class. No rule stands here.
-use Prim.Native.Nat.{ℕ, _+_, _*_, _%_, _≤_, _<_}
+-- How the code finds the wires of a target port: along their keys, sorted, each with its class. No rule stands here.
+use Prim.Native.Nat.{ℕ, zero, suc, _+_, _*_, _/_, _%_, _≤_, _<_}
 use mathlib.Core.Path.{_≡_}
-use mathlib.Core.Bool.{Bool, not}
+use mathlib.Core.Bool.{Bool, true, false, not}
 use mathlib.Core.List.{List}
 use lib.Dec.{eqb}
 use lib.ListN.{length, getD}
-use Rattle.sheet.specs.Table.{MISSING}
-use Rattle.base.specs.Lists.{Found, none, at, any}
-use Rattle.board.specs.Board.{field}
+use Rattle.sheet.specs.Table.{PORT_MOST}
+use Rattle.base.specs.Lists.{any}
+use Rattle.base.specs.Keys.{Rising}
 use Rattle.base.specs.Views.{view}
+use Rattle.board.specs.Board.{field}
 use Rattle.routes.specs.Bus.{Port, samePort}
 use Rattle.routes.specs.Buffers.{portIn}
-use Rattle.routes_cells.specs.Chains.{BUCKETS, Walkable}
 use Rattle.routes_corners.specs.CornerTables.{portAt, Classed}
 
--- The multiplier keeps the ports of a node apart, and any would do.
-abbrev pub portBucket : ℕ → ℕ → ℕ
-portBucket node port = (node + port * 2053) % BUCKETS
+-- A port in one number. Ports in the sheet's range differ where they are packed, too; a greater one may be packed as another node's.
+abbrev pub portKey : ℕ → ℕ → ℕ
+portKey node port = node * 65536 + port
 
-abbrev pub wireBucket : List (List ℕ) → ℕ → ℕ
-wireBucket wires i = portBucket (field wires i 3) (field wires i 4)
+abbrev pub wireKey : List (List ℕ) → ℕ → ℕ
+wireKey wires w = portKey (field wires w 3) (field wires w 4)
+
+-- S11: the target ports are in the sheet's range.
+abbrev pub PortsLow : List (List ℕ) → Type 0
+PortsLow wires = (w : ℕ) → field wires w 4 ≤ PORT_MOST
+
+-- How many numbers of wires there are: a wire's number stands behind its key.
+abbrev pub NUMBERS : ℕ
+NUMBERS = 8192
+
+-- The wire that comes p-th.
+abbrev pub wireAt : List ℕ → ℕ → ℕ
+wireAt keys p = getD keys p 0 % NUMBERS
+
+-- The class of the wire that comes p-th, where the one before has the class given: a new one is the wire's own number.
+unfoldable pub classAt : List ℕ → ℕ → ℕ → ℕ
+classAt keys zero class = wireAt keys zero
+classAt keys (suc p) class = elim (eqb (getD keys p 0 / NUMBERS) (getD keys (suc p) 0 / NUMBERS)) [ true ↦ class | false ↦ wireAt keys (suc p) ]
+
+-- The keys of all wires in rising order, each with the wire's number.
+pub record PortKeys (wires : List (List ℕ)) (keys : List ℕ) : Type 0 where
+  pub few : length wires ≤ NUMBERS
+  pub low : PortsLow wires
+  pub room : length wires ≤ length keys
+  pub rising : Rising keys (length wires)
+  pub comes : (p : ℕ) → p < length wires → (wireAt keys p < length wires) × (getD keys p 0 ≡ wireKey wires (wireAt keys p) * NUMBERS + wireAt keys p)
+  pub reached : (w : ℕ) → w < length wires → (p : ℕ) × (p < length wires) × (getD keys p 0 ≡ wireKey wires w * NUMBERS + w)
+
+-- The wires have their classes, and their keys are sorted.
+pub record Ported (wires : List (List ℕ)) (classes keys : List ℕ) : Type 0 where
+  pub keyed : PortKeys wires keys
+  pub classed : Classed wires classes (length wires)
+
+-- Room for a class and a flag for each wire.
+pub record PortRoom (wires : List (List ℕ)) (classes flags : List ℕ) : Type 0 where
+  pub classRoom : length wires ≤ length classes
+  pub flagRoom : length wires ≤ length flags
 
 abbrev pub thePort : ℕ → ℕ → Port
 thePort node port = record { node = node; port = port }
@@ -27,26 +63,6 @@ thePort node port = record { node = node; port = port }
 -- Whether a wire's target port is p.
 abbrev pub goesTo : List (List ℕ) → Port → ℕ → Bool
 goesTo wires p i = samePort (portAt wires i) p
-
-abbrev pub WireWalk : List (List ℕ) → List ℕ → List ℕ → ℕ → Type 0
-WireWalk wires nexts heads n = Walkable (wireBucket wires) (length wires) nexts heads n
-
--- The class of wire w: that of an earlier wire to its port, or a new one.
-abbrev pub classFor : List ℕ → ℕ → Found → ℕ
-classFor classes w none = w
-classFor classes w (at v) = getD classes v 0
-
--- The first n wires are chained and have their classes.
-pub record Ported (wires : List (List ℕ)) (classes nexts heads : List ℕ) (n : ℕ) : Type 0 where
-  pub walk : WireWalk wires nexts heads n
-  pub classed : Classed wires classes n
-
--- Room for a class, a link and a flag for each wire.
-pub record PortRoom (wires : List (List ℕ)) (classes nexts flags : List ℕ) : Type 0 where
-  pub wiresFew : length wires < MISSING
-  pub classRoom : length wires ≤ length classes
-  pub nextRoom : length wires ≤ length nexts
-  pub flagRoom : length wires ≤ length flags
 
 -- A wire's class has its flag where the wire passes the test.
 abbrev pub FlaggedBy : (ℕ → Bool) → List (List ℕ) → List ℕ → List ℕ → Type 0

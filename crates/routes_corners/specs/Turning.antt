@@ -17,6 +17,7 @@ use Rattle.routes_beside.specs.Beside.{BricksAskable}
 use Rattle.routes_turns.specs.CornerItems.{EDGE}
 use Rattle.routes_corners.specs.CornerTables.{BoardOf, Classed, EndsThere, firsts}
 use Rattle.routes_corners.specs.Handed.{Mutes}
+use Rattle.routes_corners.specs.Ports.{PortsLow}
 use Rattle.routes_corners.specs.declared.turn.Turned.{Turned}
 use Rattle.routes_corners.specs.declared.turn.Turned.the-variants.{Short, Laid}
 
@@ -30,10 +31,11 @@ pub record InEdge (nodes : List (List ℕ)) (i : ℕ) : Type 0 where
   pub wide : brickCell (nodesAlone nodes) i .x1 ≤ field nodes i 8 + 2000
   pub flat : field nodes i 9 + REROUTER_SIZE ≤ EDGE
 
--- The tables of the board fit together: at most as many records as a sheet may have, and each node with a row on a page and in range.
+-- The tables of the board fit together: at most as many records as a sheet may have, the target ports in its range, and each node with a row on a page and in range.
 pub record BoardFits (pages nodes wires facts : List (List ℕ)) : Type 0 where
   pub wiresFew : length wires ≤ 8192
   pub endsLong : length wires ≤ length facts
+  pub ports : PortsLow wires
   pub bricks : BricksAskable nodes facts
   pub onPages : (i : ℕ) → i < length nodes → given (field nodes i 10) ≡ true → field nodes i 10 < length pages
   pub inside : (i : ℕ) → i < length nodes → given (field nodes i 10) ≡ true → InEdge nodes i

@@ -1,4 +1,5 @@
 // The items that corners are decided by: the bricks, the rerouters of the bus, and a question for each wire that turns.
+use base::numbers::ORIGIN;
 use base::rows::Record;
 use base::rows::RerouterRow;
 use base::rows::WorkRow;
@@ -7,7 +8,6 @@ use routes_beside::items::fill_bricks;
 use routes_beside::items::item;
 use routes_beside::items::no_item;
 use routes_beside::items::page_bases;
-use routes_cells::cells::inward;
 ghost use mathlib.Core.Path.{_≡_};
 ghost use mathlib.Core.Bool.{_&&_};
 ghost use mathlib.Core.List.{List, []};
@@ -16,7 +16,7 @@ ghost use lib.Dec.{ltb};
 ghost use lib.ListN.{length, getD};
 ghost use Rattle.board.specs.Board.{Board};
 ghost use Rattle.routes.specs.Bus.{Bus};
-ghost use Rattle.routes.specs.Buffers.{rerouterIn};
+ghost use Rattle.routes.specs.Buffers.{inward as inwardOf, rerouterIn};
 ghost use Rattle.routes_beside.specs.Beside.{Bases, BricksAskable};
 ghost use Rattle.routes_turns.specs.CornerItems.{isInside, CornerItems};
 ghost use Rattle.routes_corners.specs.CornerTables.{firsts};
@@ -35,6 +35,13 @@ fn is_beside(counts: &[u32], page: u32, row: u32, x: u32, y: u32) -> bool
         return false;
     }
     (row < counts[p]) & (x < EDGE) & (y < EDGE)
+}
+
+// A coordinate of 32 bits, as it is held.
+fn inward(c: u32) -> u32
+    ensures { λ r. ⌜ r ≡ inwardOf c ⌝ }
+{
+    std::num::wrapping_add_u32(c, ORIGIN)
 }
 
 // C2: the item of a rerouter.

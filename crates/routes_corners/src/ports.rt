@@ -1,24 +1,84 @@
-// Wires by target port: which share one, and which lead to a suppressed one. They are chained by bucket, so that each port is found in a few steps.
+// Wires by target port: which share one, and which lead to a suppressed one. Their keys are packed and sorted: along them each wire takes the class of
+// the one before, if that leads to the same port, and a port that is handed in is found by halves.
+use base::keys::first_not_below;
+use base::keys::raise_keys;
 use base::rows::PortRow;
 use base::rows::Record;
-use board::ids::Found;
-use routes_cells::cells::chain;
 ghost use mathlib.Core.Path.{_≡_};
 ghost use mathlib.Core.Bool.{Bool, _||_};
-ghost use Prim.Native.Nat.{ℕ, _<_, _≤_};
+ghost use Prim.Native.Nat.{ℕ, _+_, _*_, _<_, _≤_};
 ghost use lib.ListN.{length, getD};
-ghost use Rattle.board.specs.Index.{foundOf};
-ghost use Rattle.base.specs.Lists.{newest};
-ghost use Rattle.routes_cells.specs.Chains.{Empty};
-ghost use Rattle.routes_corners.specs.CornerTables.{portAt};
-ghost use Rattle.routes_corners.specs.Ports.{portBucket, thePort, goesTo, WireWalk, classFor, Ported, PortRoom, FlaggedBy, amongPorts};
+ghost use Rattle.routes_corners.specs.CornerTables.{Classed};
+ghost use Rattle.routes_corners.specs.Ports.{portKey, wireKey, PortsLow, wireAt, classAt, PortKeys, Ported, PortRoom, thePort, goesTo, FlaggedBy, amongPorts};
 
-const BUCKETS: u64 = 8192;
+// A wire's number stands behind the key of its target port.
+const NUMBERS: u64 = 8192;
 
-fn bucket_of(node: u32, port: u32) -> usize
-    ensures { λ r. ⌜ r ≡ portBucket node port ⌝ }
+// The key of wire w in one number: its target node, the port in 16 bits (S11), then the wire's number.
+fn pack_key(node: u32, port: u32, w: usize) -> u64
+    requires { ⌜ w < 8192 ⌝ }
+    ensures { λ r. ⌜ r ≡ portKey node port * 8192 + w ⌝ }
 {
-    ((node as u64 + port as u64 * 2053) % BUCKETS) as usize
+    (node as u64 * 65_536 + port as u64) * NUMBERS + w as u64
+}
+
+// The keys of all wires, in order.
+fn fill_keys(wires: &[Record], keys: &mut [u64])
+    requires { ⌜ (length (now wires) ≤ length (now keys)) × (length (now wires) ≤ 8192) ⌝ }
+    ensures { λ _. ⌜ ((w : ℕ) → w < length (now (wires .entry)) → getD (now (keys .exit)) w 0 ≡ wireKey (now (wires .entry)) w * 8192 + w) ⌝ }
+{
+    let mut w: usize = 0;
+    while w < wires.len() {
+        keys[w] = pack_key(wires[w][3], wires[w][4], w);
+        w += 1;
+    }
+}
+
+// The wire that comes p-th.
+fn wire_at(keys: &[u64], p: usize) -> usize
+    requires { ⌜ p < length (now keys) ⌝ }
+    ensures { λ r. ⌜ r ≡ wireAt (now (keys .entry)) p ⌝ }
+{
+    (keys[p] % NUMBERS) as usize
+}
+
+// The class of the wire that comes p-th: that of the one before, if both lead to one port, or a new one.
+fn class_at(keys: &[u64], p: usize, class: u32) -> u32
+    requires { ⌜ p < length (now keys) ⌝ }
+    ensures { λ r. ⌜ r ≡ classAt (now (keys .entry)) p class ⌝ }
+{
+    if p == 0 {
+        return wire_at(keys, p) as u32;
+    }
+    if keys[p - 1] / NUMBERS == keys[p] / NUMBERS {
+        return class;
+    }
+    wire_at(keys, p) as u32
+}
+
+// The classes of all wires, along their sorted keys.
+fn class_along(wires: &[Record], keys: &[u64], classes: &mut [u32])
+    requires { ⌜ PortKeys (now wires) (now keys) × (length (now wires) ≤ length (now classes)) ⌝ }
+    ensures { λ _. ⌜ Classed (now (wires .entry)) (now (classes .exit)) (length (now (wires .entry))) ⌝ }
+{
+    let mut class: u32 = 0;
+    let mut p: usize = 0;
+    while p < wires.len() {
+        class = class_at(keys, p, class);
+        classes[wire_at(keys, p)] = class;
+        p += 1;
+    }
+}
+
+// The classes of all wires, and their sorted keys. The spare keys are work space.
+pub fn class_ports(wires: &[Record], classes: &mut [u32], keys: &mut [u64], spare: &mut [u64])
+    requires { ⌜ PortsLow (now wires) × (length (now wires) ≤ 8192) ⌝ }
+    requires { ⌜ (length (now wires) ≤ length (now classes)) × (length (now wires) ≤ length (now keys)) × (length (now wires) ≤ length (now spare)) ⌝ }
+    ensures { λ _. ⌜ Ported (now (wires .entry)) (now (classes .exit)) (now (keys .exit)) ⌝ }
+{
+    fill_keys(wires, keys);
+    raise_keys(keys, wires.len(), spare);
+    class_along(wires, keys, classes);
 }
 
 // Whether a wire's target port is this one.
@@ -29,74 +89,28 @@ fn goes_to(wires: &[Record], i: usize, node: u32, port: u32) -> bool
     (wires[i][3] == node) & (wires[i][4] == port)
 }
 
-// The newest of the first n wires that leads to the port.
-fn find_port(
-    wires: &[Record],
-    nexts: &[u32],
-    heads: &[u32],
-    n: usize,
-    node: u32,
-    port: u32,
-) -> Found
-    requires { ⌜ WireWalk (now wires) (now nexts) (now heads) n ⌝ }
-    ensures { λ r. ⌜ r ≡ foundOf (newest (goesTo (now (wires .entry)) (thePort node port)) n) ⌝ }
-{
-    let mut link = heads[bucket_of(node, port)];
-    while link != 0 {
-        let i = (link - 1) as usize;
-        if goes_to(wires, i, node, port) {
-            return Found::At(i);
-        }
-        link = nexts[i];
-    }
-    Found::Nothing
-}
-
-// The class of wire w: that of an earlier wire to its port, or a new one.
-fn class_of(wires: &[Record], classes: &[u32], nexts: &[u32], heads: &[u32], w: usize) -> u32
-    requires { ⌜ WireWalk (now wires) (now nexts) (now heads) w ⌝ }
-    requires { ⌜ (w < length (now wires)) × (w ≤ length (now classes)) × (w < 4294967296) ⌝ }
-    ensures { λ r. ⌜ r ≡ classFor (now (classes .entry)) w (newest (goesTo (now (wires .entry)) (portAt (now (wires .entry)) w)) w) ⌝ }
-{
-    match find_port(wires, nexts, heads, w, wires[w][3], wires[w][4]) {
-        Found::At(v) => classes[v],
-        Found::Nothing => w as u32,
-    }
-}
-
-// The classes of all wires, and their chains.
-pub fn class_ports(wires: &[Record], classes: &mut [u32], nexts: &mut [u32], heads: &mut [u32])
-    requires { ⌜ Empty (now heads) ⌝ }
-    requires { ⌜ PortRoom (now wires) (now classes) (now nexts) (now classes) ⌝ }
-    ensures { λ _. ⌜ Ported (now (wires .entry)) (now (classes .exit)) (now (nexts .exit)) (now (heads .exit)) (length (now (wires .entry))) ⌝ }
-{
-    let mut w: usize = 0;
-    while w < wires.len() {
-        let class = class_of(wires, classes, nexts, heads, w);
-        classes[w] = class;
-        let k = bucket_of(wires[w][3], wires[w][4]);
-        chain(nexts, heads, k, w);
-        w += 1;
-    }
-}
-
-// The flag of the class of a suppressed port.
+// The flag of the class of a suppressed port, if a wire leads to it. Its numbers may be beyond the sheet's, so the wire's own are asked.
 fn flag_port(
     wires: &[Record],
     classes: &[u32],
-    nexts: &[u32],
-    heads: &[u32],
+    keys: &[u64],
     flags: &mut [u32],
     node: u32,
     port: u32,
 )
-    requires { ⌜ Ported (now wires) (now classes) (now nexts) (now heads) (length (now wires)) ⌝ }
-    requires { ⌜ PortRoom (now wires) (now classes) (now nexts) (now flags) ⌝ }
+    requires { ⌜ Ported (now wires) (now classes) (now keys) ⌝ }
+    requires { ⌜ PortRoom (now wires) (now classes) (now flags) ⌝ }
     ensures { λ _. ⌜ ((test : ℕ → Bool) → FlaggedBy test (now (wires .entry)) (now (classes .entry)) (now (flags .entry))
         → FlaggedBy (λ w. goesTo (now (wires .entry)) (thePort node port) w || test w) (now (wires .entry)) (now (classes .entry)) (now (flags .exit))) ⌝ }
 {
-    if let Found::At(v) = find_port(wires, nexts, heads, wires.len(), node, port) {
-        flags[classes[v] as usize] = 1;
+    let n = wires.len();
+    let p = first_not_below(keys, n, pack_key(node, port, 0));
+    if n <= p {
+        return;
+    }
+    let w = wire_at(keys, p);
+    if goes_to(wires, w, node, port) {
+        flags[classes[w] as usize] = 1;
     }
 }
 
@@ -104,28 +118,19 @@ fn flag_port(
 pub fn flag_ports(
     wires: &[Record],
     classes: &[u32],
-    nexts: &[u32],
-    heads: &[u32],
+    keys: &[u64],
     ports: &[PortRow],
     u: usize,
     flags: &mut [u32],
 )
-    requires { ⌜ Ported (now wires) (now classes) (now nexts) (now heads) (length (now wires)) ⌝ }
-    requires { ⌜ PortRoom (now wires) (now classes) (now nexts) (now flags) ⌝ }
+    requires { ⌜ Ported (now wires) (now classes) (now keys) ⌝ }
+    requires { ⌜ PortRoom (now wires) (now classes) (now flags) ⌝ }
     requires { ⌜ (u ≤ length (now ports)) × ((k : ℕ) → k < length (now wires) → getD (now flags) k 0 ≡ 0) ⌝ }
     ensures { λ _. ⌜ FlaggedBy (amongPorts (now (wires .entry)) (now (ports .entry)) u) (now (wires .entry)) (now (classes .entry)) (now (flags .exit)) ⌝ }
 {
     let mut j: usize = 0;
     while j < u {
-        flag_port(
-            wires,
-            classes,
-            nexts,
-            heads,
-            flags,
-            ports[j][0],
-            ports[j][1],
-        );
+        flag_port(wires, classes, keys, flags, ports[j][0], ports[j][1]);
         j += 1;
     }
 }

@@ -25,6 +25,7 @@ ghost use Rattle.routes_corners.specs.Answering.{RowsRoom};
 ghost use Rattle.routes_corners.specs.CornerTables.{BoardOf, Classed, firsts};
 ghost use Rattle.routes_corners.specs.Handed.{CellRows, busIn, Mutes, Handed};
 ghost use Rattle.routes_corners.specs.Listing.{TurnsListed};
+ghost use Rattle.routes_corners.specs.Ports.{PortsLow};
 ghost use Rattle.routes_corners.specs.Turning.{hasRoom as hasRoomFor, BoardFits, Lent, Found, TurnedAs, TurnedFrom};
 ghost use Rattle.routes_corners.specs.Writing.{WriteRoom};
 
@@ -86,15 +87,15 @@ fn find_turners(
     classes: &mut [u32],
     list: &mut [u32],
 ) -> usize
-    requires { ⌜ (length (now wires) ≤ 8192) × (length (now wires) ≤ length (now facts)) × (u ≤ length (now ports)) ⌝ }
+    requires { ⌜ (length (now wires) ≤ 8192) × (length (now wires) ≤ length (now facts)) × (u ≤ length (now ports)) × PortsLow (now wires) ⌝ }
     requires { ⌜ (length (now wires) ≤ length (now classes)) × (length (now wires) ≤ length (now list)) ⌝ }
     ensures { λ r. ⌜ Found (now (nodes .entry)) (now (wires .entry)) (now (facts .entry)) (now (ports .entry)) u (now (classes .exit)) (now (list .exit)) r ⌝ }
 {
-    let mut nexts = [0u32; 8192];
-    let mut heads = [0u32; 8192];
-    class_ports(wires, classes, &mut nexts, &mut heads);
+    let mut keys = [0u64; 8192];
+    let mut spare = [0u64; 8192];
+    class_ports(wires, classes, &mut keys, &mut spare);
     let mut muted = [0u32; 8192];
-    flag_ports(wires, classes, &nexts, &heads, ports, u, &mut muted);
+    flag_ports(wires, classes, &keys, ports, u, &mut muted);
     find_turns(nodes, wires, facts, classes, &muted, list)
 }
 
@@ -106,7 +107,7 @@ pub fn has_room_to_turn(
     ports: &[PortRow],
     held: BusCounts,
 ) -> bool
-    requires { ⌜ (length (now wires) ≤ 8192) × (length (now wires) ≤ length (now facts)) × (held .ports ≤ length (now ports)) × (held .rerouters < 9223372036854775808) × (held .«bus_wires» < 9223372036854775808) ⌝ }
+    requires { ⌜ (length (now wires) ≤ 8192) × (length (now wires) ≤ length (now facts)) × (held .ports ≤ length (now ports)) × (held .rerouters < 9223372036854775808) × (held .«bus_wires» < 9223372036854775808) × PortsLow (now wires) ⌝ }
     ensures { λ r. ⌜ ((b : Board) (bus : Bus) (pages : List (List ℕ)) → BoardOf b pages (now (nodes .entry)) (now (wires .entry)) (now (facts .entry))
         → Mutes b bus (now (ports .entry)) (held .ports) → r ≡ hasRoomFor (length (now (wires .entry))) held (turnable b bus)) ⌝ }
 {

@@ -58,7 +58,7 @@ has-room-to-turn-requires c κs =
     let k = known s in
     let r = s .pre .0 .1 in
     let q = s .pre .1 in
-    rw (k .wires) (r .accepted .fewWires, r .factsLong, q .0, q .1, q .2)
+    rw (k .wires) (r .accepted .fewWires, r .factsLong, q .0, q .1, q .2, λ w. r .accepted .target w .1)
 
 returns : tie.Need-returns
 returns c =

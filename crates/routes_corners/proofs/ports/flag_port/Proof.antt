@@ -1,67 +1,101 @@
--- The class of a wire to the port gets its flag; a port that no wire leads to has none.
-use Rattle.routes_corners.proofs.PortLaws.{found-below, flag-none, flag-found}
-use Rattle.routes_corners.specs.Ports.{goesTo, thePort}
-use Rattle.board_groups.proofs.Ends.{found-at, found-nothing}
-use Rattle.base.specs.Lists.{newest, at, none}
-use native.Mathlib.Omega.{arith}
-use lib.ListN.{length, getD}
-use mathlib.Core.Path.{_≡_}
-use Prim.Native.Nat.{_<_, _≤_}
+-- The class of the wire at the port's place gets its flag if the wire leads to the port; else no wire does.
 use borrow.Author.Needs.{needs}
+use native.Mathlib.Omega.{arith}
+use Prim.Native.Nat.{_<_, _≤_}
+use mathlib.Core.Path.{sym, ap, _∙_}
+use lib.ListN.{length, getD}
+use Rattle.routes_corners.specs.Ports.{thePort, goesTo}
+use Rattle.routes_corners.proofs.PortLaws.{port-nowhere, flag-none, flag-found}
 use Rattle.routes_corners.proofs.ports.flag_port.Statement.{statement}
 use Rattle.routes_corners.proofs.ports.flag_port.Tie as tie
 
-there : (c : tie.After-known-told) → newest (goesTo (c .before .before .before .before .before .before .before .before .args .wires .now) (thePort (c .before .before .before .before .before .before .before .before .args .node) (c .before .before .before .before .before .before .before .before .args .port))) (length (c .before .before .before .before .before .before .before .before .args .wires .now)) ≡ at (c .before .v .given .0 .0)
-there c = found-at _ _ _ (c .before .before .before .find-port .ensures) (c .before .v .given .1)
+pack-key-requires : tie.Need-pack-key-requires
+pack-key-requires c κs = search needs
 
-inside : (c : tie.After-known-told) → (c .before .v .given .0 .0 < length (c .before .before .before .before .before .before .before .before .args .wires .now)) × (getD (c .before .before .before .before .before .before .before .before .args .classes .now) (c .before .v .given .0 .0) 0 ≤ c .before .v .given .0 .0)
-inside c = let h = found-below _ _ _ (there c) .0 in (h, c .before .before .before .before .before .before .before .before .pre .0 .classed .low _ h)
+first-not-below-requires : tie.Need-first-not-below-requires
+first-not-below-requires c κs = search needs
 
-find-port-requires : tie.Need-find-port-requires
-find-port-requires c κs = search needs
+returns : tie.Need-returns
+returns c =
+    let f = c .before in
+    let k = f .before in
+    let s = k .before .before .before .before in
+    let a = s .args in
+    λ test h. flag-none (a .wires .now) (a .classes .now) (a .flags .now) (s .pre .0 .classed) (thePort (a .node) (a .port)) test h
+    (port-nowhere (a .wires .now) (a .keys .now) (s .pre .0 .keyed) (a .node) (a .port) (k .pack-key .result) (f .first-not-below .result) (k .pack-key .ensures) (f .first-not-below .ensures) (λ b. absurd (omega (arith, c .if1 .taken))))
 
-enum-known-v : tie.Need-enum-known-v
-enum-known-v c = search needs
+wire-at-requires : tie.Need-wire-at-requires
+wire-at-requires c κs = search needs
+
+wire-there : (c : tie.After-wire-at) → c .wire-at .result < length (c .before .before .before .before .before .before .before .args .wires .now)
+wire-there c =
+    let f = c .before .before in
+    let s = f .before .before .before .before .before in
+    let at = s .pre .0 .keyed .comes (f .first-not-below .result) (c .before .if1 .left) .0 in
+    omega (arith, c .wire-at .ensures)
+
+goes-to-requires : tie.Need-goes-to-requires
+goes-to-requires c κs = wire-there c
 
 mul-flags : tie.Need-mul-flags
-mul-flags c = let h = inside c in let p = c .before .before .before .before .before .before .before .before .pre .1 .classRoom in omega (arith, h, p, c .before .before .before .before .before .before .before .before .good)
+mul-flags c = search needs
+
+class-there : (c : tie.After-wire-at) → (getD (c .before .before .before .before .before .before .before .args .classes .now) (c .wire-at .result) 0 < length (c .before .before .before .before .before .before .before .args .wires .now)) × (length (c .before .before .before .before .before .before .before .args .wires .now) ≤ 8192)
+class-there c =
+    let s = c .before .before .before .before .before .before .before in
+    let b = wire-there c in
+    let low = s .pre .0 .classed .low (c .wire-at .result) b in
+    (omega arith, s .pre .0 .keyed .few)
 
 shared-slice-read-flags : tie.Need-shared-slice-read-flags
-shared-slice-read-flags c = let h = inside (c .before) in let p = c .before .before .before .before .before .before .before .before .before .pre .1 .classRoom in omega (arith, h, p)
+shared-slice-read-flags c = let w = c .before .before .before in let room = w .before .before .before .before .before .before .before .pre .1 .classRoom in omega (arith, wire-there w)
 
 cast-flags : tie.Need-cast-flags
-cast-flags c = let h = inside (c .before) in let p = c .before .before .before .before .before .before .before .before .before .pre .1 .wiresFew in omega (arith, h, p)
+cast-flags c = let h = class-there (c .before .before .before) in omega (arith, h)
 
 mul-flags-2 : tie.Need-mul-flags-2
-mul-flags-2 c = let h = inside (c .before) in let p = c .before .before .before .before .before .before .before .before .before .pre .1 .wiresFew in omega (arith, h, p)
+mul-flags-2 c = let h = class-there (c .before .before .before) in omega (arith, h)
 
 slice-write-flags : tie.Need-slice-write-flags
-slice-write-flags c = let h = inside (c .before) in let p = c .before .before .before .before .before .before .before .before .before .pre .1 .flagRoom in omega (arith, h, p)
-
-enum-told : tie.Need-enum-told
-enum-told c = search needs
+slice-write-flags c = let w = c .before .before .before in let h = class-there w in let room = w .before .before .before .before .before .before .before .pre .1 .flagRoom in omega (arith, h)
 
 same-length : tie.Need-same-length
 same-length c = search needs
 
-returns : tie.Need-returns
-returns c = let s = c .before .before .before .before .before .before .before .before .before in let a = s .args in λ test h. flag-found (a .wires .now) (a .classes .now) (a .flags .now) (s .pre .0 .classed) (thePort (a .node) (a .port)) test h (s .pre .1 .flagRoom) _ (there (c .before))
-
 returns-2 : tie.Need-returns-2
-returns-2 c = let s = c .before .before .before .before .before .before .before in let a = s .args in λ test h. flag-none (a .wires .now) (a .classes .now) (a .flags .now) (s .pre .0 .classed) (thePort (a .node) (a .port)) test h (found-nothing _ _ (c .before .before .find-port .ensures) (c .enum-told .given .1))
+returns-2 c =
+    let t = c .before in
+    let w = t .before .before in
+    let s = w .before .before .before .before .before .before .before in
+    let a = s .args in
+    λ test h. flag-found (a .wires .now) (a .classes .now) (a .flags .now) (s .pre .0 .classed) (thePort (a .node) (a .port)) test h (s .pre .1 .flagRoom) (w .wire-at .result) (wire-there w) (sym (t .before .goes-to .ensures) ∙ t .if2 .taken)
+
+returns-3 : tie.Need-returns-3
+returns-3 c =
+    let g = c .before in
+    let w = g .before in
+    let f = w .before .before in
+    let k = f .before in
+    let s = k .before .before .before .before in
+    let a = s .args in
+    λ test h. flag-none (a .wires .now) (a .classes .now) (a .flags .now) (s .pre .0 .classed) (thePort (a .node) (a .port)) test h
+    (port-nowhere (a .wires .now) (a .keys .now) (s .pre .0 .keyed) (a .node) (a .port) (k .pack-key .result) (f .first-not-below .result) (k .pack-key .ensures) (f .first-not-below .ensures)
+    (λ b. ap (goesTo (a .wires .now) (thePort (a .node) (a .port))) (sym (w .wire-at .ensures)) ∙ (sym (g .goes-to .ensures) ∙ c .if2 .left)))
 
 pub flag-port-spec : {M : Type 1} → statement M
 flag-port-spec =
     tie.close
     (tie.spec
-    find-port-requires
-    enum-known-v
+    pack-key-requires
+    first-not-below-requires
+    returns
+    wire-at-requires
+    goes-to-requires
     mul-flags
     shared-slice-read-flags
     cast-flags
     mul-flags-2
     slice-write-flags
-    enum-told
     same-length
-    returns
-    returns-2)
+    returns-2
+    returns-3)

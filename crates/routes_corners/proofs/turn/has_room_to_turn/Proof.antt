@@ -17,7 +17,7 @@ find-turners-requires c κs =
     let s = c .before .before in
     let p = s .pre in
     let long = fresh-list (length (s .args .wires .now)) (p .0) in
-    ((p .0, p .1, p .2), (long, long))
+    ((p .0, p .1, p .2, p .5), (long, long))
 
 has-room-requires : tie.Need-has-room-requires
 has-room-requires c κs = search needs

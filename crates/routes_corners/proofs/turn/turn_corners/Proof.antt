@@ -30,7 +30,7 @@ find-turners-requires c κs =
     let s = c .before .before in
     let few = s .pre .0 .wiresFew in
     let long = fresh-list (length (s .args .wires .now)) few in
-    ((few, s .pre .0 .endsLong, s .pre .1 .muted), (long, long))
+    ((few, s .pre .0 .endsLong, s .pre .1 .muted, s .pre .0 .ports), (long, long))
 
 has-room-requires : tie.Need-has-room-requires
 has-room-requires c κs = search needs

@@ -1,2 +1,0 @@
-// Chains by bucket, and coordinates read off the buffers.
-pub mod cells;
