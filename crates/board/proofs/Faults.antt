@@ -23,7 +23,7 @@ use Rattle.sheet.specs.Answer.{countsOf}
 use Rattle.board.specs.declared.refusals.Fault.{Fault}
 use Rattle.board.specs.declared.refusals.Fault.the-variants.{Refused, Fine}
 use Rattle.board.specs.Walk.{verdictOf, faultOf, lineOr, lineIf, earlier, lineFrom, sheetBoard, isChip, Ids, Entered, Fresh, Ready, Walked}
-use Rattle.board.specs.declared.refusals.Walk.{Walk}
+use Rattle.board.specs.declared.walks.Walk.{Walk}
 use Rattle.board.proofs.Sections.{Part, part-at, part-below, Sections, sections}
 use Rattle.base.proofs.Bools.{never, pick-false}
 use Rattle.board.proofs.Newest.{newest-same, link-below, column-at, column-length}

@@ -11,7 +11,7 @@ use Rattle.sheet.specs.declared.Checked.the-variants.{Refused as NotTaken, Fine
 use Rattle.sheet.specs.Table.{libraryMost}
 use Rattle.sheet.specs.Reading.{rowsFrom, listed, rows, reading}
 use Rattle.sheet.specs.Answer.{AtRow, RowsHeld, countsOf}
-use Rattle.board.specs.declared.refusals.Walk.{Walk}
+use Rattle.board.specs.declared.walks.Walk.{Walk}
 use Rattle.board.specs.declared.refusals.Fault.{Fault}
 use Rattle.board.specs.declared.refusals.Fault.the-variants.{Refused, Fine}
 use Rattle.base.specs.Lists.{Found, none, at, found}

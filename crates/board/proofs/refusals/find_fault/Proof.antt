@@ -12,11 +12,11 @@ use Rattle.board.proofs.refusals.find_fault.Statement.{statement}
 use Rattle.board.proofs.refusals.find_fault.Tie as tie
 use Rattle.board.proofs.refusals.find_fault.Reads as reads
 use Rattle.board.proofs.refusals.find_fault.Lts as lts
-use Rattle.board.proofs.refusals.skip_lines.Reads as skip-lines-reads
+use Rattle.board.proofs.walks.skip_lines.Reads as skip-lines-reads
 use Rattle.board.proofs.refusals.verdict.Reads as verdict-reads
-use Rattle.board.proofs.refusals.walk_chips.Reads as walk-chips-reads
-use Rattle.board.proofs.refusals.walk_inner.Reads as walk-inner-reads
-use Rattle.board.proofs.refusals.walk_nodes.Reads as walk-nodes-reads
+use Rattle.board.proofs.walks.walk_chips.Reads as walk-chips-reads
+use Rattle.board.proofs.walks.walk_inner.Reads as walk-inner-reads
+use Rattle.board.proofs.walks.walk_nodes.Reads as walk-nodes-reads
 
 -- The counts are the board's, and small.
 counts-are : (c : tie.Start) → Counted (sheetBoard (c .args .text .now)) (c .args .counts)

@@ -6,12 +6,12 @@ use Rattle.board.specs.Board.{given}
 use Rattle.base.proofs.Bools.{pick-true, pick-false}
 use Rattle.board.proofs.Faults.{given-missing, given-there}
 use borrow.Author.Needs.{needs}
-use Rattle.board.proofs.refusals.parent_missing.Statement.{statement}
-use Rattle.board.proofs.refusals.parent_missing.Tie as tie
-use Rattle.board.proofs.refusals.parent_missing.Reads as reads
-use Rattle.board.proofs.refusals.parent_missing.Lts as lts
-use Rattle.board.proofs.refusals.has_id.Reads as has-id-reads
-use Rattle.board.proofs.refusals.is_body_chip.Reads as is-body-chip-reads
+use Rattle.board.proofs.walks.parent_missing.Statement.{statement}
+use Rattle.board.proofs.walks.parent_missing.Tie as tie
+use Rattle.board.proofs.walks.parent_missing.Reads as reads
+use Rattle.board.proofs.walks.parent_missing.Lts as lts
+use Rattle.board.proofs.walks.has_id.Reads as has-id-reads
+use Rattle.board.proofs.walks.is_body_chip.Reads as is-body-chip-reads
 
 array-read-parent : tie.Need-array-read-parent
 array-read-parent c = search needs

@@ -17,13 +17,13 @@ use Rattle.board.specs.Walk.{lineIf, earlier, lineFrom, sheetBoard, Read
 use Rattle.board.proofs.Sections.{Part, inOrder}
 use Rattle.base.proofs.Bools.{neither, either-left, either-right}
 use Rattle.board.proofs.Faults.{Walking, walking-start, walking-more, walking-twice, walking-end, walk-row, walk-next, walk-sections, ids-more, inner-field, inner-repeats, inner-gone}
-use Rattle.board.proofs.refusals.walk_inner.Statement.{statement}
-use Rattle.board.proofs.refusals.walk_inner.Tie as tie
-use Rattle.board.proofs.refusals.walk_inner.Reads as reads
-use Rattle.board.proofs.refusals.walk_inner.Lts as lts
-use Rattle.board.proofs.refusals.enter_id.Reads as enter-id-reads
-use Rattle.board.proofs.refusals.first_line.Reads as first-line-reads
-use Rattle.board.proofs.refusals.has_id.Reads as has-id-reads
+use Rattle.board.proofs.walks.walk_inner.Statement.{statement}
+use Rattle.board.proofs.walks.walk_inner.Tie as tie
+use Rattle.board.proofs.walks.walk_inner.Reads as reads
+use Rattle.board.proofs.walks.walk_inner.Lts as lts
+use Rattle.board.proofs.walks.enter_id.Reads as enter-id-reads
+use Rattle.board.proofs.walks.first_line.Reads as first-line-reads
+use Rattle.board.proofs.walks.has_id.Reads as has-id-reads
 use Rattle.sheet.proofs.row_of.Reads as row-of-reads
 
 -- The first f nodes are behind.

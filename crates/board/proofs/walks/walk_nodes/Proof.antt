@@ -14,14 +14,14 @@ use Rattle.board.specs.Refusals.{firstLine, nodeTwice, pageMissing, rowU
 use Rattle.board.specs.Walk.{lineOr, lineIf, earlier, lineFrom, sheetBoard, Ready, Ids}
 use Rattle.board.proofs.Sections.{Part, inOrder}
 use Rattle.board.proofs.Faults.{Walking, walking-start, walking-more, walking-twice, walking-end, walk-row, walk-next, walk-sections, ids-more, set-same, first-step, earlier-zero, node-field, node-repeats, node-gone, node-unplaced}
-use Rattle.board.proofs.refusals.walk_nodes.Statement.{statement}
-use Rattle.board.proofs.refusals.walk_nodes.Tie as tie
-use Rattle.board.proofs.refusals.walk_nodes.Reads as reads
-use Rattle.board.proofs.refusals.walk_nodes.Lts as lts
-use Rattle.board.proofs.refusals.enter_id.Reads as enter-id-reads
-use Rattle.board.proofs.refusals.first_line.Reads as first-line-reads
-use Rattle.board.proofs.refusals.page_missing.Reads as page-missing-reads
-use Rattle.board.proofs.refusals.row_unplaced.Reads as row-unplaced-reads
+use Rattle.board.proofs.walks.walk_nodes.Statement.{statement}
+use Rattle.board.proofs.walks.walk_nodes.Tie as tie
+use Rattle.board.proofs.walks.walk_nodes.Reads as reads
+use Rattle.board.proofs.walks.walk_nodes.Lts as lts
+use Rattle.board.proofs.walks.enter_id.Reads as enter-id-reads
+use Rattle.board.proofs.walks.first_line.Reads as first-line-reads
+use Rattle.board.proofs.walks.page_missing.Reads as page-missing-reads
+use Rattle.board.proofs.walks.row_unplaced.Reads as row-unplaced-reads
 use Rattle.sheet.proofs.row_of.Reads as row-of-reads
 
 -- The first i nodes are behind.

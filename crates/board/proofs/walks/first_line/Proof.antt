@@ -3,10 +3,10 @@ use mathlib.Core.Path.{_≡_, sym, _∙_}
 use borrow.Author.Tests.{eq-eqb, ne-eqb}
 use Rattle.board.specs.Walk.{lineIf}
 use Rattle.base.proofs.Bools.{pick-true, pick-false}
-use Rattle.board.proofs.refusals.first_line.Statement.{statement}
-use Rattle.board.proofs.refusals.first_line.Tie as tie
-use Rattle.board.proofs.refusals.first_line.Reads as reads
-use Rattle.board.proofs.refusals.first_line.Lts as lts
+use Rattle.board.proofs.walks.first_line.Statement.{statement}
+use Rattle.board.proofs.walks.first_line.Tie as tie
+use Rattle.board.proofs.walks.first_line.Reads as reads
+use Rattle.board.proofs.walks.first_line.Lts as lts
 
 returns : tie.Need-returns
 returns c = sym (pick-false _ _ _ (ne-eqb _ _ (c .if1 .taken)))

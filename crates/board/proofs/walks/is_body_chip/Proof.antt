@@ -8,10 +8,10 @@ use Rattle.board.specs.Walk.{isChip}
 use Rattle.board.proofs.Chips.{found-at, found-none}
 use Rattle.board.proofs.Faults.{entry-below}
 use borrow.Author.Needs.{needs}
-use Rattle.board.proofs.refusals.is_body_chip.Statement.{statement}
-use Rattle.board.proofs.refusals.is_body_chip.Tie as tie
-use Rattle.board.proofs.refusals.is_body_chip.Reads as reads
-use Rattle.board.proofs.refusals.is_body_chip.Lts as lts
+use Rattle.board.proofs.walks.is_body_chip.Statement.{statement}
+use Rattle.board.proofs.walks.is_body_chip.Tie as tie
+use Rattle.board.proofs.walks.is_body_chip.Reads as reads
+use Rattle.board.proofs.walks.is_body_chip.Lts as lts
 use Rattle.board.proofs.ids.find_id.Reads as find-id-reads
 
 find-id-requires : tie.Need-find-id-requires

@@ -2,12 +2,12 @@
 use mathlib.Core.Path.{_≡_, sym, _∙_}
 use Rattle.board.proofs.Faults.{entered-there}
 use borrow.Author.Needs.{needs}
-use Rattle.board.proofs.refusals.enter_id.Statement.{statement}
-use Rattle.board.proofs.refusals.enter_id.Tie as tie
-use Rattle.board.proofs.refusals.enter_id.Reads as reads
-use Rattle.board.proofs.refusals.enter_id.Lts as lts
+use Rattle.board.proofs.walks.enter_id.Statement.{statement}
+use Rattle.board.proofs.walks.enter_id.Tie as tie
+use Rattle.board.proofs.walks.enter_id.Reads as reads
+use Rattle.board.proofs.walks.enter_id.Lts as lts
 use Rattle.board.proofs.ids.add_id.Reads as add-id-reads
-use Rattle.board.proofs.refusals.has_id.Reads as has-id-reads
+use Rattle.board.proofs.walks.has_id.Reads as has-id-reads
 
 has-id-requires : tie.Need-has-id-requires
 has-id-requires c κs = search needs

@@ -14,13 +14,13 @@ use Rattle.board.specs.Refusals.{chipTwice, parentMissing}
 use Rattle.board.specs.Walk.{lineIf, earlier, lineFrom, sheetBoard, Ready}
 use Rattle.board.proofs.Sections.{Part, inOrder}
 use Rattle.board.proofs.Faults.{Walking, walking-start, walking-more, walking-twice, walking-end, walk-row, walk-next, walk-sections, ids-more, chip-field, chip-repeats, chip-gone}
-use Rattle.board.proofs.refusals.walk_chips.Statement.{statement}
-use Rattle.board.proofs.refusals.walk_chips.Tie as tie
-use Rattle.board.proofs.refusals.walk_chips.Reads as reads
-use Rattle.board.proofs.refusals.walk_chips.Lts as lts
-use Rattle.board.proofs.refusals.enter_id.Reads as enter-id-reads
-use Rattle.board.proofs.refusals.first_line.Reads as first-line-reads
-use Rattle.board.proofs.refusals.parent_missing.Reads as parent-missing-reads
+use Rattle.board.proofs.walks.walk_chips.Statement.{statement}
+use Rattle.board.proofs.walks.walk_chips.Tie as tie
+use Rattle.board.proofs.walks.walk_chips.Reads as reads
+use Rattle.board.proofs.walks.walk_chips.Lts as lts
+use Rattle.board.proofs.walks.enter_id.Reads as enter-id-reads
+use Rattle.board.proofs.walks.first_line.Reads as first-line-reads
+use Rattle.board.proofs.walks.parent_missing.Reads as parent-missing-reads
 use Rattle.sheet.proofs.row_of.Reads as row-of-reads
 
 -- The first c chips are behind.

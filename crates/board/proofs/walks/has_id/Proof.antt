@@ -4,10 +4,10 @@ use Rattle.base.specs.Lists.{found}
 use Rattle.board.specs.Index.{entryOf}
 use Rattle.board.proofs.Chips.{found-at, found-none}
 use borrow.Author.Needs.{needs}
-use Rattle.board.proofs.refusals.has_id.Statement.{statement}
-use Rattle.board.proofs.refusals.has_id.Tie as tie
-use Rattle.board.proofs.refusals.has_id.Reads as reads
-use Rattle.board.proofs.refusals.has_id.Lts as lts
+use Rattle.board.proofs.walks.has_id.Statement.{statement}
+use Rattle.board.proofs.walks.has_id.Tie as tie
+use Rattle.board.proofs.walks.has_id.Reads as reads
+use Rattle.board.proofs.walks.has_id.Lts as lts
 use Rattle.board.proofs.ids.find_id.Reads as find-id-reads
 
 find-id-requires : tie.Need-find-id-requires

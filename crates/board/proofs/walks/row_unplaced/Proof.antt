@@ -3,10 +3,10 @@ use mathlib.Core.Path.{refl}
 use lib.ListN.{getD}
 use Rattle.board.proofs.Faults.{given-missing, given-there, not-given}
 use borrow.Author.Needs.{needs}
-use Rattle.board.proofs.refusals.row_unplaced.Statement.{statement}
-use Rattle.board.proofs.refusals.row_unplaced.Tie as tie
-use Rattle.board.proofs.refusals.row_unplaced.Reads as reads
-use Rattle.board.proofs.refusals.row_unplaced.Lts as lts
+use Rattle.board.proofs.walks.row_unplaced.Statement.{statement}
+use Rattle.board.proofs.walks.row_unplaced.Tie as tie
+use Rattle.board.proofs.walks.row_unplaced.Reads as reads
+use Rattle.board.proofs.walks.row_unplaced.Lts as lts
 
 array-read-if1 : tie.Need-array-read-if1
 array-read-if1 c = search needs

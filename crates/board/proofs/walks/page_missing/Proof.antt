@@ -2,10 +2,10 @@
 use mathlib.Core.Path.{refl}
 use Rattle.board.proofs.Faults.{given-missing, given-there}
 use borrow.Author.Needs.{needs}
-use Rattle.board.proofs.refusals.page_missing.Statement.{statement}
-use Rattle.board.proofs.refusals.page_missing.Tie as tie
-use Rattle.board.proofs.refusals.page_missing.Reads as reads
-use Rattle.board.proofs.refusals.page_missing.Lts as lts
+use Rattle.board.proofs.walks.page_missing.Statement.{statement}
+use Rattle.board.proofs.walks.page_missing.Tie as tie
+use Rattle.board.proofs.walks.page_missing.Reads as reads
+use Rattle.board.proofs.walks.page_missing.Lts as lts
 
 array-read-page : tie.Need-array-read-page
 array-read-page c = search needs

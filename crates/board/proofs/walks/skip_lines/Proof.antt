@@ -7,10 +7,10 @@ use borrow.Author.Needs.{needs}
 use lib.ListN.{length}
 use Rattle.board.specs.Walk.{Ready}
 use Rattle.board.proofs.Faults.{ready-at, ready-next}
-use Rattle.board.proofs.refusals.skip_lines.Statement.{statement}
-use Rattle.board.proofs.refusals.skip_lines.Tie as tie
-use Rattle.board.proofs.refusals.skip_lines.Reads as reads
-use Rattle.board.proofs.refusals.skip_lines.Lts as lts
+use Rattle.board.proofs.walks.skip_lines.Statement.{statement}
+use Rattle.board.proofs.walks.skip_lines.Tie as tie
+use Rattle.board.proofs.walks.skip_lines.Reads as reads
+use Rattle.board.proofs.walks.skip_lines.Lts as lts
 use Rattle.sheet.proofs.row_of.Reads as row-of-reads
 
 abbrev Inv-loop : tie.InvT-loop
