@@ -24,9 +24,12 @@ keyOf items i = field items i 6
 abbrev pub orderAt : List (List ℕ) → ℕ → ℕ
 orderAt items p = field items p 7
 
--- Clear of the cells booked on a row.
+-- Whether one of several cells overlaps a cell; and clear of the cells booked on a row.
+abbrev pub anyOverlaps : List Rows.Cell → Rows.Cell → Bool
+anyOverlaps booked c = any (λ d. cellsOverlap d c) booked
+
 abbrev pub clearOf : List Rows.Cell → Rows.Cell → Bool
-clearOf booked c = not (any (λ d. cellsOverlap d c) booked)
+clearOf booked c = not (anyOverlaps booked c)
 
 -- Whether the item that comes p-th is the first of its row.
 abbrev pub begins : List (List ℕ) → ℕ → Bool
@@ -69,6 +72,11 @@ noCell = record { x0 = 0; x1 = 0; y0 = 0; y1 = 0 }
 abbrev pub firstCells : List Cell → ℕ → List Rows.Cell
 firstCells cells zero = []
 firstCells cells (suc n) = cellOf (getD cells n noCell) ∷ firstCells cells n
+
+-- So many cells of a slice from a place on, newest first.
+abbrev pub cellsFrom : List Cell → ℕ → ℕ → List Rows.Cell
+cellsFrom cells from zero = []
+cellsFrom cells from (suc n) = cellOf (getD cells (from + n) noCell) ∷ cellsFrom cells from n
 
 -- How many cells count: none where a row begins, or where a brick is asked for.
 abbrev pub unless : Bool → ℕ → ℕ

@@ -3,12 +3,12 @@
 use base::rows::WorkRow;
 ghost use mathlib.Core.Path.{_≡_};
 ghost use mathlib.Core.Bool.{true, false};
-ghost use Prim.Native.Nat.{ℕ, _<_, _≤_};
+ghost use Prim.Native.Nat.{ℕ, _-_, _<_, _≤_};
 ghost use lib.Dec.{ltb};
 ghost use lib.ListN.{length, set};
 ghost use Rattle.board.specs.Rows.{cellsOverlap};
 ghost use Rattle.board.specs.Tables.{flag};
-ghost use Rattle.routes_rows.specs.Booking.{cellOf, itemCell, orderAt, begins as beginsRow, clearOf, book, flagsAfter, firstCells, unless, countAfter};
+ghost use Rattle.routes_rows.specs.Booking.{cellOf, itemCell, orderAt, begins as beginsRow, anyOverlaps, clearOf, cellsFrom, book, flagsAfter, firstCells, unless, countAfter};
 
 // A cell, half-open.
 pub struct Cell {
@@ -20,6 +20,9 @@ pub struct Cell {
 
 // As many cells as there can be on one row: 4,096 bricks, and two rerouters a wire.
 pub const CELLS_MOST: usize = 20_480;
+
+// As many cells of a row are looked at before it is asked whether one of them overlaps.
+const CELLS_AT_ONCE: usize = 8;
 
 // C1: whether two cells overlap.
 pub fn cells_overlap(a: Cell, b: Cell) -> bool
@@ -78,19 +81,35 @@ pub fn count_tested(items: &[WorkRow], p: usize, bricks: usize, n: usize) -> usi
     n
 }
 
-// Whether a cell is clear of the first n cells; the newest first.
+// Whether one of the cells from..to overlaps a cell. All of them are looked at, with no branch on what is found: one that is guessed wrong costs more than a few cells.
+fn any_overlaps(cells: &[Cell], from: usize, to: usize, c: Cell) -> bool
+    requires { ⌜ (from ≤ to) × (to ≤ length (now cells)) ⌝ }
+    ensures { λ r. ⌜ r ≡ anyOverlaps (cellsFrom (now (cells .entry)) from (to - from)) (cellOf c) ⌝ }
+{
+    // Counted from 0, so that the number of turns is known where from and to are a fixed number apart.
+    let count = to - from;
+    let mut hit = false;
+    let mut j = 0;
+    while j < count {
+        hit = hit | cells_overlap(cells[from + j], c);
+        j = j + 1;
+    }
+    hit
+}
+
+// Whether a cell is clear of the first n cells: so many at once, the newest first, and those that are left over last.
 fn is_clear(cells: &[Cell], n: usize, c: Cell) -> bool
     requires { ⌜ n ≤ length (now cells) ⌝ }
     ensures { λ r. ⌜ r ≡ clearOf (firstCells (now (cells .entry)) n) (cellOf c) ⌝ }
 {
     let mut k = n;
-    while k > 0 {
-        k = k - 1;
-        if cells_overlap(cells[k], c) {
+    while k >= CELLS_AT_ONCE {
+        k = k - CELLS_AT_ONCE;
+        if any_overlaps(cells, k, k + CELLS_AT_ONCE, c) {
             return false;
         }
     }
-    true
+    !any_overlaps(cells, 0, k, c)
 }
 
 // A cell is written behind the first n, where it is to be.
