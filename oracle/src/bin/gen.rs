@@ -9,7 +9,7 @@ const USAGE: &str = "gen SEED COUNT SIZE
 SIZE: tiny program medium full many-lanes damaged lanes
       full-typical full-random hot-rows tall-lanes crowded-corners
       aligned-ports aligned-groups aligned-levels one-exec deep-chips one-row
-      one-lane one-sink all-corners";
+      one-lane one-sink two-sinks all-corners";
 
 fn main() -> std::io::Result<()> {
     let args: Vec<String> = std::env::args().collect();

@@ -6,7 +6,7 @@ use super::nasty::{brick, page, wire};
 use crate::board::*;
 
 /// The boards by name.
-pub const NAMES: [&str; 9] = [
+pub const NAMES: [&str; 10] = [
     "aligned-ports",
     "aligned-groups",
     "aligned-levels",
@@ -15,6 +15,7 @@ pub const NAMES: [&str; 9] = [
     "one-row",
     "one-lane",
     "one-sink",
+    "two-sinks",
     "all-corners",
 ];
 
@@ -29,6 +30,7 @@ pub fn board(name: &str) -> Option<Board> {
         "one-row" => one_row(),
         "one-lane" => one_lane(),
         "one-sink" => one_sink(),
+        "two-sinks" => two_sinks(),
         "all-corners" => all_corners(),
         _ => return None,
     })
@@ -223,20 +225,34 @@ fn source(id: u32, y: i32) -> Node {
 /// 8,192 corners sought by one sink with a thousand levels, on a row of 4,032
 /// bricks.
 fn one_sink() -> Board {
+    sinks_in_turn(1)
+}
+
+/// The same by two sinks in turn, so that each corner is another sink's than
+/// the one before.
+fn two_sinks() -> Board {
+    sinks_in_turn(2)
+}
+
+fn sinks_in_turn(count: u32) -> Board {
     let mut board = on_one_page(-1_000_000);
     for id in 1..=64 {
         board
             .nodes
             .push(source(id, -100_001 + 16_384 * (id as i32 - 1)));
     }
-    board.nodes.push(sink(65, (1, 1_000), (0, -990_000)));
-    for id in 66..=4_096 {
+    for id in 65..65 + count {
+        let at = (0, -990_260 + 4 * id as i32);
+        board.nodes.push(sink(id, (1, 1_000), at));
+    }
+    for id in 65 + count..=4_096 {
         let at = (-900_000, -990_264 + 4 * id as i32);
         board.nodes.push(sink(id, (1, 1), at));
     }
     for k in 0..8_192 {
         let from = (1 + k % 64, 1 + (k / 64) as u16);
-        board.wires.push(wire(from, (65, 1 + k as u16)));
+        let to = (65 + k % count, 1 + (k / count) as u16);
+        board.wires.push(wire(from, to));
     }
     board
 }

@@ -42,7 +42,7 @@ const BOARDS: [(&str, &str); 5] = [
 const SLOW: &str = "crowded-corners";
 /// Of the boards drawn against the library's steps, those on which the
 /// original takes many seconds.
-const TOO_SLOW: [&str; 2] = ["one-sink", "all-corners"];
+const TOO_SLOW: [&str; 3] = ["one-sink", "two-sinks", "all-corners"];
 /// The one of them that takes the library longest.
 const WORST: &str = "all-corners";
 /// Wires of the boards that grow, with their pages and rows.

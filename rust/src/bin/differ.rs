@@ -26,7 +26,7 @@ long. What differs is shrunk and printed, and the status is then 1.
 SIZE    tiny program medium full many-lanes
         full-typical full-random hot-rows tall-lanes crowded-corners
         aligned-ports aligned-groups aligned-levels one-exec deep-chips one-row
-        one-lane one-sink all-corners
+        one-lane one-sink two-sinks all-corners
         damaged scratched to-the-most
         a file that holds a sheet
         lanes   demand lists through the lane call
