@@ -9,7 +9,7 @@ use mathlib.Core.List.{List, [], _∷_, _++_, map, reverse, reverseAux, reverse-
 use lib.Dec.{eqb, ltb}
 use lib.ListN.{length, getD, set, take, drop, length-set, length-append, length-drop}
 use lib.Seq.{getD-set-same, getD-set-other, take-suc, drop-cons, take-at, length-take-le}
-use borrow.Author.Tests.{eq-eqb, ne-eqb, eqb-true, eqb-false, lt-ltb, le-ltb}
+use borrow.Author.Tests.{eq-eqb, ne-eqb, eqb-true, eqb-false, lt-ltb, le-ltb, ltb-true, ltb-false}
 use Rattle.sheet.specs.Table.{MISSING}
 use Rattle.lanes.specs.Lanes.{Demand, noDemand, Packed, full, laned, packed, laneMost}
 use Rattle.lanes.specs.Apart.{Rising}
@@ -17,7 +17,7 @@ use Rattle.lanes.specs.declared.pack.Packing.{Packing}
 use Rattle.lanes.specs.declared.pack.Packing.the-variants.{Lanes, Full}
 use Rattle.lanes.specs.LaneCall.{faulty, Sound}
 use Rattle.lanes.specs.Keys.{demandOf, laneColumn, withLane, eachWith, rowsAfter, resultOf, PackedRows}
-use Rattle.base.proofs.Bools.{never, clash, pick-true, pick-false}
+use Rattle.base.proofs.Bools.{never, clash, or-left, or-right, pick-true, pick-false}
 use Rattle.lanes.proofs.Promise.{lanes-apart}
 use Rattle.base.specs.Lists.{Found, none, at, any, keep, upto}
 use Rattle.board.specs.Board.{Board, field, sourceNode, targetNode, kindChip, kindInput, classStorage}
@@ -26,7 +26,7 @@ use Rattle.board.specs.Demands.{laneIn, firstRow, lastRow, needsLane}
 use Rattle.base.specs.Views.{view}
 use Rattle.board.specs.Tables.{held, flag, tapIn, tapTarget}
 use Rattle.board_groups.specs.Collecting.{relaned, headPage, Packable}
-use Rattle.board_lanes.specs.PagePlan.{groupDemand, orderColumn, asking, AddedDemand, PageDemands, PagePacked}
+use Rattle.board_lanes.specs.PagePlan.{groupDemand, orderColumn, asking, NoneAsks, AddedDemand, PageDemands, PagePacked}
 use Rattle.base.proofs.Members.{at-mem, keep-from, map-in, map-from, upto-below}
 use Rattle.board_groups.proofs.TapLaws.{view-more}
 use Rattle.board_lanes.proofs.GroupLaws.{source-held, target-held, source-below, target-below}
@@ -275,6 +275,48 @@ demands-more taps groups marks p k n r before after old new =
     other : (s : Bool) → _≡_ {A = List ℕ} (elim s [ true ↦ field taps k 1 ∷ view orderColumn before n | false ↦ view orderColumn before n ]) (map (λ j. field taps j 1) (elim s [ true ↦ k ∷ rest | false ↦ rest ]))
     other true = ap (λ (l : List ℕ). field taps k 1 ∷ l) (old .orders)
     other false = old .orders
+
+-- One more mark is not that of the page.
+pub none-more : (marks : List ℕ) (p j i : ℕ) (hit : Bool) → (hit ≡ false → NoneAsks marks p j (j + i)) → (hit || eqb (getD marks (j + i) 0) p) ≡ false → NoneAsks marks p j (j + (i + 1))
+none-more marks p j i hit h e k a b = go (eqb k (j + i)) refl
+  where
+    go : (t : Bool) → eqb k (j + i) ≡ t → getD marks k 0 ≡ p → ⊥
+    go true q = let z : k ≡ j + i = eqb-true k (j + i) q in λ is. eqb-false (getD marks (j + i) 0) p (or-right hit (eqb (getD marks (j + i) 0) p) e) (ap (λ (x : ℕ). getD marks x 0) (sym z) ∙ is)
+    go false q = let other = eqb-false k (j + i) q in h (or-left hit (eqb (getD marks (j + i) 0) p) e) k a (omega (arith, b, other))
+
+pub none-done : (marks : List ℕ) (p j i : ℕ) (hit : Bool) → (hit ≡ false → NoneAsks marks p j (j + i)) → i ≡ 8 → not hit ≡ true → NoneAsks marks p j (j + 8)
+none-done marks p j i true h z e = clash e refl
+none-done marks p j i false h z e = λ k a b. h refl k a (omega (arith, b, z))
+
+pub none-joined : (marks : List ℕ) (p a b c : ℕ) → NoneAsks marks p a b → NoneAsks marks p b c → NoneAsks marks p a c
+none-joined marks p a b c f g j l h = go (ltb j b) refl
+  where
+    go : (t : Bool) → ltb j b ≡ t → getD marks j 0 ≡ p → ⊥
+    go true q = f j l (ltb-true j b q)
+    go false q = g j (ltb-false j b q) h
+
+pub none-here : {C : Type 0} → false ≡ true → C
+none-here e = clash e refl
+
+pub other-here : (marks : List ℕ) (p j m : ℕ) → j < m → not (eqb (getD marks j 0) p) ≡ true → (j < m) × (getD marks j 0 ≡ p → ⊥)
+other-here marks p j m h e = (h, λ is. clash e (ap not (eq-eqb (getD marks j 0) p is)))
+
+pub none-one : (marks : List ℕ) (p j : ℕ) → (getD marks j 0 ≡ p → ⊥) → NoneAsks marks p j (j + 1)
+none-one marks p j f k a b = let z : k ≡ j = omega (arith, a, b) in λ is. f (ap (λ (x : ℕ). getD marks x 0) (sym z) ∙ is)
+
+-- Taps that do not ask are passed over.
+pub demands-past : (taps groups : List (List ℕ)) (marks : List ℕ) (p k n : ℕ) (demands : List (List ℕ)) → PageDemands taps marks k groups p demands n
+    → (r : ℕ) → k ≤ r → NoneAsks marks p k r → PageDemands taps marks r groups p demands n
+demands-past taps groups marks p k n demands old r l free = subst (λ (j : ℕ). PageDemands taps marks j groups p demands n) (omega (arith, l)) (past (r - k) (λ j a b. free j a (omega (arith, b, l))))
+  where
+    past : (d : ℕ) → NoneAsks marks p k (k + d) → PageDemands taps marks (k + d) groups p demands n
+    past zero q = subst (λ (j : ℕ). PageDemands taps marks j groups p demands n) (omega arith) old
+    past (suc d) q =
+        let e : eqb (getD marks (k + d) 0) p ≡ false = ne-eqb (getD marks (k + d) 0) p (q (k + d) (omega arith) (omega arith)) in
+        let h = past d (λ j a b. q j a (omega (arith, b))) in
+        let z : k + suc d ≡ suc (k + d) = omega arith in
+        let same : asking taps marks p (suc (k + d)) ≡ asking taps marks p (k + d) = ap (map (λ j. field taps j 1)) (pick-false (eqb (getD marks (k + d) 0) p) _ _ e) in
+        subst (λ (j : ℕ). PageDemands taps marks j groups p demands n) (sym z) (record { rows = h .rows ∙ ap (map (groupDemand groups)) (sym same); orders = h .orders ∙ sym same })
 
 -- A page's demands, packed and written back.
 each-orders : (rows : List (List ℕ)) (ls : List ℕ) → map orderColumn (eachWith withLane rows ls) ≡ map orderColumn rows

@@ -38,6 +38,10 @@ orderColumn row = getD row 3 0
 abbrev pub asking : List (List ℕ) → List ℕ → ℕ → ℕ → List ℕ
 asking taps marks p m = map (λ k. field taps k 1) (keep (λ k. eqb (getD marks k 0) p) (upto m))
 
+-- None of the taps from one up to another asks for a lane on the page.
+abbrev pub NoneAsks : List ℕ → ℕ → ℕ → ℕ → Type 0
+NoneAsks marks p from to = (j : ℕ) → from ≤ j → j < to → getD marks j 0 ≡ p → ⊥
+
 -- One tap's demand, where it asks for a lane on the page.
 pub record AddedDemand (groups : List (List ℕ)) (tap : List ℕ) (mark p : ℕ) (before : List (List ℕ)) (n : ℕ) (after : List (List ℕ)) (r : ℕ) : Type 0 where
   pub count : r ≤ n + 1

@@ -11,6 +11,7 @@ use board_groups::rows::number_rows;
 use lanes::pack::Packing;
 use lanes::rows::pack_rows;
 ghost use mathlib.Core.Path.{_≡_};
+ghost use mathlib.Core.Bool.{true};
 ghost use mathlib.Core.List.{[], _∷_, map};
 ghost use Prim.Native.Nat.{ℕ, _+_, _≤_, _<_};
 ghost use lib.ListN.{length, getD};
@@ -21,8 +22,7 @@ ghost use Rattle.board.specs.Board.{Board, field};
 ghost use Rattle.board.specs.Demands.{laneIn};
 ghost use Rattle.board.specs.Tables.{NodeFacts, WireFacts};
 ghost use Rattle.board_groups.specs.Collecting.{Indexes, relaned, Packable};
-ghost use Rattle.board_lanes.specs.PagePlan.{PlanHeld};
-ghost use Rattle.board_lanes.specs.PagePlan.{orderColumn, AddedDemand, PageDemands, PagePacked, GutterPacked, Surveyed, Collected, Room, BoardPlanned};
+ghost use Rattle.board_lanes.specs.PagePlan.{PlanHeld, NoneAsks, orderColumn, AddedDemand, PageDemands, PagePacked, GutterPacked, Surveyed, Collected, Room, BoardPlanned};
 ghost use Rattle.board.specs.Accepted.{AcceptedNodes};
 
 // The first page that opens one lane too many, or that every group which needs a lane has one.
@@ -65,6 +65,60 @@ fn add_demand(
     n + 1
 }
 
+// So many marks are passed over at once.
+const MARKS_AT_ONCE: usize = 8;
+
+// Whether none of the marks from the j-th on, as many as are passed over at once, is that of the page. All are looked at, without a branch for each.
+fn has_none(marks: &[u32], j: usize, p: u32) -> bool
+    requires { ⌜ j + 8 ≤ length (now marks) ⌝ }
+    ensures { λ r. ⌜ (r ≡ true → NoneAsks (now (marks .entry)) p j (j + 8)) ⌝ }
+{
+    let mut hit = false;
+    let mut i: usize = 0;
+    while i < MARKS_AT_ONCE {
+        hit = hit | (marks[j + i] == p);
+        i += 1;
+    }
+    !hit
+}
+
+// Whether so many marks are there from the j-th on, and none is that of the page.
+fn passes(marks: &[u32], j: usize, m: usize, p: u32) -> bool
+    requires { ⌜ (j ≤ m) × (m ≤ length (now marks)) × (m ≤ libraryMost .wires) ⌝ }
+    ensures { λ r. ⌜ (r ≡ true → (j + 8 ≤ m) × NoneAsks (now (marks .entry)) p j (j + 8)) ⌝ }
+{
+    if m < j + MARKS_AT_ONCE {
+        return false;
+    }
+    has_none(marks, j, p)
+}
+
+// Whether the j-th mark is there, and is not that of the page.
+fn is_other(marks: &[u32], j: usize, m: usize, p: u32) -> bool
+    requires { ⌜ m ≤ length (now marks) ⌝ }
+    ensures { λ r. ⌜ (r ≡ true → (j < m) × (getD (now (marks .entry)) j 0 ≡ p → ⊥)) ⌝ }
+{
+    if m <= j {
+        return false;
+    }
+    marks[j] != p
+}
+
+// The first tap from the k-th on that asks for a lane on the page, or m.
+fn next_asking(marks: &[u32], k: usize, m: usize, p: u32) -> usize
+    requires { ⌜ (k ≤ m) × (m ≤ length (now marks)) × (m ≤ libraryMost .wires) ⌝ }
+    ensures { λ r. ⌜ (k ≤ r) × (r ≤ m) × NoneAsks (now (marks .entry)) p k r ⌝ }
+{
+    let mut j = k;
+    while passes(marks, j, m, p) {
+        j += MARKS_AT_ONCE;
+    }
+    while is_other(marks, j, m, p) {
+        j += 1;
+    }
+    j
+}
+
 // The demands of a page's groups, by rising first wire. Their count comes back.
 fn page_demands(
     taps: &[WorkRow],
@@ -74,16 +128,16 @@ fn page_demands(
     p: u32,
     demands: &mut [WorkRow],
 ) -> usize
-    requires { ⌜ (m ≤ length (now taps)) × (m ≤ length (now marks)) × (m ≤ length (now demands)) ⌝ }
+    requires { ⌜ (m ≤ libraryMost .wires) × (m ≤ length (now taps)) × (m ≤ length (now marks)) × (m ≤ length (now demands)) ⌝ }
     requires { ⌜ Packable (now taps) m (now groups) ⌝ }
     ensures { λ r. ⌜ r ≤ m ⌝ }
     ensures { λ r. ⌜ PageDemands (now (taps .entry)) (now (marks .entry)) m (now (groups .entry)) p (now (demands .exit)) r ⌝ }
 {
     let mut n: usize = 0;
-    let mut k: usize = 0;
+    let mut k = next_asking(marks, 0, m, p);
     while k < m {
         n = add_demand(taps[k], marks[k], groups, p, demands, n);
-        k += 1;
+        k = next_asking(marks, k + 1, m, p);
     }
     n
 }
