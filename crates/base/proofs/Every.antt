@@ -2,7 +2,7 @@
 use mathlib.Core.Path.{_≡_, refl, ap, _∙_}
 use mathlib.Core.Bool.{Bool, true, false}
 use mathlib.Core.Logic.{_⊎_, inl, inr, ⊎-elim}
-use mathlib.Core.List.{List, [], _∷_, map}
+use mathlib.Core.List.{List, [], _∷_, _++_, map}
 use Prim.Native.Nat.{ℕ, zero, suc, _<_}
 use native.Mathlib.Omega.{arith}
 use lib.ListN.{length, getD}
@@ -21,6 +21,10 @@ module _ {A : Type 0} (P : A → Type 0) where
   pub all-of : (d : A) (xs : List A) → ((i : ℕ) → i < length xs → P (getD xs i d)) → All xs
   all-of d [] f = tt
   all-of d (x ∷ xs) f = (f 0 (omega arith), all-of d xs (λ i h. f (suc i) (omega arith)))
+
+  pub all-append : (xs ys : List A) → All xs → All ys → All (xs ++ ys)
+  all-append [] ys a b = b
+  all-append (x ∷ xs) ys a b = (a .0, all-append xs ys (a .1) b)
 
   pub all-at : (d : A) (xs : List A) → All xs → (i : ℕ) → i < length xs → P (getD xs i d)
   all-at d [] a i h = absurd (omega arith)

@@ -11,3 +11,5 @@ pub mod InsertLaws
 pub mod Every
 pub mod RunLaws
 pub mod GrowLaws
+pub mod DigitLaws
+pub mod DealLaws

@@ -4,7 +4,7 @@ use native.Mathlib.Omega.{arith}
 use mathlib.Core.Path.{_≡_, refl, sym, ap, _∙_}
 use mathlib.Core.Logic.{_⊎_, inl, inr}
 use mathlib.Core.Bool.{Bool, true, false, _&&_}
-use mathlib.Core.List.{List, [], _∷_, map, reverse, reverseAux, List·Memᴰ, List·Memᴰ·head, List·Memᴰ·tail, List·Memᴰ·cases-cons, List·Memᴰ·not-nil}
+use mathlib.Core.List.{List, [], _∷_, _++_, map, reverse, reverseAux, List·Memᴰ, List·Memᴰ·head, List·Memᴰ·tail, List·Memᴰ·cases-cons, List·Memᴰ·not-nil}
 use lib.Dec.{eqb}
 use lib.ListN.{length}
 use borrow.Author.Tests.{eqb-true}
@@ -49,6 +49,14 @@ module _ {A : Type 0} where
 
   pub keep-no : (p : A → Bool) (x : A) (l : List A) → p x ≡ false → keep p (x ∷ l) ≡ keep p l
   keep-no p x l h = rw (h, keep)
+
+  pub keep-append : (p : A → Bool) (l r : List A) → keep p (l ++ r) ≡ keep p l ++ keep p r
+  keep-append p [] r = refl
+  keep-append p (x ∷ l) r = go (p x) refl (keep-append p l r)
+    where
+      go : (t : Bool) → p x ≡ t → keep p (l ++ r) ≡ keep p l ++ keep p r → keep p (x ∷ l ++ r) ≡ keep p (x ∷ l) ++ keep p r
+      go true e ih = rw (keep-yes p x (l ++ r) e, keep-yes p x l e, ih)
+      go false e ih = rw (keep-no p x (l ++ r) e, keep-no p x l e, ih)
 
   pub keep-same : (p : A → Bool) (l : List A) → ((x : A) → List·Memᴰ x l → p x ≡ true) → keep p l ≡ l
   keep-same p [] h = refl

@@ -115,7 +115,7 @@ module _ {A : Type 0} (less : A → A → Bool) where
   length-sorted (x ∷ l) = length-inserted x (sorted less l) ∙ ap suc (length-sorted l)
 
   module _ (o : Order less) (alone : (x : A) → less x x ≡ false) where
-    not-both : (x y : A) → less y x ≡ true → less x y ≡ false
+    pub not-both : (x y : A) → less y x ≡ true → less x y ≡ false
     not-both x y h = go (less x y) refl
       where
         go : (t : Bool) → less x y ≡ t → t ≡ false
