@@ -20,9 +20,9 @@ use Rattle.routes_beside.specs.Beside.{countOn, cellIn, BricksAskable}
 use Rattle.routes_beside.proofs.Answered.{item-few}
 use Rattle.routes_beside.proofs.Filled.{same-item}
 use Rattle.routes_beside.proofs.Keys.{key-below}
-use Rattle.routes_rows.specs.Blocked.{NoEnds}
 use Rattle.routes_rows.specs.Booking.{orderAt}
 use Rattle.routes_rows.specs.Entries.{Askable, TurnsFit}
+use Rattle.routes_rows.specs.Notes.{NOTES}
 use Rattle.routes_rows.specs.Turning.{answersAfter}
 use Rattle.routes_turns.proofs.Answers.{answers-told}
 use Rattle.routes_turns.specs.CornerItems.{isRow, isInside, BesideItems, QuestionItem, QuestionItems, CornerItems, LevelsHeld}
@@ -117,7 +117,7 @@ module _ (nodes facts : List (List ℕ)) (classes list : List ℕ) (n : ℕ) (re
           few = few-levels (field items′ i 0) (field items′ i 1) (field nodes t 8) (brickCell (nodesAlone nodes) t .x1) begins ends (turns .wide q h);
           low = let e = column 2 (omega arith) in let f = turns .flat q h in omega arith;
           hasSink = λ z. let e = column 3 (omega arith) in let f = there .target in let g = ok .few in omega arith;
-          hasClass = λ z. let e = column 4 (omega arith) in let f = turns .there q h .class in omega arith;
+          classFew = let e = column 4 (omega arith) in let f = turns .there q h .class in omega arith;
         }
       where
         i : ℕ
@@ -149,8 +149,8 @@ module _ (nodes facts : List (List ℕ)) (classes list : List ℕ) (n : ℕ) (re
 
     module _ (count : ℕ) (most : count ≤ length nodes + m + n) (o : Ordered (keyIn items) (orderIn items′) (length nodes) (length nodes + m + n) count) where
       pub turns-fit : (items₀ : List (List ℕ)) (answers : List ℕ) → DecideRoom nodes n rerouters m items₀ answers → length items′ ≡ length items₀
-          → (ends : List ℕ) → 1000 ≤ length ends → NoEnds ends → TurnsFit items′ count (length nodes + m) ends answers
-      turns-fit items₀ answers room long ends endsLong noEnds =
+          → (notes : List ℕ) → NOTES ≤ length notes → ((k : ℕ) → k < NOTES → getD notes k 0 ≡ 0) → TurnsFit items′ count (length nodes + m) notes answers
+      turns-fit items₀ answers room long notes notesLong fresh =
           let few = room .few in
           let onItems = room .onItems in
           let onAnswers = room .onAnswers in
@@ -165,8 +165,8 @@ module _ (nodes facts : List (List ℕ)) (classes list : List ℕ) (n : ℕ) (re
                 let z : length nodes + m + (orderAt items′ p - (length nodes + m)) ≡ orderAt items′ p = omega arith in
                 subst (λ (j : ℕ). Askable items′ j) z (askable (orderAt items′ p - (length nodes + m)) (omega arith));
             there = λ p h l. let w = o .within p h in omega arith;
-            endsLong = endsLong;
-            noEnds = noEnds;
+            notesLong = notesLong;
+            fresh = fresh;
           }
 
       -- The answers are the levels.

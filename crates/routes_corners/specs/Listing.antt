@@ -36,7 +36,7 @@ questionRow nodes facts classes items w = questionOf (getD items (field facts w 
 pub record TurnThere (nodes facts : List (List ℕ)) (classes : List ℕ) (w : ℕ) : Type 0 where
   pub onFacts : w < length facts
   pub onClasses : w < length classes
-  pub class : getD classes w 0 < MISSING
+  pub class : getD classes w 0 < 8192
   pub ends : EndsThere nodes facts w
 
 -- What is asked for can be listed: no corner reaches beyond the edge, and no sink is wider than 1,000 levels.

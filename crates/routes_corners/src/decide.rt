@@ -4,6 +4,7 @@ use base::rows::Record;
 use base::rows::RerouterRow;
 use base::rows::WorkRow;
 use base::runs::order_by_key;
+use routes_rows::notes::NOTES_MOST;
 use routes_rows::turn::turn_rows;
 ghost use mathlib.Core.List.{List};
 ghost use Prim.Native.Nat.{ℕ};
@@ -36,6 +37,6 @@ pub fn decide_corners(
     let bricks = nodes.len();
     fill_corners(nodes, facts, classes, list, n, rerouters, m, items);
     let count = order_by_key(items, bricks + m + n, bricks);
-    let mut ends = [0u32; 1000];
-    turn_rows(items, count, bricks + m, &mut ends, answers);
+    let mut notes = [0u32; NOTES_MOST];
+    turn_rows(items, count, bricks + m, &mut notes, answers);
 }

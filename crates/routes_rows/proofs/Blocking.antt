@@ -10,7 +10,7 @@ use lib.ListN.{length, getD, set, length-set}
 use lib.Seq.{getD-set-same, getD-set-other}
 use borrow.Author.Tests.{eqb-true, eqb-false, ltb-true, ltb-false, lt-ltb, le-ltb, le-leb, lt-leb}
 use Rattle.board.specs.Rows.{cellsOverlap}
-use Rattle.base.proofs.Bools.{and-right, and-false}
+use Rattle.base.proofs.Bools.{and-right, and-false, both, false-first}
 use Rattle.routes_levels.proofs.LevelLaws.{same-test}
 use Rattle.routes_rows.specs.Booking.{noCell, firstCells}
 use Rattle.routes_rows.specs.Blocked.{larger, countIn, levelNo, beyond, blocked, Blocks, cellMeets, cellsMeet, Spread}
@@ -85,8 +85,21 @@ module _ (l cell : Cell) (first count : ℕ) (is : first ≡ (cell .x0 - l .x0) 
   abbrev pub within : Bool
   within = ltb (l .y0) (cell .y1) && ltb (cell .y0) (l .y1) && ltb first count
 
-  pub within-first : within ≡ true → first < countIn l
+  within-first : within ≡ true → first < countIn l
   within-first e = let h = ltb-true first count (and-right (ltb (l .y0) (cell .y1) && ltb (cell .y0) (l .y1)) (ltb first count) e) in omega (arith, h, counts)
+
+  pub within-all : l .y0 < cell .y1 → cell .y0 < l .y1 → first < count → within ≡ true
+  within-all a b h = both _ (ltb first count) (both (ltb (l .y0) (cell .y1)) (ltb (cell .y0) (l .y1)) (lt-ltb (l .y0) (cell .y1) a) (lt-ltb (cell .y0) (l .y1) b)) (lt-ltb first count h)
+
+  -- one of the three does not hold
+  pub within-below : cell .y1 ≤ l .y0 → within ≡ false
+  within-below h = false-first _ (ltb first count) (false-first _ (ltb (cell .y0) (l .y1)) (le-ltb (l .y0) (cell .y1) h))
+
+  pub within-above : l .y1 ≤ cell .y0 → within ≡ false
+  within-above h = false-first _ (ltb first count) (ap (λ t. ltb (l .y0) (cell .y1) && t) (le-ltb (cell .y0) (l .y1) h) ∙ and-false (ltb (l .y0) (cell .y1)))
+
+  pub within-beside : count ≤ first → within ≡ false
+  within-beside h = ap (λ t. ltb (l .y0) (cell .y1) && ltb (cell .y0) (l .y1) && t) (le-ltb first count h) ∙ and-false (ltb (l .y0) (cell .y1) && ltb (cell .y0) (l .y1))
 
   begins : (k : ℕ) → ltb (cell .x0) (levelNo l k + 2) ≡ ltb first (suc k)
   begins k = same-test _ _ (λ t. let h = ltb-true (cell .x0) (levelNo l k + 2) t in lt-ltb first (suc k) (omega arith)) (λ t. let h = ltb-true first (suc k) t in lt-ltb (cell .x0) (levelNo l k + 2) (omega arith))

@@ -23,11 +23,13 @@ use Rattle.routes_levels.specs.declared.levels.Found.the-variants.{None, At}
 use Rattle.routes_levels.proofs.Searches.{found-at, found-none}
 use Rattle.routes_rows.specs.Booking.{cellOf, itemCell, orderAt, begins, book, noCell, firstCells, unless, countAfter}
 use Rattle.routes_rows.specs.Blocked.{countIn, levelNo, cornerCell, blocked, Blocks, cellsMeet, Spread, NoEnds, NoEndsPast}
+use Rattle.routes_rows.specs.Notes.{NOTES, rowNo, Plain, AllPlain, NotesLow, Noted, SamePast, Begun}
 use Rattle.routes_rows.specs.Turning.{Entry, sinkX, sinkEnd, cornerY, sinkIn, classIn, clearAt, loadAt, ofClass, levelAt, bookCorner, bookItem, entriesOn, entriesAfter, answerIf, answersAfter}
-use Rattle.routes_rows.specs.Entries.{SLICE_MOST, inSlice, LEVELS_END, levelIn, cellEntry, blank, cornerBox, cornerEntry, entryFor, seen, rowBefore, spanOf, spanFor, BlockedBy, BlockedFor, levelBy, TellsClear, Askable, RowFits, Decidable, Decided, TurnsFit}
+use Rattle.routes_rows.specs.Entries.{SLICE_MOST, inSlice, LEVELS_END, levelIn, cellEntry, blank, cornerBox, cornerEntry, entryFor, seen, rowBefore, spanOf, spanFor, BlockedBy, BlockedFor, levelBy, TellsClear, Askable, RowFits, Turnable, Weighed, Laid, Decidable, Decided, TurnsFit}
 use Rattle.routes_rows.specs.declared.book.Cell.{Cell}
 use Rattle.routes_rows.proofs.Blocking.{none-beyond, leb-not}
 use Rattle.routes_rows.proofs.EntryLaws.{row-kept}
+use Rattle.routes_rows.proofs.NoteLaws.{low-same, noted-same, blocked-kept, past-kept, ends-kept, noted-plain}
 
 -- ---- a level that is found lies in the span
 lowest-within : (free : ℕ → Bool) (x n l : ℕ) → lowest free x n ≡ at l → (l + 2 ≤ x + 2 * n) × (0 < n)
@@ -136,7 +138,7 @@ ends-tell span booked ends ends′ count high counts b s k low =
     ∙ (λ i. not (any (λ e. cellsOverlap (e .cell) (record { x0 = levelNo span k; x1 = levelNo span k + 2; y0 = span .y0; y1 = high i })) booked))
 
 -- ---- no end past the levels of a question
-pub past-corner : (items : List (List ℕ)) (first i : ℕ) (ends : List ℕ) → first ≤ i → NoEndsPast (countIn (spanFor items first i)) ends → NoEndsPast (countIn (spanOf items i)) ends
+past-corner : (items : List (List ℕ)) (first i : ℕ) (ends : List ℕ) → first ≤ i → NoEndsPast (countIn (spanFor items first i)) ends → NoEndsPast (countIn (spanOf items i)) ends
 past-corner items first i ends l past = subst (λ (s : Cell). NoEndsPast (countIn s) ends) (pick-false (ltb i first) noCell (spanOf items i) (le-ltb i first l)) past
 
 -- ---- a level told is read again
@@ -144,47 +146,76 @@ level-told : (f : Found) → ((l : ℕ) → f ≡ at l → l < LEVELS_END) → l
 level-told none few = pick-false (ltb MISSING LEVELS_END) (at MISSING) none (le-ltb MISSING LEVELS_END (omega arith))
 level-told (at l) few = pick-true (ltb l LEVELS_END) (at l) none (lt-ltb l LEVELS_END (few l refl))
 
--- ---- an item decided: a cell, or a question
-module _ (items : List (List ℕ)) (p first : ℕ) (ends answers ends′ : List ℕ) (c : Cell) where
-  abbrev i : ℕ
-  i = orderAt items p
+-- ---- a question weighed: by the level found in its span, and told
+module _ (items : List (List ℕ)) (p first : ℕ) (answers : List ℕ) where
+  abbrev here : ℕ
+  here = orderAt items p
 
-  abbrev f : Found
-  f = levelAt items (rowBefore items first answers p) i
+  abbrev answer : Found
+  answer = levelAt items (rowBefore items first answers p) here
 
-  pub decided-cell : i < first → cellOf c ≡ itemCell items i → NoEndsPast (countIn (spanFor items first i)) ends → Decided items p first ends answers ends answers c
-  decided-cell l e past =
-      let b : ltb i first ≡ true = lt-ltb i first l in
-      record {
-        cell = e ∙ sym (ap (λ (x : Entry). x .cell) (pick-true (ltb i first) (cellEntry items i) (cornerEntry items i f) b));
-        endsLong = refl;
-        noEnds = λ k low. let none : countIn (spanFor items first i) ≡ 0 = ap countIn (pick-true (ltb i first) noCell (spanOf items i) b) in past k (omega (arith, none)) low;
-        told = sym (ap (λ t. answerIf t answers (i - first) (held f)) b);
-        within = λ h. absurd (omega (arith, h, l));
-      }
-
-  decided-corner : (level : ℕ) → first ≤ i → level ≡ held f → cellOf c ≡ cornerBox (cornerY items i) (levelIn level) → ((l : ℕ) → f ≡ at l → l < LEVELS_END) → length ends′ ≡ length ends → NoEnds ends′
-      → Decided items p first ends answers ends′ (set answers (i - first) level) c
-  decided-corner level l is e few long zeros =
-      let b : ltb i first ≡ false = le-ltb i first l in
-      record {
-        cell = e ∙ ap (cornerBox (cornerY items i)) (ap levelIn is ∙ level-told f few) ∙ sym (ap (λ (x : Entry). x .cell) (pick-false (ltb i first) (cellEntry items i) (cornerEntry items i f) b));
-        endsLong = long;
-        noEnds = zeros;
-        told = ap (set answers (i - first)) is ∙ sym (ap (λ t. answerIf t answers (i - first) (held f)) b);
-        within = λ _. few;
-      }
-
-  -- by the level found in the question's span, and told
-  pub decided-by : (span : Cell) (found : LevelFound) (level : ℕ) → first ≤ i → span ≡ spanOf items i → span .x1 ≤ MISSING → found ≡ levelAnswer (levelBy (rowBefore items first answers p) span (sinkIn items i) (classIn items i))
-      → ((g : Found) → found ≡ levelAnswer g → level ≡ held g) → cellOf c ≡ cornerBox (cornerY items i) (levelIn level) → length ends′ ≡ length ends → NoEnds ends′ → Decided items p first ends answers ends′ (set answers (i - first) level) c
-  decided-by span found level l spans top by told e long zeros = decided-corner level l (told f is) e few long zeros
+  pub weighed-by : (notes notes′ : List ℕ) (span : Cell) (found : LevelFound) (level : ℕ) → span ≡ spanOf items here → span .x1 ≤ MISSING
+      → found ≡ levelAnswer (levelBy (rowBefore items first answers p) span (sinkIn items here) (classIn items here)) → ((g : Found) → found ≡ levelAnswer g → level ≡ held g)
+      → length notes′ ≡ length notes → NoEnds notes′ → SamePast notes notes′ → Noted (rowBefore items first answers p) notes → Weighed items p first answers notes notes′ level
+  weighed-by notes notes′ span found level spans top by told long zeros same noted =
+      record { told = told answer is; within = few; long = long; noEnds = zeros; rows = same 9192 (omega arith); noted = noted-same long same noted }
     where
-      is : found ≡ levelAnswer f
-      is = by ∙ ap (λ (s : Cell). levelAnswer (levelBy (rowBefore items first answers p) s (sinkIn items i) (classIn items i))) spans ∙ sym (ap levelAnswer (level-by items (rowBefore items first answers p) i))
+      is : found ≡ levelAnswer answer
+      is = by ∙ ap (λ (s : Cell). levelAnswer (levelBy (rowBefore items first answers p) s (sinkIn items here) (classIn items here))) spans ∙ sym (ap levelAnswer (level-by items (rowBefore items first answers p) here))
 
-      few : (k : ℕ) → f ≡ at k → k < LEVELS_END
-      few k q = let h = level-within (rowBefore items first answers p) span (sinkIn items i) (classIn items i) k (sym (ap levelAnswer q) ∙ sym is ∙ by) in omega (arith, h, top)
+      few : (k : ℕ) → answer ≡ at k → k < LEVELS_END
+      few k q = let h = level-within (rowBefore items first answers p) span (sinkIn items here) (classIn items here) k (sym (ap levelAnswer q) ∙ sym is ∙ by) in omega (arith, h, top)
+
+  -- ---- an item decided: a cell, or a question
+  module _ {n : ℕ} {notes notes₁ : List ℕ} (able : Decidable items p first n notes answers) (begun : Begun n notes notes₁) where
+    begun-noted : Noted (rowBefore items first answers p) notes₁
+    begun-noted = begun .noted (rowBefore items first answers p) (able .noted) (able .plain)
+
+    pub turnable : first ≤ orderAt items p → Turnable items p first n notes₁ answers
+    turnable l =
+        let asks = able .row .asks p (omega arith) l in
+        record {
+          row = able .row;
+          question = l;
+          blocks = blocked-kept notes notes₁ (begun .ends) (asks .few) (able .blocks l);
+          past = past-kept notes notes₁ (begun .ends) (past-corner items first here notes l (able .past));
+          noted = begun-noted;
+        }
+
+    pub decided-cell : (c : Cell) → orderAt items p < first → cellOf c ≡ itemCell items (orderAt items p) → Decided items p first notes answers notes₁ answers c
+    decided-cell c l e =
+        let b : ltb here first ≡ true = lt-ltb here first l in
+        let is : entryFor items first here answer ≡ cellEntry items here = pick-true (ltb here first) (cellEntry items here) (cornerEntry items here answer) b in
+        record {
+          cell = e ∙ sym (ap (λ (x : Entry). x .cell) is);
+          long = begun .long;
+          noEnds = ends-kept notes notes₁ (begun .ends) (λ k low. let none : countIn (spanFor items first here) ≡ 0 = ap countIn (pick-true (ltb here first) noCell (spanOf items here) b) in able .past k (omega (arith, none)) low);
+          rows = begun .rows;
+          noted = subst (λ (x : Entry). Noted (x ∷ rowBefore items first answers p) notes₁) (sym is) (noted-plain (cellEntry items here) (refl, refl) begun-noted);
+          told = sym (ap (λ t. answerIf t answers (here - first) (held answer)) b);
+          within = λ h. absurd (omega (arith, h, l));
+        }
+
+    pub decided-turn : {notes′ answers′ : List ℕ} {c : Cell} → Decided items p first notes₁ answers notes′ answers′ c → rowNo notes′ ≡ rowNo notes₁ → Decided items p first notes answers notes′ answers′ c
+    decided-turn d same = let r = begun .rows in record { cell = d .cell; long = d .long ∙ begun .long; noEnds = d .noEnds; rows = omega (arith, same, r); noted = d .noted; told = d .told; within = d .within }
+
+  pub decided-corner : (notes notes₁ notes′ : List ℕ) (c : Cell) (level : ℕ) → first ≤ orderAt items p → Weighed items p first answers notes notes₁ level → Laid (sinkIn items (orderAt items p)) (classIn items (orderAt items p)) level notes₁ notes′
+      → cellOf c ≡ cornerBox (cornerY items (orderAt items p)) (levelIn level) → Decided items p first notes answers notes′ (set answers (orderAt items p - first) level) c
+  decided-corner notes notes₁ notes′ c level l w laid e =
+      let b : ltb here first ≡ false = le-ltb here first l in
+      let is : entryFor items first here answer ≡ cornerEntry items here answer = pick-false (ltb here first) (cellEntry items here) (cornerEntry items here answer) b in
+      let told : levelIn level ≡ answer = ap levelIn (w .told) ∙ level-told answer (w .within) in
+      let rows = w .rows in
+      let more = laid .rows in
+      record {
+        cell = e ∙ ap (cornerBox (cornerY items here)) told ∙ sym (ap (λ (x : Entry). x .cell) is);
+        long = laid .long ∙ w .long;
+        noEnds = ends-kept notes₁ notes′ (laid .ends) (w .noEnds);
+        rows = omega (arith, rows, more);
+        noted = subst (λ (x : Entry). Noted (x ∷ rowBefore items first answers p) notes′) (ap (cornerEntry items here) told ∙ sym is) (laid .noted (cornerY items here) (rowBefore items first answers p) (w .noted));
+        told = ap (set answers (here - first)) (w .told) ∙ sym (ap (λ t. answerIf t answers (here - first) (held answer)) b);
+        within = λ _. w .within;
+      }
 
 -- ---- entries that are asked alike: blanks tell nothing
 pub record Alike (b e : List Entry) : Type 0 where
@@ -221,10 +252,13 @@ alike-blank b e h =
       classes = λ c has. rw (ne-eqb MISSING c (λ q. has (sym q))) (h .classes c has);
     }
 
+has-class : (items : List (List ℕ)) (i : ℕ) → Askable items i → classIn items i ≡ MISSING → ⊥
+has-class items i a z = let few = a .classFew in omega (arith, z, few)
+
 alike-level : (items : List (List ℕ)) (i : ℕ) (b e : List Entry) → Askable items i → Alike b e → levelAt items b i ≡ levelAt items e i
 unfolding levelAt
 alike-level items i b e a h = λ j.
-    elim (h .classes (classIn items i) (a .hasClass) j) as (λ _. Found) [
+    elim (h .classes (classIn items i) (has-class items i a) j) as (λ _. Found) [
       | true ↦ none
       | false ↦
           elim (lowest (λ l. eqb (h .loads (sinkIn items i) l (a .hasSink) j) 0 && not (h .cells (rerouterCell l (cornerY items i)) j)) (sinkX items i) (levelsIn (sinkX items i) (sinkEnd items i))) as (λ _. Found)
@@ -342,14 +376,31 @@ pub record Standing (items : List (List ℕ)) (first : ℕ) (ends₀ answers₀ 
   pub endsLong : length ends ≡ length ends₀
   pub answersLong : length answers ≡ length answers₀
   pub noEnds : NoEnds ends
+  pub low : NotesLow ends
+  pub rows : rowNo ends ≤ p
+  pub noted : 0 < n → Noted (seen items first answers p) ends
+  pub plain : n ≡ 0 → AllPlain (seen items first answers p)
   pub slice : Holds n (firstCells cells (inSlice n)) (seen items first answers p)
   pub alike : Alike (seen items first answers p) (entriesAfter items first p)
   pub told : answers ≡ answersAfter items first p answers₀
 
-pub standing-start : (items : List (List ℕ)) (first : ℕ) (ends answers : List ℕ) (cells : List Cell) → length cells ≡ SLICE_MOST → NoEnds ends → Standing items first ends answers 0 0 cells ends answers
+pub standing-start : (items : List (List ℕ)) (first : ℕ) (ends answers : List ℕ) (cells : List Cell) → length cells ≡ SLICE_MOST → NOTES ≤ length ends → ((k : ℕ) → k < NOTES → getD ends k 0 ≡ 0) → Standing items first ends answers 0 0 cells ends answers
 unfolding entriesAfter answersAfter
-standing-start items first ends answers cells e zeros =
-    record { few = omega arith; room = e; endsLong = refl; answersLong = refl; noEnds = zeros; slice = holds-none 0; alike = alike-none; told = refl }
+standing-start items first ends answers cells e long zeros =
+    record {
+      few = omega arith;
+      room = e;
+      endsLong = refl;
+      answersLong = refl;
+      noEnds = λ k low. zeros k (omega (arith, low));
+      low = record { long = long; stamped = λ c few. let z = zeros (1000 + c) (omega (arith, few)) in omega (arith, z) };
+      rows = let z = zeros 9192 (omega arith) in omega (arith, z);
+      noted = λ some. absurd (omega (arith, some));
+      plain = λ z. tt;
+      slice = holds-none 0;
+      alike = alike-none;
+      told = refl;
+    }
 
 -- what the calls of a turn say
 pub record Turning (items : List (List ℕ)) (first p n : ℕ) (cells : List Cell) (ends answers : List ℕ) (before counted : ℕ) (span : Cell) (ends₁ : List ℕ) (c : Cell) (ends′ answers′ : List ℕ) (cells′ : List Cell) (n′ : ℕ) : Type 0 where
@@ -426,15 +477,36 @@ module _ {items : List (List ℕ)} {first m : ℕ} {ends₀ answers₀ : List �
   held-before : (before : ℕ) → before ≡ unless (begins items p) n → Holds before (firstCells cells (inSlice before)) before-it
   held-before before stood = holds-row cells n before (begins items p) (seen items first answers p) stood (s .slice)
 
+  -- where a cell counts the row has begun before
+  noted-before : (before : ℕ) → 0 < before → before ≡ unless (begins items p) n → Noted before-it ends
+  noted-before before some stood = go (begins items p) stood
+    where
+      go : (t : Bool) → before ≡ unless t n → Noted (entriesOn t (seen items first answers p)) ends
+      go true q = absurd (omega (arith, some, q))
+      go false q = s .noted (omega (arith, some, q))
+
+  plain-before : (before : ℕ) → before ≡ 0 → before ≡ unless (begins items p) n → AllPlain before-it
+  plain-before before z stood = go (begins items p) stood
+    where
+      go : (t : Bool) → before ≡ unless t n → AllPlain (entriesOn t (seen items first answers p))
+      go true q = tt
+      go false q = s .plain (omega (arith, z, q))
+
   pub decidable : (before counted : ℕ) (span : Cell) (ends₁ : List ℕ) → before ≡ unless (begins items p) n → counted ≡ unless (ltb (orderAt items p) first) (inSlice before)
       → span ≡ spanFor items first (orderAt items p) → Blocks span (cellsMeet (firstCells cells counted) span) ends ends₁ → Decidable items p first before ends₁ answers
   decidable before counted span ends₁ stood counts spans blocks =
       record {
         row = fits;
-        endsLong = let h = fit .endsLong in let e = s .endsLong in let f = blocks .long in omega (arith, h, e, f);
+        low = low-same (blocks .long) past (s .low);
+        rows = let r = s .rows in let h = fit .countable in let e = past 9192 (omega arith) in omega (arith, r, h, e, more);
         blocks = λ l. ends-told items first (orderAt items p) before counted cells before-it span ends ends₁ l (fit .asks p more l) (s .noEnds) counts spans (held-before before stood) blocks;
         past = λ k high low. let e : countIn span ≡ countIn (spanFor items first (orderAt items p)) = ap countIn spans in blocks .rest k (omega (arith, e, high)) ∙ s .noEnds k low;
+        noted = λ some. noted-same (blocks .long) past (noted-before before some stood);
+        plain = λ z. plain-before before z stood;
       }
+    where
+      past : SamePast ends ends₁
+      past k high = let h = span-few items first (orderAt items p) span (fit .asks p more) spans in blocks .rest k (omega (arith, high, h))
 
   module _ {before counted : ℕ} {span : Cell} {ends₁ : List ℕ} {c : Cell} {ends′ answers′ : List ℕ} {cells′ : List Cell} {n′ : ℕ} (u : Turning items first p n cells ends answers before counted span ends₁ c ends′ answers′ cells′ n′) where
     abbrev this : ℕ
@@ -481,6 +553,22 @@ module _ {items : List (List ℕ)} {first m : ℕ} {ends₀ answers₀ : List �
         go true q = s .told
         go false q = ap₂ (λ (l : List ℕ) (f : Found). set l (this - first) (held f)) (s .told) (alike-level items this before-it booked (fit .asks p more (ltb-false this first q)) on-row)
 
+    -- a corner counts
+    next-plain : n′ ≡ 0 → AllPlain (entryFor items first this level ∷ before-it)
+    next-plain z = (go (ltb this first) refl level (ap (λ (d : Rows.Cell). d .x1) (u .decided .cell)), plain-before before (no-more (ltb 0 (c .x1)) refl (sym (u .next) ∙ z) .0) (u .stood))
+      where
+        no-more : (t : Bool) → ltb 0 (c .x1) ≡ t → countAfter t before ≡ 0 → (before ≡ 0) × (c .x1 ≡ 0)
+        no-more true q e = absurd (omega (arith, e))
+        no-more false q e = let h = ltb-false 0 (c .x1) q in (e, omega (arith, h))
+
+        ended : c .x1 ≡ 0
+        ended = no-more (ltb 0 (c .x1)) refl (sym (u .next) ∙ z) .1
+
+        go : (t : Bool) → ltb this first ≡ t → (f : Found) → c .x1 ≡ elim t as (λ _. Entry) [ true ↦ cellEntry items this | false ↦ cornerEntry items this f ] .cell .x1 → Plain (elim t as (λ _. Entry) [ true ↦ cellEntry items this | false ↦ cornerEntry items this f ])
+        go true q f e = (refl, refl)
+        go false q none e = (refl, refl)
+        go false q (at l) e = absurd (omega (arith, e, ended))
+
     answers-long : (t : Bool) (l : List ℕ) (q v : ℕ) → length (answerIf t l q v) ≡ length l
     answers-long true l q v = refl
     answers-long false l q v = length-set l q v
@@ -490,9 +578,13 @@ module _ {items : List (List ℕ)} {first m : ℕ} {ends₀ answers₀ : List �
         record {
           few = let h = before-few n before p (begins items p) (s .few) (u .stood) in let k = one-more (ltb 0 (c .x1)) before in let e = u .next in omega (arith, h, k, e);
           room = u .same ∙ s .room;
-          endsLong = u .decided .endsLong ∙ u .blocks .long ∙ s .endsLong;
+          endsLong = u .decided .long ∙ u .blocks .long ∙ s .endsLong;
           answersLong = ap length (u .decided .told) ∙ answers-long (ltb this first) answers (this - first) (held level) ∙ s .answersLong;
           noEnds = u .decided .noEnds;
+          low = u .decided .noted .low;
+          rows = let r = s .rows in let d = u .decided .rows in let e = u .blocks .rest 9192 (let h = span-few items first this span (fit .asks p more) (u .spans) in omega (arith, h)) in omega (arith, r, d, e);
+          noted = λ some. subst (λ (k : ℕ). Noted (seen items first answers′ k) ends′) (sym (add-one p)) (subst (λ (l : List Entry). Noted l ends′) (sym now-seen) (u .decided .noted));
+          plain = λ z. subst (λ (k : ℕ). AllPlain (seen items first answers′ k)) (sym (add-one p)) (subst AllPlain (sym now-seen) (next-plain z));
           slice = subst (λ (k : ℕ). Holds n′ (firstCells cells′ (inSlice n′)) (seen items first answers′ k)) (sym (add-one p)) next-slice;
           alike = subst (λ (k : ℕ). Alike (seen items first answers′ k) (entriesAfter items first k)) (sym (add-one p)) next-alike;
           told = next-told ∙ ap (λ (k : ℕ). answersAfter items first k answers₀) (sym (add-one p));

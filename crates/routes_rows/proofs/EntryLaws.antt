@@ -1,4 +1,4 @@
--- What a row tells, read back from the item whose turn it is: cells that block, classes, loads. Assumes nothing.
+-- What a row tells, read back from the item whose turn it is: cells that block, loads. Assumes nothing.
 use Prim.Native.Nat.{ℕ, zero, suc, _+_, _-_, _*_, _/_, _≤_, _<_}
 use mathlib.Core.Path.{_≡_, refl, ap, ap₂, sym, subst, _∙_}
 use mathlib.Core.Bool.{Bool, true, false, not, _&&_, _||_}
@@ -17,7 +17,8 @@ use Rattle.board.specs.Rows.{cellsOverlap}
 use Rattle.routes.specs.Levels.{levelsIn}
 use Rattle.routes_rows.specs.Booking.{cellOf, keyOf, orderAt, begins, countAfter}
 use Rattle.routes_rows.specs.Blocked.{countIn, levelNo, cornerCell, blocked, Blocks, cellMeets}
-use Rattle.routes_rows.specs.Turning.{Entry, sinkIn, classIn, loadAt, ofClass, entriesOn}
+use Rattle.routes_rows.specs.Notes.{Plain, AllPlain}
+use Rattle.routes_rows.specs.Turning.{Entry, sinkIn, loadAt, ofClass, entriesOn}
 use Rattle.routes_rows.specs.Entries.{LEVELS_END, levelIn, cellEntry, ifFound, cornerEntry, entryAt, seen, rowBefore, followsRow, asksBefore, entriesMeet, BlockedBy, BlockedFor, TellsClear, TellsLoads, RowFits}
 use Rattle.routes_rows.specs.declared.book.Cell.{Cell}
 use Rattle.routes_rows.proofs.Blocking.{or-no, or-both, or-more}
@@ -51,14 +52,7 @@ module _ {span : Cell} {booked : List Entry} {ends : List ℕ} where
   blocks-twice b h k low = h .more k low ∙ sym (or-more (blocked span ends k) (entriesMeet booked span k) (b .some k low))
 
 -- ---- entries that are no corners
-abbrev Plain : Entry → Type 0
-Plain e = (e .sink ≡ MISSING) × (e .class ≡ MISSING)
-
-abbrev AllPlain : List Entry → Type 0
-AllPlain [] = Unit {0}
-AllPlain (e ∷ l) = Plain e × AllPlain l
-
-plain-class : (l : List Entry) (class : ℕ) → (class ≡ MISSING → ⊥) → AllPlain l → ofClass l class ≡ false
+pub plain-class : (l : List Entry) (class : ℕ) → (class ≡ MISSING → ⊥) → AllPlain l → ofClass l class ≡ false
 plain-class [] class has a = refl
 plain-class (e ∷ l) class has a = neither _ _ (ne-eqb (e .class) class (λ q. has (sym q ∙ a .0 .1))) (plain-class l class has (a .1))
 
@@ -202,32 +196,6 @@ module _ {items : List (List ℕ)} {first : ℕ} {answers : List ℕ} {p key k :
 
     asks-more : rowBefore items first answers k ≡ cornerEntry items i (levelIn a) ∷ left
     asks-more = row-more b first answers (asks-follows items k first key t) ∙ ap (λ (x : Entry). x ∷ left) (corner-at items first answers (k - 1) asks-question)
-
-  -- ---- classes
-  module _ {class : ℕ} (has : class ≡ MISSING → ⊥) where
-    class-step : asksBefore items k first key ≡ true → ofClass row class ≡ eqb (ifFound (levelIn a) (classIn items i)) class || ofClass left class
-    class-step t = ap (λ (l : List Entry). ofClass l class) (asks-more t)
-
-    passed : asksBefore items k first key ≡ true → eqb (ifFound (levelIn a) (classIn items i)) class ≡ false → ofClass row class ≡ ofClass left class
-    passed t miss = class-step t ∙ ap (λ s. s || ofClass left class) miss
-
-    pub class-here : asksBefore items k first key ≡ true → classIn items (orderAt items (k - 1)) ≡ class → getD answers (orderAt items (k - 1) - first) 0 < LEVELS_END → ofClass (rowBefore items first answers k) class ≡ true
-    class-here t is level =
-        class-step t ∙ either-left _ _ (ap (λ (f : Found). eqb (ifFound f (classIn items i)) class) (pick-true (ltb a LEVELS_END) (at a) none (lt-ltb a LEVELS_END level)) ∙ eq-eqb (classIn items i) class is)
-
-    pub class-other : asksBefore items k first key ≡ true → (classIn items (orderAt items (k - 1)) ≡ class → ⊥) → ofClass (rowBefore items first answers k) class ≡ ofClass (rowBefore items first answers (k - 1)) class
-    class-other t other = passed t (go (levelIn a))
-      where
-        go : (f : Found) → eqb (ifFound f (classIn items i)) class ≡ false
-        go none = ne-eqb MISSING class (λ q. has (sym q))
-        go (at l) = ne-eqb (classIn items i) class other
-
-    pub class-blank : asksBefore items k first key ≡ true → LEVELS_END ≤ getD answers (orderAt items (k - 1) - first) 0 → ofClass (rowBefore items first answers k) class ≡ ofClass (rowBefore items first answers (k - 1)) class
-    class-blank t high =
-        passed t (ap (λ (f : Found). eqb (ifFound f (classIn items i)) class) (pick-false (ltb a LEVELS_END) (at a) none (le-ltb a LEVELS_END high)) ∙ ne-eqb MISSING class (λ q. has (sym q)))
-
-    pub class-none : asksBefore items k first key ≡ false → ofClass (rowBefore items first answers k) class ≡ false
-    class-none t = plain-class row class has (no-questions items first answers p fit k key b t)
 
 -- ---- loads counted from the newest down, what stands before the k-th item still to come
 pub record Counted (items : List (List ℕ)) (first : ℕ) (answers : List ℕ) (p : ℕ) (span : Cell) (sink k : ℕ) (loads : List ℕ) : Type 0 where

@@ -5,5 +5,6 @@ pub mod Cells
 pub mod Deciding
 pub mod EntryLaws
 pub mod Local
+pub mod NoteLaws
 pub mod Turns
 pub mod Typed

@@ -14,6 +14,7 @@ use Rattle.board.specs.Tables.{held}
 use Rattle.routes.specs.Levels.{levelsIn, lowest, lightest}
 use Rattle.routes_rows.specs.Blocked.{countIn, levelNo, cornerCell, blocked, NoEnds, NoEndsPast}
 use Rattle.routes_rows.specs.Booking.{cellOf, itemCell, keyOf, orderAt, begins, noCell}
+use Rattle.routes_rows.specs.Notes.{NOTES, CLASSES, rowNo, AllPlain, NotesLow, Noted}
 use Rattle.routes_rows.specs.Turning.{Entry, sinkX, sinkEnd, cornerY, sinkIn, classIn, clearAt, loadAt, ofClass, levelAt, entriesOn, answerIf}
 use Rattle.routes_rows.specs.declared.book.Cell.{Cell}
 
@@ -47,8 +48,11 @@ abbrev pub ifFound : Found → ℕ → ℕ
 ifFound none n = MISSING
 ifFound (at l) n = n
 
+abbrev pub cornerFor : (y sink class : ℕ) → Found → Entry
+cornerFor y sink class f = record { cell = cornerBox y f; sink = ifFound f sink; class = ifFound f class }
+
 abbrev pub cornerEntry : List (List ℕ) → ℕ → Found → Entry
-cornerEntry items i f = record { cell = cornerBox (cornerY items i) f; sink = ifFound f (sinkIn items i); class = ifFound f (classIn items i) }
+cornerEntry items i f = cornerFor (cornerY items i) (sinkIn items i) (classIn items i) f
 
 abbrev pub blank : Entry
 blank = record { cell = cellOf noCell; sink = MISSING; class = MISSING }
@@ -119,7 +123,7 @@ pub record Askable (items : List (List ℕ)) (i : ℕ) : Type 0 where
   pub few : levelsIn (sinkX items i) (sinkEnd items i) ≤ 1000
   pub low : cornerY items i < 4294967290
   pub hasSink : sinkIn items i ≡ MISSING → ⊥
-  pub hasClass : classIn items i ≡ MISSING → ⊥
+  pub classFew : classIn items i < CLASSES
 
 -- What is asked for to read the row of the item that comes p-th, up to that item. Within a row the order rises: its cells come before its questions, and no answer of it is written over.
 pub record RowFits (items : List (List ℕ)) (p first : ℕ) (answers : List ℕ) : Type 0 where
@@ -130,28 +134,57 @@ pub record RowFits (items : List (List ℕ)) (p first : ℕ) (answers : List ℕ
   pub there : (q : ℕ) → q ≤ p → first ≤ orderAt items q → orderAt items q - first < length answers
   pub rising : (q : ℕ) → suc q ≤ p → begins items (suc q) ≡ false → orderAt items q < orderAt items (suc q)
 
--- What is asked for to decide the item that comes p-th, behind n cells of its row.
-pub record Decidable (items : List (List ℕ)) (p first n : ℕ) (ends answers : List ℕ) : Type 0 where
+-- What is asked for to answer the question that comes p-th, behind n cells of its row.
+pub record Turnable (items : List (List ℕ)) (p first n : ℕ) (notes answers : List ℕ) : Type 0 where
   pub row : RowFits items p first answers
-  pub endsLong : 1000 ≤ length ends
-  pub blocks : first ≤ orderAt items p → BlockedFor n (spanOf items (orderAt items p)) (rowBefore items first answers p) ends
-  pub past : NoEndsPast (countIn (spanFor items first (orderAt items p))) ends
+  pub question : first ≤ orderAt items p
+  pub blocks : BlockedFor n (spanOf items (orderAt items p)) (rowBefore items first answers p) notes
+  pub past : NoEndsPast (countIn (spanOf items (orderAt items p))) notes
+  pub noted : Noted (rowBefore items first answers p) notes
+
+-- Its level, and the notes that are then left behind.
+pub record Weighed (items : List (List ℕ)) (p first : ℕ) (answers notes notes′ : List ℕ) (level : ℕ) : Type 0 where
+  pub told : level ≡ held (levelAt items (rowBefore items first answers p) (orderAt items p))
+  pub within : (l : ℕ) → levelAt items (rowBefore items first answers p) (orderAt items p) ≡ at l → l < LEVELS_END
+  pub long : length notes′ ≡ length notes
+  pub noEnds : NoEnds notes′
+  pub rows : rowNo notes′ ≡ rowNo notes
+  pub noted : Noted (rowBefore items first answers p) notes′
+
+-- A corner is noted, where the level is one.
+pub record Laid (sink class level : ℕ) (notes notes′ : List ℕ) : Type 0 where
+  pub long : length notes′ ≡ length notes
+  pub ends : (k : ℕ) → k < 1000 → getD notes′ k 0 ≡ getD notes k 0
+  pub rows : rowNo notes′ ≡ rowNo notes
+  pub noted : (y : ℕ) (booked : List Entry) → Noted booked notes → Noted (cornerFor y sink class (levelIn level) ∷ booked) notes′
+
+-- What is asked for to decide the item that comes p-th, behind n cells of its row.
+pub record Decidable (items : List (List ℕ)) (p first n : ℕ) (notes answers : List ℕ) : Type 0 where
+  pub row : RowFits items p first answers
+  pub low : NotesLow notes
+  pub rows : rowNo notes < MISSING
+  pub blocks : first ≤ orderAt items p → BlockedFor n (spanOf items (orderAt items p)) (rowBefore items first answers p) notes
+  pub past : NoEndsPast (countIn (spanFor items first (orderAt items p))) notes
+  pub noted : 0 < n → Noted (rowBefore items first answers p) notes
+  pub plain : n ≡ 0 → AllPlain (rowBefore items first answers p)
 
 -- What is then left behind, and the cell booked.
-pub record Decided (items : List (List ℕ)) (p first : ℕ) (ends answers ends′ answers′ : List ℕ) (c : Cell) : Type 0 where
+pub record Decided (items : List (List ℕ)) (p first : ℕ) (notes answers notes′ answers′ : List ℕ) (c : Cell) : Type 0 where
   pub cell : cellOf c ≡ entryFor items first (orderAt items p) (levelAt items (rowBefore items first answers p) (orderAt items p)) .cell
-  pub endsLong : length ends′ ≡ length ends
-  pub noEnds : NoEnds ends′
+  pub long : length notes′ ≡ length notes
+  pub noEnds : NoEnds notes′
+  pub rows : rowNo notes′ ≤ rowNo notes + 1
+  pub noted : Noted (entryFor items first (orderAt items p) (levelAt items (rowBefore items first answers p) (orderAt items p)) ∷ rowBefore items first answers p) notes′
   pub told : answers′ ≡ answerIf (ltb (orderAt items p) first) answers (orderAt items p - first) (held (levelAt items (rowBefore items first answers p) (orderAt items p)))
   pub within : first ≤ orderAt items p → (l : ℕ) → levelAt items (rowBefore items first answers p) (orderAt items p) ≡ at l → l < LEVELS_END
 
 -- What is asked for to answer all questions.
-pub record TurnsFit (items : List (List ℕ)) (m first : ℕ) (ends answers : List ℕ) : Type 0 where
+pub record TurnsFit (items : List (List ℕ)) (m first : ℕ) (notes answers : List ℕ) : Type 0 where
   pub inside : m ≤ length items
   pub countable : m ≤ MISSING
   pub ordered : (p : ℕ) → p < m → orderAt items p < length items
   pub rising : (p : ℕ) → suc p < m → begins items (suc p) ≡ false → orderAt items p < orderAt items (suc p)
   pub asks : (p : ℕ) → p < m → first ≤ orderAt items p → Askable items (orderAt items p)
   pub there : (p : ℕ) → p < m → first ≤ orderAt items p → orderAt items p - first < length answers
-  pub endsLong : 1000 ≤ length ends
-  pub noEnds : NoEnds ends
+  pub notesLong : NOTES ≤ length notes
+  pub fresh : (k : ℕ) → k < NOTES → getD notes k 0 ≡ 0

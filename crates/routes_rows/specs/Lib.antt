@@ -1,4 +1,5 @@
 pub mod Blocked
 pub mod Booking
 pub mod Entries
+pub mod Notes
 pub mod Turning

@@ -2,8 +2,8 @@
 use crate::book::Cell;
 use routes_levels::levels::levels_in;
 ghost use mathlib.Core.Path.{_≡_};
-ghost use Prim.Native.Nat.{_-_, _/_, _<_, _≤_};
-ghost use lib.ListN.{length};
+ghost use Prim.Native.Nat.{ℕ, _-_, _/_, _<_, _≤_};
+ghost use lib.ListN.{length, getD};
 ghost use Rattle.routes_rows.specs.Booking.{firstCells};
 ghost use Rattle.routes_rows.specs.Blocked.{larger as largerOf, countIn, Blocks, cellMeets, cellsMeet, Spread, NoEnds, NoEndsPast};
 
@@ -29,16 +29,19 @@ pub fn first_level(x: u32, x0: u32) -> u32
     (x0 - x) / 2
 }
 
-// A cell blocks the levels that it overlaps: from the first one on, as far as its end.
+// A cell blocks the levels that it overlaps: from the first one on, as far as its end. Most cells of a crowded row lie above or below, so y is asked first.
 pub fn block(ends: &mut [u32], span: Cell, cell: Cell)
     requires { ⌜ countIn span ≤ length (now ends) ⌝ }
     ensures { λ _. ⌜ Blocks span (cellMeets cell span) (now (ends .entry)) (now (ends .exit)) ⌝ }
 {
-    let first = first_level(span.x0, cell.x0);
-    let count = levels_in(span.x0, span.x1);
-    if (span.y0 < cell.y1) & (cell.y0 < span.y1) & (first < count) {
-        let k = first as usize;
-        ends[k] = larger(ends[k], cell.x1);
+    if span.y0 < cell.y1 {
+        if cell.y0 < span.y1 {
+            let first = first_level(span.x0, cell.x0);
+            if first < levels_in(span.x0, span.x1) {
+                let k = first as usize;
+                ends[k] = larger(ends[k], cell.x1);
+            }
+        }
     }
 }
 
@@ -69,10 +72,10 @@ pub fn spread(ends: &mut [u32], count: u32)
     }
 }
 
-// No end lies beyond anything again, where none past the first so many does.
+// No end lies beyond anything again, where none past the first so many does; what stands behind them is left.
 pub fn clear(ends: &mut [u32], count: u32)
     requires { ⌜ (count ≤ length (now ends)) × NoEndsPast count (now ends) ⌝ }
-    ensures { λ _. ⌜ (length (now (ends .exit)) ≡ length (now (ends .entry))) × NoEnds (now (ends .exit)) ⌝ }
+    ensures { λ _. ⌜ (length (now (ends .exit)) ≡ length (now (ends .entry))) × NoEnds (now (ends .exit)) × ((k : ℕ) → count ≤ k → getD (now (ends .exit)) k 0 ≡ getD (now (ends .entry)) k 0) ⌝ }
 {
     let n = count as usize;
     let mut k: usize = 0;

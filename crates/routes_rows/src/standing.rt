@@ -1,4 +1,4 @@
-// What is booked on a row before an item, read off the items and the answers, back from that item: the cells that block, the classes, the loads.
+// What is booked on a row before an item, read off the items and the answers, back from that item: the cells that block, the loads.
 use crate::blocked::block;
 use crate::blocked::first_level;
 use crate::book::Cell;
@@ -11,11 +11,11 @@ ghost use lib.Dec.{eqb};
 ghost use lib.ListN.{length, getD};
 ghost use Rattle.routes_rows.specs.Blocked.{countIn, levelNo, Blocks};
 ghost use Rattle.routes_rows.specs.Booking.{cellOf, keyOf, orderAt, countAfter};
-ghost use Rattle.routes_rows.specs.Turning.{loadAt, ofClass};
+ghost use Rattle.routes_rows.specs.Turning.{loadAt};
 ghost use Rattle.routes_rows.specs.Entries.{rowCell, levelIn, cornerBox, entryAt, rowBefore, followsRow, asksBefore, entriesMeet, TellsLoads, RowFits};
 
 // Where levels end: a corner is two wide, and ends within the numbers.
-const LEVELS_END: u32 = 4_294_967_294;
+pub const LEVELS_END: u32 = 4_294_967_294;
 
 // The cell of an item.
 pub fn row_cell(row: [u32; 8]) -> Cell
@@ -116,25 +116,6 @@ pub fn block_row(
         k -= 1;
         block(ends, span, booked_cell(items, k, first, answers));
     }
-}
-
-// Whether a corner of a class stands on the row before the item that comes p-th.
-pub fn has_class(items: &[WorkRow], p: usize, first: usize, answers: &[u32], class: u32) -> bool
-    requires { ⌜ RowFits (now items) p first (now answers) × (class ≡ 4294967295 → ⊥) ⌝ }
-    ensures { λ r. ⌜ r ≡ ofClass (rowBefore (now (items .entry)) first (now (answers .entry)) p) class ⌝ }
-{
-    let key = key_at(items, p);
-    let mut k = p;
-    while asks_before(items, k, first, key) {
-        k -= 1;
-        let i = items[k][7] as usize;
-        if items[i][4] == class {
-            if answers[i - first] < LEVELS_END {
-                return true;
-            }
-        }
-    }
-    false
 }
 
 // A corner is counted at its level, if that is one of the span.

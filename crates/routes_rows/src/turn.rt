@@ -7,10 +7,12 @@ use crate::book::Cell;
 use crate::book::append;
 use crate::book::count_before;
 use crate::book::count_tested;
+use crate::notes::begin_row;
+use crate::notes::has_class;
+use crate::notes::lay;
 use crate::standing::block_row;
 use crate::standing::corner_cell;
 use crate::standing::count_loads;
-use crate::standing::has_class;
 use crate::standing::row_cell;
 use base::numbers::MISSING;
 use base::rows::WorkRow;
@@ -29,8 +31,9 @@ ghost use Rattle.routes.specs.Levels.{lowest, lightest};
 ghost use Rattle.routes_levels.specs.Laying.{levelAnswer};
 ghost use Rattle.routes_rows.specs.Blocked.{countIn, levelNo};
 ghost use Rattle.routes_rows.specs.Booking.{orderAt, unless, countAfter};
+ghost use Rattle.routes_rows.specs.Notes.{CLASSES, rowNo, Noted};
 ghost use Rattle.routes_rows.specs.Turning.{cornerY, clearAt, answersAfter};
-ghost use Rattle.routes_rows.specs.Entries.{inSlice, rowBefore, spanOf, spanFor, BlockedBy, BlockedFor, levelBy, TellsClear, TellsLoads, RowFits, Decidable, Decided, TurnsFit};
+ghost use Rattle.routes_rows.specs.Entries.{inSlice, rowBefore, spanOf, spanFor, BlockedBy, BlockedFor, levelBy, TellsClear, TellsLoads, RowFits, Turnable, Weighed, Decidable, Decided, TurnsFit};
 
 // As many cells of a row as the slice holds. A row with more is walked once more for each of its questions.
 const SLICE_MOST: usize = 20_480;
@@ -183,21 +186,21 @@ fn seek_level(
     span: Cell,
     sink: u32,
     class: u32,
-    ends: &[u32],
+    notes: &[u32],
 ) -> Found
-    requires { ⌜ RowFits (now items) p first (now answers) × (countIn span ≤ 1000) × (countIn span ≤ length (now ends)) ⌝ }
-    requires { ⌜ TellsClear span (clearAt (rowBefore (now items) first (now answers) p) (span .y0)) (now ends) × (sink ≡ 4294967295 → ⊥) × (class ≡ 4294967295 → ⊥) ⌝ }
+    requires { ⌜ RowFits (now items) p first (now answers) × (countIn span ≤ 1000) × Noted (rowBefore (now items) first (now answers) p) (now notes) ⌝ }
+    requires { ⌜ TellsClear span (clearAt (rowBefore (now items) first (now answers) p) (span .y0)) (now notes) × (sink ≡ 4294967295 → ⊥) × (class < CLASSES) ⌝ }
     ensures { λ r. ⌜ r ≡ levelAnswer (levelBy (rowBefore (now (items .entry)) first (now (answers .entry)) p) span sink class) ⌝ }
 {
-    if has_class(items, p, first, answers, class) {
+    if has_class(notes, class) {
         return Found::None;
     }
     let mut loads: [u32; 1000] = [0; LEVELS_MOST];
     count_loads(items, p, first, answers, span, sink, &mut loads);
-    if let Found::At(level) = lowest_corner(span, ends, &loads) {
+    if let Found::At(level) = lowest_corner(span, notes, &loads) {
         return Found::At(level);
     }
-    least_loaded_corner(span, ends, &loads)
+    least_loaded_corner(span, notes, &loads)
 }
 
 // K5, K6: a corner's level, or none (K7), by what is booked on the row before the item that comes p-th.
@@ -209,16 +212,16 @@ fn corner_level(
     span: Cell,
     sink: u32,
     class: u32,
-    ends: &[u32],
+    notes: &[u32],
 ) -> Found
-    requires { ⌜ RowFits (now items) p first (now answers) × (countIn span ≤ 1000) × (countIn span ≤ length (now ends)) ⌝ }
-    requires { ⌜ TellsClear span (clearAt (rowBefore (now items) first (now answers) p) (span .y0)) (now ends) × (sink ≡ 4294967295 → ⊥) × (class ≡ 4294967295 → ⊥) ⌝ }
+    requires { ⌜ RowFits (now items) p first (now answers) × (countIn span ≤ 1000) × Noted (rowBefore (now items) first (now answers) p) (now notes) ⌝ }
+    requires { ⌜ TellsClear span (clearAt (rowBefore (now items) first (now answers) p) (span .y0)) (now notes) × (sink ≡ 4294967295 → ⊥) × (class < CLASSES) ⌝ }
     ensures { λ r. ⌜ r ≡ levelAnswer (levelBy (rowBefore (now (items .entry)) first (now (answers .entry)) p) span sink class) ⌝ }
 {
-    if !has_clear(span, ends) {
+    if !has_clear(span, notes) {
         return Found::None;
     }
-    seek_level(items, p, first, answers, span, sink, class, ends)
+    seek_level(items, p, first, answers, span, sink, class, notes)
 }
 
 // A level as an answer.
@@ -231,23 +234,23 @@ fn told(found: Found) -> u32
     }
 }
 
-// The item that comes p-th, a question: its level is decided by what is booked before it, of which the ends already tell so much as the slice holds.
-fn turn(
+// The level of the question that comes p-th, by what is booked before it, of which the ends already tell so much as the slice holds.
+fn weigh(
     items: &[WorkRow],
     p: usize,
     first: usize,
     n: usize,
-    ends: &mut [u32],
-    answers: &mut [u32],
-) -> Cell
-    requires { ⌜ Decidable (now items) p first n (now ends) (now answers) × (first ≤ orderAt (now items) p) ⌝ }
-    ensures { λ r. ⌜ Decided (now (items .entry)) p first (now (ends .entry)) (now (answers .entry)) (now (ends .exit)) (now (answers .exit)) r ⌝ }
+    answers: &[u32],
+    notes: &mut [u32],
+) -> u32
+    requires { ⌜ Turnable (now items) p first n (now notes) (now answers) ⌝ }
+    ensures { λ r. ⌜ Weighed (now (items .entry)) p first (now (answers .entry)) (now (notes .entry)) (now (notes .exit)) r ⌝ }
 {
     let i = items[p][7] as usize;
     let span = span_at(items, i);
-    block_rest(items, p, first, answers, n, span, ends);
+    block_rest(items, p, first, answers, n, span, notes);
     let count = levels_in(span.x0, span.x1);
-    spread(ends, count);
+    spread(notes, count);
     let found = corner_level(
         items,
         p,
@@ -256,11 +259,28 @@ fn turn(
         span,
         items[i][3],
         items[i][4],
-        ends,
+        notes,
     );
-    clear(ends, count);
-    let level = told(found);
+    clear(notes, count);
+    told(found)
+}
+
+// The item that comes p-th, a question: it is answered, and its corner noted.
+fn turn(
+    items: &[WorkRow],
+    p: usize,
+    first: usize,
+    n: usize,
+    notes: &mut [u32],
+    answers: &mut [u32],
+) -> Cell
+    requires { ⌜ Turnable (now items) p first n (now notes) (now answers) ⌝ }
+    ensures { λ r. ⌜ Decided (now (items .entry)) p first (now (notes .entry)) (now (answers .entry)) (now (notes .exit)) (now (answers .exit)) r × (rowNo (now (notes .exit)) ≡ rowNo (now (notes .entry))) ⌝ }
+{
+    let level = weigh(items, p, first, n, answers, notes);
+    let i = items[p][7] as usize;
     answers[i - first] = level;
+    lay(notes, items[i][3], items[i][4], level);
     corner_cell(items[i][2], level)
 }
 
@@ -270,17 +290,18 @@ fn decide(
     p: usize,
     first: usize,
     n: usize,
-    ends: &mut [u32],
+    notes: &mut [u32],
     answers: &mut [u32],
 ) -> Cell
-    requires { ⌜ Decidable (now items) p first n (now ends) (now answers) ⌝ }
-    ensures { λ r. ⌜ Decided (now (items .entry)) p first (now (ends .entry)) (now (answers .entry)) (now (ends .exit)) (now (answers .exit)) r ⌝ }
+    requires { ⌜ Decidable (now items) p first n (now notes) (now answers) ⌝ }
+    ensures { λ r. ⌜ Decided (now (items .entry)) p first (now (notes .entry)) (now (answers .entry)) (now (notes .exit)) (now (answers .exit)) r ⌝ }
 {
+    begin_row(notes, n);
     let i = items[p][7] as usize;
     if i < first {
         return row_cell(items[i]);
     }
-    turn(items, p, first, n, ends, answers)
+    turn(items, p, first, n, notes, answers)
 }
 
 // How many cells of the row count with this one behind n: one that ends at 0 overlaps nothing, so that the next is written over it.
@@ -295,8 +316,8 @@ fn count_next(n: usize, c: Cell) -> usize
 }
 
 // K4 to K7, K9: every question is answered in its turn, by what is booked on its row before it. The cells of a row are written over by those of the next.
-pub fn turn_rows(items: &[WorkRow], m: usize, first: usize, ends: &mut [u32], answers: &mut [u32])
-    requires { ⌜ TurnsFit (now items) m first (now ends) (now answers) ⌝ }
+pub fn turn_rows(items: &[WorkRow], m: usize, first: usize, notes: &mut [u32], answers: &mut [u32])
+    requires { ⌜ TurnsFit (now items) m first (now notes) (now answers) ⌝ }
     ensures { λ _. ⌜ now (answers .exit) ≡ answersAfter (now (items .entry)) first m (now (answers .entry)) ⌝ }
 {
     let none = Cell {
@@ -312,8 +333,8 @@ pub fn turn_rows(items: &[WorkRow], m: usize, first: usize, ends: &mut [u32], an
         let before = count_before(items, p, n);
         let held = count_held(items, p, first, before);
         let span = span_of(items, p, first);
-        block_cells(&cells, held, span, ends);
-        let c = decide(items, p, first, before, ends, answers);
+        block_cells(&cells, held, span, notes);
+        let c = decide(items, p, first, before, notes, answers);
         append(&mut cells, before, c, before < SLICE_MOST);
         n = count_next(before, c);
         p = p + 1;

@@ -2,6 +2,7 @@
 use native.Mathlib.Omega.{arith}
 use mathlib.Core.Path.{_∙_}
 use lib.ListN.{length-replicate, getD-replicate}
+use Rattle.routes_rows.specs.Notes.{NOTES}
 use Rattle.routes_corners.proofs.Answering.{keys-few, turns-fit, levels-held}
 use borrow.Author.Needs.{needs}
 use Rattle.routes_corners.proofs.decide.decide_corners.Statement.{statement}
@@ -41,7 +42,7 @@ turn-rows-requires c κs =
     let f = c .before .before .before .before .before .before .before .fill-corners in
     let o = c .before .before .before .before .order-by-key in
     turns-fit (a .nodes .now) (a .facts .now) (a .classes .now) (a .list .now) (a .n) (a .rerouters .now) (a .m) (f .last .1 .1 .1 .1 .1 .1 .1 .0) (s .pre .0) (s .pre .1 .0) (f .ensures .0) (o .last .0) (o .ensures .0) (o .result) (o .ensures .1 .0) (o .ensures .1 .1) (a .items .now) (a .answers .now) (s .pre .1 .1)
-    (o .ensures .0 .long ∙ f .kept .1 .1 .1 .1 .1 .1 .1 .0) _ (simp length-replicate (omega arith)) (λ k h. getD-replicate 1000 k 0 0 h)
+    (o .ensures .0 .long ∙ f .kept .1 .1 .1 .1 .1 .1 .1 .0) _ (simp length-replicate (omega arith)) (λ k h. getD-replicate NOTES k 0 0 h)
 
 same-length : tie.Need-same-length
 same-length c = search needs

@@ -4,12 +4,14 @@ use mathlib.Core.Path.{_≡_, refl, _∙_}
 use mathlib.Core.Logic.{_⊎_, inl, inr}
 use native.Mathlib.Omega.{arith}
 use lib.ListN.{length, getD, length-set}
+use lib.Seq.{getD-set-other}
 use Rattle.routes_rows.proofs.Blocking.{zeros-next, either}
 use Rattle.routes_rows.proofs.blocked.clear.Statement.{statement}
 use Rattle.routes_rows.proofs.blocked.clear.Tie as tie
 
 abbrev Inv-loop : tie.InvT-loop
-Inv-loop ends₀ count n k₀ ends k = (length ends ≡ length ends₀) × ((i : ℕ) → (i < k) ⊎ (count ≤ i) → i < 1000 → getD ends i 0 ≡ 0)
+Inv-loop ends₀ count n k₀ ends k =
+    (length ends ≡ length ends₀) × ((i : ℕ) → (i < k) ⊎ (count ≤ i) → i < 1000 → getD ends i 0 ≡ 0) × ((i : ℕ) → count ≤ i → getD ends i 0 ≡ getD ends₀ i 0)
 
 abbrev μ-loop : tie.MeasureT-loop
 μ-loop ends₀ count n k₀ ends k = count - k
@@ -18,7 +20,7 @@ inside : (c : tie.In-loop Inv-loop μ-loop) → c .before .loop .k < length (c .
 inside c = omega (arith, c .loop-test .taken, c .before .loop .inv .0, c .before .before .pre .0)
 
 loop-holds : tie.Need-loop-holds Inv-loop μ-loop
-loop-holds c = (refl, λ i h few. elim h [ inl a ↦ absurd (omega (arith, a)) | inr b ↦ c .pre .1 i b few ])
+loop-holds c = (refl, λ i h few. elim h [ inl a ↦ absurd (omega (arith, a)) | inr b ↦ c .pre .1 i b few ], λ i h. refl)
 
 mul-ends : tie.Need-mul-ends Inv-loop μ-loop
 mul-ends c = omega (arith, c .loop-test .taken, c .before .before .fits .count)
@@ -35,7 +37,7 @@ loop-less c = omega (arith, c .loop-test .taken)
 loop-again : tie.Need-loop-again Inv-loop μ-loop
 loop-again c =
     let l = c .before .loop in
-    (length-set (l .ends) (l .k) 0 ∙ l .inv .0, zeros-next (l .ends) (l .k) (c .before .before .args .count) (l .inv .1) (inside c))
+    (length-set (l .ends) (l .k) 0 ∙ l .inv .0, zeros-next (l .ends) (l .k) (c .before .before .args .count) (l .inv .1) (inside c), λ i h. getD-set-other (l .ends) (l .k) i 0 0 (λ z. omega (arith, z, h, c .loop-test .taken)) ∙ l .inv .2 i h)
 
 same-length : tie.Need-same-length Inv-loop μ-loop
 same-length c = c .before .loop .inv .0
@@ -43,7 +45,7 @@ same-length c = c .before .loop .inv .0
 returns : tie.Need-returns Inv-loop μ-loop
 returns c =
     let l = c .before .loop in
-    (l .inv .0, λ k h. l .inv .1 k (elim (either k (c .before .before .args .count)) [ inl a ↦ inl (omega (arith, a, c .loop-test .left)) | inr b ↦ inr b ]) h)
+    (l .inv .0, λ k h. l .inv .1 k (elim (either k (c .before .before .args .count)) [ inl a ↦ inl (omega (arith, a, c .loop-test .left)) | inr b ↦ inr b ]) h, l .inv .2)
 
 pub clear-spec : {M : Type 1} → statement M
 clear-spec =

@@ -1,4 +1,5 @@
 -- None where the class stands; else the lowest open level, else the least loaded clear one.
+use mathlib.Core.Path.{_∙_}
 use native.Mathlib.Omega.{arith}
 use lib.ListN.{length-replicate, getD-replicate}
 use Rattle.routes_rows.specs.Turning.{clearAt, loadAt}
@@ -9,10 +10,10 @@ use Rattle.routes_rows.proofs.turn.seek_level.Statement.{statement}
 use Rattle.routes_rows.proofs.turn.seek_level.Tie as tie
 
 has-class-requires : tie.Need-has-class-requires
-has-class-requires c κs = (c .before .before .pre .0 .0, c .before .before .pre .1 .2)
+has-class-requires c κs = (c .before .before .pre .0 .2 .low .long, c .before .before .pre .1 .2)
 
 returns : tie.Need-returns
-returns c = let a = c .before .before .before .before .args in level-taken (rowBefore (a .items .now) (a .first) (a .answers .now) (a .p)) (a .span) (a .sink) (a .class) (c .before .has-class .ensures) (c .if1 .taken)
+returns c = let a = c .before .before .before .before .args in level-taken (rowBefore (a .items .now) (a .first) (a .answers .now) (a .p)) (a .span) (a .sink) (a .class) (c .before .has-class .ensures ∙ c .before .before .before .before .pre .0 .2 .classes (a .class) (c .before .before .before .before .pre .1 .2)) (c .if1 .taken)
 
 slice-aggregate-count-loads : tie.Need-slice-aggregate-count-loads
 slice-aggregate-count-loads c = search needs
@@ -35,7 +36,7 @@ returns-2 c =
     let booked = rowBefore (a .items .now) (a .first) (a .answers .now) (a .p) in
     let clear = clearAt booked (a .span .y0) in
     let load = loadAt booked (a .sink) in
-    level-lowest booked (a .span) (a .sink) (a .class) (c .before .before .before .before .before .before .before .before .before .has-class .ensures) (c .before .before .before .before .before .before .before .before .if1 .left) (c .before .before .before .lowest-corner .ensures clear load (c .before .before .before .before .before .before .before .before .before .before .before .before .pre .1 .0) (c .before .before .before .before .before .before .count-loads .ensures)) (c .before .level .given .1)
+    level-lowest booked (a .span) (a .sink) (a .class) (c .before .before .before .before .before .before .before .before .before .has-class .ensures ∙ c .before .before .before .before .before .before .before .before .before .before .before .before .pre .0 .2 .classes (a .class) (c .before .before .before .before .before .before .before .before .before .before .before .before .pre .1 .2)) (c .before .before .before .before .before .before .before .before .if1 .left) (c .before .before .before .lowest-corner .ensures clear load (c .before .before .before .before .before .before .before .before .before .before .before .before .pre .1 .0) (c .before .before .before .before .before .before .count-loads .ensures)) (c .before .level .given .1)
 
 enum-told : tie.Need-enum-told
 enum-told c = search needs
@@ -52,7 +53,7 @@ returns-3 c =
     let booked = rowBefore (a .items .now) (a .first) (a .answers .now) (a .p) in
     let clear = clearAt booked (a .span .y0) in
     let load = loadAt booked (a .sink) in
-    level-lightest booked (a .span) (a .sink) (a .class) (c .before .before .before .before .before .before .before .before .before .before .has-class .ensures) (c .before .before .before .before .before .before .before .before .before .if1 .left) (c .before .before .before .before .lowest-corner .ensures clear load (c .before .before .before .before .before .before .before .before .before .before .before .before .before .pre .1 .0) (c .before .before .before .before .before .before .before .count-loads .ensures)) (c .before .before .enum-told .given .1) (c .least-loaded-corner .ensures clear load (c .before .before .before .before .before .before .before .before .before .before .before .before .before .pre .1 .0) (c .before .before .before .before .before .before .before .count-loads .ensures))
+    level-lightest booked (a .span) (a .sink) (a .class) (c .before .before .before .before .before .before .before .before .before .before .has-class .ensures ∙ c .before .before .before .before .before .before .before .before .before .before .before .before .before .pre .0 .2 .classes (a .class) (c .before .before .before .before .before .before .before .before .before .before .before .before .before .pre .1 .2)) (c .before .before .before .before .before .before .before .before .before .if1 .left) (c .before .before .before .before .lowest-corner .ensures clear load (c .before .before .before .before .before .before .before .before .before .before .before .before .before .pre .1 .0) (c .before .before .before .before .before .before .before .count-loads .ensures)) (c .before .before .enum-told .given .1) (c .least-loaded-corner .ensures clear load (c .before .before .before .before .before .before .before .before .before .before .before .before .before .pre .1 .0) (c .before .before .before .before .before .before .before .count-loads .ensures))
 
 pub seek-level-spec : {M : Type 1} → statement M
 seek-level-spec =

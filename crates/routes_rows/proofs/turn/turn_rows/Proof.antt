@@ -55,6 +55,7 @@ use denote.Exit.{yes}
 use Rattle.routes_rows.specs.Blocked.{countIn, Blocks, cellsMeet}
 use Rattle.routes_rows.specs.Booking.{cellOf, orderAt, begins, book, noCell, firstCells, unless, countAfter}
 use Rattle.routes_rows.specs.Entries.{SLICE_MOST, inSlice, spanFor, Decidable, Decided, TurnsFit}
+use Rattle.routes_rows.specs.Notes.{NOTES}
 use Rattle.routes_rows.specs.Turning.{cornerY, answersAfter}
 use Rattle.routes_rows.specs.declared.book.Cell.{Cell}
 use Rattle.routes_rows.proofs.Again.{LentAgain, lends-again, comes-back}
@@ -543,7 +544,7 @@ module _ {M : Type 1} (𝓤 : URA M) (H : Heap 𝓤) (A : Atoms 𝓤) (W : Given
           counted-room before counted e = let h : counted ≤ SLICE_MOST = counted-few counted before (ltb (orderAt xs p) first) e in let k : length cs ≡ SLICE_MOST = b .room in omega (arith, h, k)
 
           span-room : {span : Cell} → Spans p span → countIn span ≤ length es
-          span-room {span} e = let h : countIn span ≤ 1000 = span-few xs first (orderAt xs p) span (fit .asks p more) e in let k : 1000 ≤ length es₀ = fit .endsLong in let j : length es ≡ length es₀ = b .endsLong in omega (arith, h, k, j)
+          span-room {span} e = let h : countIn span ≤ 1000 = span-few xs first (orderAt xs p) span (fit .asks p more) e in let k : NOTES ≤ length es₀ = fit .notesLong in let j : length es ≡ length es₀ = b .endsLong in omega (arith, h, k, j)
 
           before-room : (before : ℕ) → ltb before SLICE_MOST ≡ true → before < length cs
           before-room before e = let h : before < SLICE_MOST = ltb-true before SLICE_MOST e in let k : length cs ≡ SLICE_MOST = b .room in omega (arith, h, k)
@@ -572,7 +573,7 @@ module _ {M : Type 1} (𝓤 : URA M) (H : Heap 𝓤) (A : Atoms 𝓤) (W : Given
         move ! (3 ∷ []) $ fsplit ! $ move ! (1 ∷ []) $ fsplit ! $ drop ! $ fsplit ! $ drop ! $ fsplit ! $ move ! (1 ∷ []) $ fsplit ! $ move ! (1 ∷ []) $ drop ! $
         -- [what answers owns; what ends owns; what items owns; answers' token; ends'; items'; the cells; _25; …]
         move ! (5 ∷ 2 ∷ 6 ∷ 4 ∷ 1 ∷ 3 ∷ 0 ∷ []) $
-        first-part ! $ blocks ! $ loops ! 𝓣 Nearer nearer-wf (At l₀ l₁ l₂ l₃ l₄ l₅ l₆ l₇ l₈ l₉ l₁₀ l₁₁ l₁₂ l₁₃ l₁₄ l₁₅ l₁₆ l₁₇ l₁₈ l₁₉ l₂₀ l₂₁ l₂₂ l₂₃ l₂₄ l₂₅) (turns l₀ l₁ l₂ l₃ l₄ l₅ l₆ l₇ l₈ l₉ l₁₀ l₁₁ l₁₂ l₁₃ l₁₄ l₁₅ l₁₆ l₁₇ l₁₈ l₁₉ l₂₀ l₂₁ l₂₂ l₂₃ l₂₄ l₂₅) (0, 0, cs, es₀, rs₀, omega arith, standing-start xs first es₀ rs₀ cs many (fit .noEnds))))))))))))))))))))))))))))))
+        first-part ! $ blocks ! $ loops ! 𝓣 Nearer nearer-wf (At l₀ l₁ l₂ l₃ l₄ l₅ l₆ l₇ l₈ l₉ l₁₀ l₁₁ l₁₂ l₁₃ l₁₄ l₁₅ l₁₆ l₁₇ l₁₈ l₁₉ l₂₀ l₂₁ l₂₂ l₂₃ l₂₄ l₂₅) (turns l₀ l₁ l₂ l₃ l₄ l₅ l₆ l₇ l₈ l₉ l₁₀ l₁₁ l₁₂ l₁₃ l₁₄ l₁₅ l₁₆ l₁₇ l₁₈ l₁₉ l₂₀ l₂₁ l₂₂ l₂₃ l₂₄ l₂₅) (0, 0, cs, es₀, rs₀, omega arith, standing-start xs first es₀ rs₀ cs many (fit .notesLong) (fit .fresh))))))))))))))))))))))))))))))
 
 module _ {M : Type 1} (𝓤 : URA M) (H : Heap 𝓤) (A : Atoms 𝓤) (W : Given 𝓤 H A) (at-mem : Memory → SProp 𝓤) (run : Routine → Fun 𝓤) (𝓣 : Tables 𝓤 H) (known-cb : Triple 𝓤 (𝓣 .C #book·count-before) (CB 𝓤 H A at-mem run)) (known-ch : Triple 𝓤 (𝓣 .C #turn·count-held) (CH 𝓤 H A at-mem run)) (known-sp : Triple 𝓤 (𝓣 .C #turn·span-of) (SP 𝓤 H A at-mem run))
     (known-bc : Triple 𝓤 (𝓣 .C #blocked·block-cells) (BC 𝓤 H A at-mem run)) (known-dc : Triple 𝓤 (𝓣 .C #turn·decide) (DC 𝓤 H A at-mem run)) (known-ap : Triple 𝓤 (𝓣 .C #book·append) (AP 𝓤 H A at-mem run)) (known-nx : Triple 𝓤 (𝓣 .C #turn·count-next) (NX 𝓤 H A at-mem run)) where
