@@ -17,9 +17,10 @@ use Rattle.board.specs.Demands.{PageLanes, planLanes, noLanes}
 use Rattle.board.specs.Planning.{Planning, refused, lanesFor, planning, fitsPages, crowding, records, pageRow, pagesAfter, fitted}
 use Rattle.board.specs.Walk.{WithinLibrary, countsIn}
 use Rattle.lanes.specs.Lanes.{laneMost}
+use Rattle.board_plan.specs.declared.Asked.{Asked}
 use Rattle.board_plan.specs.declared.Lent.{Lent}
 use Rattle.board_plan.specs.declared.PagesPlan.the-variants.{Refused, Planned}
-use Rattle.board_plan.specs.TextPlan.{LINE_MOST, hasRoom, fitsCounts, fitsLent, shortest, WorkLent, workRows}
+use Rattle.board_plan.specs.TextPlan.{LINE_MOST, hasRoom, fitsCounts, fitsLent, shortest, WorkLent, workRows, lentOf, askedFor}
 use Rattle.board_plan.specs.PagesPlan.{planCall, pagesPlan, PagesPlanned}
 use Rattle.board.proofs.Accepting.{sheet-accepted}
 use Rattle.board_plan.proofs.Surveying.{LanesTold}
@@ -62,9 +63,17 @@ work-room work records facts taps groups demands keys marks e =
       fivefold = omega (arith, e, shortest-at l 6 (omega arith));
     }
 
+-- What `plan_text` asks for, of what is asked by the lengths lent.
+pub asked-room : {r w p a : ℕ} (asked : Asked) (records facts taps groups demands keys marks : List (List ℕ)) → asked ≡ askedFor (r ∷ w ∷ p ∷ a ∷ []) (workRows records facts taps groups demands keys marks)
+    → WorkRoom (asked .lent .work) records facts taps groups demands keys marks × WithinLibrary (asked .most)
+asked-room asked records facts taps groups demands keys marks e = (
+  work-room (asked .lent .work) records facts taps groups demands keys marks (ap (λ (q : Asked). q .lent .work) e),
+  subst (λ (q : Asked). WithinLibrary (q .most)) (sym e) within-library,
+)
+
 -- `plan_bus` asks for no rerouters, bus wires or ports: it plans as if the most were lent.
-abbrev pub pagesLent : ℕ → ℕ → Lent
-pagesLent answers work = record { rerouters = 40960; «bus_wires» = 49152; ports = 8192; answers = answers; work = work; out = 12591232 }
+abbrev pagesLent : ℕ → ℕ → Lent
+pagesLent answers work = lentOf 40960 49152 8192 answers work
 
 pages-fit : (answers work : ℕ) (b : Board) → length (b .wires) ≤ libraryMost .wires → length (b .pages) ≤ libraryMost .pages → fitsLent (pagesLent answers work) b ≡ fitsPages answers work b
 unfolding fitsLent fitsCounts hasRoom fitsPages records
@@ -84,7 +93,7 @@ planning-same text f g same = go (judged libraryMost text) refl
         ∙ ap (λ (t : Bool). elim t as (λ _. Planning) [ true ↦ crowding b (planLanes b) | false ↦ refused 7 0 ]) (let h = sheet-accepted libraryMost text b within-library e in same b (h .fewWires) (h .fewPages))
         ∙ sym (planning-fine libraryMost text g b e)
 
-pub pages-planning : (text : List ℕ) (answers work : ℕ) → planning libraryMost (fitsLent (pagesLent answers work)) text ≡ planning libraryMost (fitsPages answers work) text
+pages-planning : (text : List ℕ) (answers work : ℕ) → planning libraryMost (fitsLent (pagesLent answers work)) text ≡ planning libraryMost (fitsPages answers work) text
 pages-planning text answers work = planning-same text (fitsLent (pagesLent answers work)) (fitsPages answers work) (pages-fit answers work)
 
 -- The page answers can be written.
@@ -102,26 +111,25 @@ pages-ready rows facts taps groups most text lent c m k t work answers =
     ((omega arith, omega arith), λ p h. let inside : p < length (t .lanes) = omega (arith, counts .0) in omega (arith, t .tables .pages-known p inside, counts .1 p))
 
 -- The call's answers.
-module _ (text : List ℕ) (work : List ℕ) (before after : List (List ℕ)) where
+module _ (text : List ℕ) (work : List ℕ) (before after : List (List ℕ)) (asked : Asked) (is : asked ≡ askedFor (40960 ∷ 49152 ∷ 8192 ∷ length before ∷ []) work) where
   call : Planning
   call = planCall text (length before) work
 
-  told : (n : ℕ) → n ≡ shortest work → planning libraryMost (fitsLent (pagesLent (length before) n)) text ≡ call
+  told : planning (asked .most) (fitsLent (asked .lent)) text ≡ call
   unfolding planCall call
-  told n e = ap (λ (k : ℕ). planning libraryMost (fitsLent (pagesLent (length before) k)) text) e ∙ pages-planning text (length before) (shortest work)
+  told = ap (λ (q : Asked). planning (q .most) (fitsLent (q .lent)) text) is ∙ pages-planning text (length before) (shortest work)
 
-  pub pages-refused : (w : ℕ) → w ≡ shortest work → (n l : ℕ) → planning libraryMost (fitsLent (pagesLent (length before) w)) text ≡ refused n l
-      → PagesPlanned (planCall text (length before) work) before before (Refused n l)
+  pub pages-refused : (n l : ℕ) → planning (asked .most) (fitsLent (asked .lent)) text ≡ refused n l → PagesPlanned (planCall text (length before) work) before before (Refused n l)
   unfolding call pagesAfter
-  pages-refused w e n l is =
-      let same : planCall text (length before) work ≡ refused n l = sym (told w e) ∙ is in
+  pages-refused n l e =
+      let same : planCall text (length before) work ≡ refused n l = sym told ∙ e in
       record { answer = ap pagesPlan (sym same); answers = ap (λ (p : Planning). pagesAfter p before) (sym same) }
 
-  pub pages-laned : (w : ℕ) → w ≡ shortest work → (b : Board) (ps : List PageLanes) → planning libraryMost (fitsLent (pagesLent (length before) w)) text ≡ lanesFor b ps → planLanes b ≡ Demands.planned ps
+  pub pages-laned : (b : Board) (ps : List PageLanes) → planning (asked .most) (fitsLent (asked .lent)) text ≡ lanesFor b ps → planLanes b ≡ Demands.planned ps
       → after ≡ map pageRow ps ++ drop (length (b .pages)) before → PagesPlanned (planCall text (length before) work) before after (Planned (length (b .pages)))
   unfolding call pagesAfter
-  pages-laned w e b ps is lanes written =
-      let same : planCall text (length before) work ≡ lanesFor b ps = sym (told w e) ∙ is in
+  pages-laned b ps e lanes written =
+      let same : planCall text (length before) work ≡ lanesFor b ps = sym told ∙ e in
       record {
         answer = ap pagesPlan (sym same);
         answers = written ∙ ap (λ (k : ℕ). map pageRow ps ++ drop k before) (sym (planned-counts b ps lanes .0)) ∙ ap (λ (p : Planning). pagesAfter p before) (sym same);

@@ -4,7 +4,7 @@ use mathlib.Core.Path.{_≡_}
 use mathlib.Core.Bool.{Bool, true, false, _&&_}
 use mathlib.Core.List.{List, [], _∷_}
 use lib.Dec.{leb}
-use lib.ListN.{length, take, drop}
+use lib.ListN.{length, getD, take, drop}
 use Rattle.sheet.specs.declared.Counts.{Counts}
 use Rattle.sheet.specs.Table.{libraryMost}
 use Rattle.board.specs.Board.{Board}
@@ -20,6 +20,7 @@ use Rattle.board.specs.Walk.{countsIn, Indexed}
 use Rattle.board.specs.Accepted.{Accepted}
 use Rattle.board_lanes.specs.PagePlan.{Room}
 use Rattle.board_plan.specs.declared.Lent.{Lent}
+use Rattle.board_plan.specs.declared.Asked.{Asked}
 use Rattle.board_plan.specs.declared.TextPlan.{TextPlan}
 use Rattle.board_plan.specs.declared.TextPlan.the-variants.{Refused, Crowded, Laned}
 
@@ -55,6 +56,14 @@ MARK_ROWS = 5
 abbrev pub workRows : (records facts taps groups demands keys marks : List (List ℕ)) → List ℕ
 workRows records facts taps groups demands keys marks =
     length records ∷ length facts ∷ length taps ∷ length groups ∷ length demands ∷ length keys ∷ length marks / MARK_ROWS ∷ []
+
+-- What a call finds lent that writes no text: it plans as if the most were lent for that, so that only the named lengths (S15) decide.
+abbrev pub lentOf : (rerouters busWires ports answers work : ℕ) → Lent
+lentOf rerouters busWires ports answers work = record { rerouters = rerouters; «bus_wires» = busWires; ports = ports; answers = answers; work = work; out = 12591232 }
+
+-- What such a call asks within the library's limits, by the lengths of the four buffers and the records for which there is room in each slice of work space.
+abbrev pub askedFor : (buffers work : List ℕ) → Asked
+askedFor buffers work = record { most = libraryMost; lent = lentOf (getD buffers 0 0) (getD buffers 1 0) (getD buffers 2 0) (getD buffers 3 0) (shortest work) }
 
 -- So many rows stand in every slice of work space.
 pub record WorkLent (work records : ℕ) (facts taps groups demands keys spare : List (List ℕ)) : Type 0 where

@@ -25,7 +25,7 @@ ghost use Rattle.board.specs.Demands.{PageLanes, planLanes};
 ghost use Rattle.board.specs.Tables.{PageFacts};
 ghost use Rattle.board.specs.Planning.{planning, fitsPages, pageRow, pagesAfter};
 ghost use Rattle.board.specs.Walk.{WithinLibrary};
-ghost use Rattle.board_plan.specs.TextPlan.{fitsLent, shortest, workRows, hasRoom, fitsCounts, WorkLent, BoardRead, BoardChecked, lentFor, fitting, LanesPlanned, TextPlanned};
+ghost use Rattle.board_plan.specs.TextPlan.{fitsLent, shortest, workRows, askedFor, hasRoom, fitsCounts, WorkLent, BoardRead, BoardChecked, lentFor, fitting, LanesPlanned, TextPlanned};
 ghost use Rattle.board_plan.specs.PagesPlan.{planCall, PagesPlanned};
 
 // The lengths of what is lent: rerouters, bus wires, suppressed ports, page answers, the rows of the shortest slice of work space, and bytes for the plan sheet's
@@ -90,6 +90,25 @@ pub fn shortest_of(lengths: [usize; 7]) -> usize
         least = lesser(lengths[k], least);
     }
     least
+}
+
+// What a call asks that writes no text: by the lengths of its rerouters, bus wires, suppressed ports and page answers, and the records for which there is room in
+// each slice of work space. A call without one of the four buffers says the most.
+pub fn ask(buffers: [usize; 4], work: [usize; 7]) -> Asked
+    ensures { λ r. ⌜ r ≡ askedFor buffers work ⌝ }
+{
+    let lent = Lent {
+        rerouters: buffers[0],
+        bus_wires: buffers[1],
+        ports: buffers[2],
+        answers: buffers[3],
+        work: shortest_of(work),
+        out: OUT_MOST,
+    };
+    Asked {
+        most: library_most(),
+        lent,
+    }
 }
 
 // How many records there are.
@@ -316,12 +335,9 @@ pub fn plan_bus(
     ensures { λ r. ⌜ PagesPlanned (planCall (now (text .entry)) (length (now (answers .entry))) (workRows (now (records .entry)) (now (facts .entry)) (now (taps .entry)) (now (groups .entry)) (now (demands .entry)) (now (keys .entry)) (now (marks .entry))))
         (now (answers .entry)) (now (answers .exit)) r ⌝ }
 {
-    let lent = Lent {
-        rerouters: REROUTERS_MOST,
-        bus_wires: BUS_WIRES_MOST,
-        ports: PORTS_MOST,
-        answers: answers.len(),
-        work: shortest_of([
+    let asked = ask(
+        [REROUTERS_MOST, BUS_WIRES_MOST, PORTS_MOST, answers.len()],
+        [
             records.len(),
             facts.len(),
             taps.len(),
@@ -329,11 +345,8 @@ pub fn plan_bus(
             demands.len(),
             keys.len(),
             marks.len() / MARK_ROWS,
-        ]),
-        out: OUT_MOST,
-    };
-    let most = library_most();
-    let asked = Asked { most, lent };
+        ],
+    );
     match plan_text(
         text,
         asked,

@@ -27,8 +27,8 @@ use Rattle.routes_gutter.specs.Bus.{BusStands}
 use Rattle.routes_calls.specs.Finish.{CornersReady}
 use Rattle.routes_calls.proofs.Finishing.{ports-length, laid-handed, laid-mutes, laid-room, laid-given, ports-finished, wires-fit, sort-room}
 
-module _ {b : Board} {ps : List PageLanes} {old oldWires oldPorts rows : List (List ℕ)} {counts : Counts} {facts rerouters busWires ports : List (List ℕ)} {held : BusCounts} {marks sorting : List (List ℕ)}
-    (ready : CornersReady b ps old oldWires oldPorts rows counts facts rerouters busWires ports held marks sorting) where
+module _ {b : Board} {ps : List PageLanes} {old oldWires oldPorts rows : List (List ℕ)} {counts : Counts} {facts rerouters busWires ports : List (List ℕ)} {held : BusCounts} {marks : List (List ℕ)}
+    (ready : CornersReady b ps old oldWires oldPorts rows counts facts rerouters busWires ports held marks) where
   pub ready-mutes : Mutes b (busOf b ps) ports (held .ports)
   ready-mutes =
       subst (λ (j : ℕ). Mutes b (busOf b ps) ports j) (sym (ready .stands .suppressed))
@@ -61,16 +61,14 @@ module _ {b : Board} {ps : List PageLanes} {old oldWires oldPorts rows : List (L
     fit : length (corners b (busOf b ps) .wires) ≤ length oldWires
     fit = wires-fit b (ready .accepted) ps (ready .plan) oldWires (ready .wiresLent)
 
-    pub settle-ready : (spare : List (List ℕ)) → length spare ≡ length marks → Settleable busWires′ (held .«bus_wires») (count .wires) ports (held .ports) sorting spare
-    settle-ready spare same =
+    pub settle-ready : Settleable busWires′ (held .«bus_wires») (count .wires) ports (held .ports)
+    settle-ready =
         let room = sort-room b (ready .accepted) ps (ready .plan) in
         let many = ready .stands .suppressed in
-        let sl = ready .sortingLent in
-        let pl = ready .marksLent in
         let ol = ready .portsLent in
         let long : length ports ≡ length oldPorts = ap length (ready .stands .ports-are) ∙ ports-length (busOf b ps .ports) oldPorts (omega arith) in
         rw (ready .stands .wires, turned .wireCount)
-        (settleable-corners b (ready .accepted) (busOf b ps) busWires′ oldWires (turned .wireRows) fit ports (held .ports) (ready .turning .lent .muted) given sorting spare (omega arith) (omega arith) (omega arith))
+        (settleable-corners b (ready .accepted) (busOf b ps) busWires′ oldWires (turned .wireRows) fit ports (held .ports) (ready .turning .lent .muted) given (omega arith) (omega arith))
 
     pub settle-done : (ports′ : List (List ℕ)) (v : ℕ) → Settled busWires′ (held .«bus_wires») (count .wires) ports (held .ports) ports′ v → BusStands (finished b ps) old oldWires oldPorts rerouters′ busWires′ ports′ (record { rerouters = count .rerouters; «bus_wires» = count .wires; ports = v })
     unfolding finished

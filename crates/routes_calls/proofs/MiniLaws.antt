@@ -18,8 +18,9 @@ use Rattle.board.specs.Refusals.{Judged, board}
 use Rattle.board.specs.Walk.{WithinLibrary, countsIn}
 use Rattle.base.proofs.Bools.{and-left, and-right}
 use Rattle.base.proofs.Views.{length-view}
+use Rattle.board_plan.specs.declared.Asked.{Asked}
 use Rattle.board_plan.specs.declared.Lent.{Lent}
-use Rattle.board_plan.specs.TextPlan.{fitsLent, fitting, shortest, FactsHold}
+use Rattle.board_plan.specs.TextPlan.{fitsLent, fitting, shortest, lentOf, askedFor, FactsHold}
 use Rattle.board_plan.proofs.Fitting.{fits-all}
 use Rattle.board.proofs.Accepting.{sheet-accepted}
 use Rattle.board_plan.proofs.Reading.{fitting-from, planning-then}
@@ -48,7 +49,7 @@ use Rattle.routes.specs.Route.{fitsBus}
 use Rattle.routes_gutter.specs.Calls.{busFits, busAnswer, reroutersAfter, busWiresAfter, portsAfter, BusCalled}
 use Rattle.routes_calls.specs.Mini.{holds, busGiven, heldFits, miniBy, miniOn, miniFits, miniCall, crowdedAt, HeldReady}
 use Rattle.routes_calls.specs.Turn.{RowsKnown}
-use Rattle.routes_gutter.proofs.Planned.{lentWith, bus-fit}
+use Rattle.routes_gutter.proofs.Planned.{bus-fit}
 use Rattle.routes_calls.proofs.Turning.{turn-ready}
 
 -- The ports handed in, whatever row is put in first.
@@ -148,7 +149,7 @@ module _ (rerouters busWires ports : List (List ℕ)) (held : BusCounts) (b : Bo
   unfolding busIn
   start-wires = length-view wireIn busWires (held .«bus_wires»)
 
-  module _ (few : Held) {rows : List (List ℕ)} {counts : Counts} {facts sorting marks : List (List ℕ)} (ready : HeldReady b rows counts facts rerouters busWires ports sorting marks)
+  module _ (few : Held) {rows : List (List ℕ)} {counts : Counts} {facts marks : List (List ℕ)} (ready : HeldReady b rows counts facts rerouters busWires ports marks)
       (r′ w′ : List (List ℕ)) (r : Turned) (count : BusCount) (turned : After r′ w′ r) (is : r ≡ turnings.Laid count) where
     within : (held .rerouters ≤ length rerouters) × (held .«bus_wires» ≤ length busWires) × (held .ports ≤ length ports)
     within = held-within held (length rerouters) (length busWires) (length ports) few
@@ -169,15 +170,13 @@ module _ (rerouters busWires ports : List (List ℕ)) (held : BusCounts) (b : Bo
         let many = start-wires in
         omega arith
 
-    pub settle : (spare : List (List ℕ)) → length spare ≡ length marks → Settleable w′ (held .«bus_wires») (count .wires) ports (held .ports) sorting spare
-    settle spare same =
+    pub settle : Settleable w′ (held .«bus_wires») (count .wires) ports (held .ports)
+    settle =
         let most = ports-room (length (b .wires)) held (turnable b start) (laid .0) in
         let pr = ready .portRoom in
-        let sr = ready .sortRoom .0 in
-        let ss = ready .sortRoom .1 in
-        subst (λ (i : ℕ). Settleable w′ i (count .wires) ports (held .ports) sorting spare) start-wires
-        (subst (λ (j : ℕ). Settleable w′ (length (start .wires)) j ports (held .ports) sorting spare) (sym (laid .1 .wireCount))
-        (settleable-corners b (ready .accepted) start w′ busWires (laid .1 .wireRows) room ports (held .ports) (within .2) start-ports sorting spare (omega arith) (omega arith) (omega arith)))
+        subst (λ (i : ℕ). Settleable w′ i (count .wires) ports (held .ports)) start-wires
+        (subst (λ (j : ℕ). Settleable w′ (length (start .wires)) j ports (held .ports)) (sym (laid .1 .wireCount))
+        (settleable-corners b (ready .accepted) start w′ busWires (laid .1 .wireRows) room ports (held .ports) (within .2) start-ports (omega arith) (omega arith)))
 
     settled-is : settled w′ (held .«bus_wires») (count .wires) ports (held .ports) ≡ corners b start .ports
     settled-is =
@@ -192,10 +191,10 @@ module _ (rerouters busWires ports : List (List ℕ)) (held : BusCounts) (b : Bo
 
 -- A board that what is lent fits is ready for whatever is handed in.
 pub held-ready : (most : Counts) (text : List ℕ) (lent : Lent) → WithinLibrary most → (b : Board) → fitting most (fitsLent lent) text ≡ board b
-    → (rows facts : List (List ℕ)) → FactsHold b rows facts → (c : Counts) → c ≡ countsIn b → (rerouters busWires ports sorting marks : List (List ℕ)) → BusLent lent marks rerouters busWires ports
-    → lent .work ≤ length facts → lent .work ≤ length sorting → HeldReady b rows c facts rerouters busWires ports sorting marks
+    → (rows facts : List (List ℕ)) → FactsHold b rows facts → (c : Counts) → c ≡ countsIn b → (rerouters busWires ports marks : List (List ℕ)) → BusLent lent marks rerouters busWires ports
+    → lent .work ≤ length facts → HeldReady b rows c facts rerouters busWires ports marks
 unfolding records
-held-ready most text lent low b is rows facts known c counted rerouters busWires ports sorting marks bus fs so =
+held-ready most text lent low b is rows facts known c counted rerouters busWires ports marks bus fs =
     let from = fitting-from most text (fitsLent lent) b is in
     let accepted = sheet-accepted most text b low (from .0) in
     let fit = fits-all lent b (from .1) in
@@ -207,10 +206,9 @@ held-ready most text lent low b is rows facts known c counted rerouters busWires
       ready = turn-ready lent b accepted (from .1) rows facts known c counted fs rerouters busWires ports marks bus;
       accepted = accepted;
       portRoom = omega arith;
-      sortRoom = (omega arith, omega arith);
     }
 
-pub rows-known : {b : Board} {rows : List (List ℕ)} {c : Counts} {facts rerouters busWires ports sorting marks : List (List ℕ)} → HeldReady b rows c facts rerouters busWires ports sorting marks → RowsKnown b rows c facts
+pub rows-known : {b : Board} {rows : List (List ℕ)} {c : Counts} {facts rerouters busWires ports marks : List (List ℕ)} → HeldReady b rows c facts rerouters busWires ports marks → RowsKnown b rows c facts
 rows-known ready =
     let r = ready .ready (record { rerouters = 0; «bus_wires» = 0; ports = 0 }) (omega arith) (omega arith) (omega arith) in
     record {
@@ -236,11 +234,11 @@ module _ (rerouters busWires ports : List (List ℕ)) (held : BusCounts) (most :
   mini-tried b e = mini-by (board b) e
 
 -- The call with what it finds lent.
-pub mini-called : (text : List ℕ) (most : Counts) → most ≡ libraryMost → (r b p work : ℕ) (lengths : List ℕ) → work ≡ shortest lengths → (rerouters busWires ports : List (List ℕ)) (held : BusCounts)
-    → miniBy rerouters busWires ports held (planning most (miniFits rerouters busWires ports held (fitsLent (lentWith r b p work))) text) ≡ miniCall text (busFits r b p lengths) rerouters busWires ports held
+pub mini-called : (text : List ℕ) (asked : Asked) (r b p : ℕ) (lengths : List ℕ) → asked ≡ askedFor (r ∷ b ∷ p ∷ 64 ∷ []) lengths → (rerouters busWires ports : List (List ℕ)) (held : BusCounts)
+    → miniBy rerouters busWires ports held (planning (asked .most) (miniFits rerouters busWires ports held (fitsLent (asked .lent))) text) ≡ miniCall text (busFits r b p lengths) rerouters busWires ports held
 unfolding miniCall
-mini-called text most e r b p work lengths short rerouters busWires ports held =
-    (λ i. miniBy rerouters busWires ports held (planning (e i) (miniFits rerouters busWires ports held (fitsLent (lentWith r b p (short i)))) text))
+mini-called text asked r b p lengths e rerouters busWires ports held =
+    ap (λ (q : Asked). miniBy rerouters busWires ports held (planning (q .most) (miniFits rerouters busWires ports held (fitsLent (q .lent))) text)) e
     ∙ ap (miniBy rerouters busWires ports held)
-    (planning-same text (miniFits rerouters busWires ports held (fitsLent (lentWith r b p (shortest lengths)))) (miniFits rerouters busWires ports held (fitsBus r b p (shortest lengths)))
+    (planning-same text (miniFits rerouters busWires ports held (fitsLent (lentOf r b p 64 (shortest lengths)))) (miniFits rerouters busWires ports held (fitsBus r b p (shortest lengths)))
     (λ c wires pages. ap (λ t. t && heldFits rerouters busWires ports held c) (bus-fit r b p (shortest lengths) c wires pages)))

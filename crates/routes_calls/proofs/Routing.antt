@@ -2,7 +2,7 @@
 use Prim.Native.Nat.{ℕ, _+_, _*_, _≤_}
 use native.Mathlib.Omega.{arith}
 use mathlib.Core.Path.{_≡_, refl, sym, ap, _∙_, subst}
-use mathlib.Core.List.{List, _++_, map}
+use mathlib.Core.List.{List, [], _∷_, _++_, map}
 use lib.ListN.{length, drop}
 use borrow.Author.Tests.{le-leb}
 use Rattle.sheet.specs.declared.Counts.{Counts}
@@ -10,8 +10,9 @@ use Rattle.board.specs.Board.{Board}
 use Rattle.board.specs.Demands.{PageLanes}
 use Rattle.board.specs.Planning.{Planning, refused, lanesFor, planning, records, pageRow}
 use Rattle.board.specs.Walk.{WithinLibrary, countsIn}
+use Rattle.board_plan.specs.declared.Asked.{Asked}
 use Rattle.board_plan.specs.declared.Lent.{Lent}
-use Rattle.board_plan.specs.TextPlan.{LINE_MOST, hasRoom, fitsCounts, fitsLent, shortest}
+use Rattle.board_plan.specs.TextPlan.{LINE_MOST, hasRoom, fitsCounts, fitsLent, shortest, lentOf, askedFor}
 use Rattle.board_plan.proofs.Fitting.{fits-all}
 use Rattle.board_plan.proofs.Surveying.{facts-in}
 use Rattle.board.proofs.Accepting.{sheet-accepted}
@@ -32,26 +33,20 @@ use Rattle.routes_gutter.specs.declared.bus.BusPlan.the-variants as plans
 use Rattle.routes_calls.proofs.Turning.{turn-ready}
 use Rattle.routes_calls.proofs.Finishing.{laid-few}
 
--- What `route` finds lent, with so many rows of work space. It writes no text, and plans as if the most were lent for it: so only the named lengths (S15) decide.
-abbrev pub planWith : ℕ → ℕ → ℕ → ℕ → ℕ → Lent
-planWith rerouters busWires ports answers work = record { rerouters = rerouters; «bus_wires» = busWires; ports = ports; answers = answers; work = work; out = 12591232 }
-
-plan-fit : (r w p a work : ℕ) (b : Board) → length (b .wires) ≤ libraryMost .wires → length (b .pages) ≤ libraryMost .pages → fitsLent (planWith r w p a work) b ≡ fitsPlan r w p a work b
+-- What `route` finds lent: only the named lengths (S15) decide.
+plan-fit : (r w p a work : ℕ) (b : Board) → length (b .wires) ≤ libraryMost .wires → length (b .pages) ≤ libraryMost .pages → fitsLent (lentOf r w p a work) b ≡ fitsPlan r w p a work b
 unfolding fitsLent fitsCounts hasRoom fitsPlan records
 plan-fit r w p a work b h g = rw (le-leb (LINE_MOST * (length (b .pages) + 12 * length (b .wires) + 1)) 12591232 (omega arith)) refl
-
-plan-planning : (text : List ℕ) (r w p a work : ℕ) → planning libraryMost (fitsLent (planWith r w p a work)) text ≡ planning libraryMost (fitsPlan r w p a work) text
-plan-planning text r w p a work = planning-same text (fitsLent (planWith r w p a work)) (fitsPlan r w p a work) (plan-fit r w p a work)
 
 -- The lanes' bus of a planned text, standing in the buffers.
 module _ (most : Counts) (text : List ℕ) (lent : Lent) (low : WithinLibrary most) (rows facts taps groups : List (List ℕ)) (c : Counts) (m : ℕ)
     (told : LanesTold rows facts taps groups (planning most (fitsLent lent) text) c m) (old oldWires oldPorts : List (List ℕ)) where
   module _ (rerouters busWires ports : List (List ℕ)) (held : BusCounts) (stands : BusStands (busOf (told .onBoard) (told .lanes)) old oldWires oldPorts rerouters busWires ports held) where
-    pub corners-ready : (marks sorting : List (List ℕ)) → BusLent lent marks rerouters busWires ports → lent .work ≤ length facts → lent .work ≤ length sorting
+    pub corners-ready : (marks : List (List ℕ)) → BusLent lent marks rerouters busWires ports → lent .work ≤ length facts
         → length rerouters ≡ length old → length busWires ≡ length oldWires → length ports ≡ length oldPorts
-        → CornersReady (told .onBoard) (told .lanes) old oldWires oldPorts rows c facts rerouters busWires ports held marks sorting
+        → CornersReady (told .onBoard) (told .lanes) old oldWires oldPorts rows c facts rerouters busWires ports held marks
     unfolding records
-    corners-ready marks sorting bus fs so lr lw lp =
+    corners-ready marks bus fs lr lw lp =
         let b = told .onBoard in
         let ps = told .lanes in
         let from = lanes-from most text (fitsLent lent) b ps (told .is) in
@@ -70,8 +65,6 @@ module _ (most : Counts) (text : List ℕ) (lent : Lent) (low : WithinLibrary mo
           reroutersLent = omega arith;
           wiresLent = omega arith;
           portsLent = omega arith;
-          sortingLent = omega arith;
-          marksLent = omega arith;
         }
 
   pub plan-told : (rerouters busWires ports oldAnswers answers : List (List ℕ)) (held : BusCounts) (g : ℕ)
@@ -103,12 +96,13 @@ module _ (old oldWires oldPorts oldAnswers rerouters busWires ports answers : Li
         answers-are = w;
       }
 
-  pub route-called : (text : List ℕ) (most : Counts) → most ≡ libraryMost → (r w p a work : ℕ) (lengths : List ℕ) → work ≡ shortest lengths → (result : BusText)
-      → PlanTexted (planning most (fitsLent (planWith r w p a work)) text) old oldWires oldPorts oldAnswers rerouters busWires ports answers result
+  pub route-called : (text : List ℕ) (asked : Asked) (r w p a : ℕ) (lengths : List ℕ) → asked ≡ askedFor (r ∷ w ∷ p ∷ a ∷ []) lengths → (result : BusText)
+      → PlanTexted (planning (asked .most) (fitsLent (asked .lent)) text) old oldWires oldPorts oldAnswers rerouters busWires ports answers result
       → PlanCalled (routeCall text (planFits r w p a lengths)) old oldWires oldPorts oldAnswers rerouters busWires ports answers (withoutCounts result)
   unfolding routeCall routed
-  route-called text most e r w p a work lengths short result h =
-      let is : planning most (fitsLent (planWith r w p a work)) text ≡ planning libraryMost (fitsPlan r w p a (shortest lengths)) text =
-      (λ i. planning (e i) (fitsLent (planWith r w p a (short i))) text) ∙ plan-planning text r w p a (shortest lengths) in
+  route-called text asked r w p a lengths e result h =
+      let is : planning (asked .most) (fitsLent (asked .lent)) text ≡ planning libraryMost (fitsPlan r w p a (shortest lengths)) text =
+      ap (λ (q : Asked). planning (q .most) (fitsLent (q .lent)) text) e
+      ∙ planning-same text (fitsLent (lentOf r w p a (shortest lengths))) (fitsPlan r w p a (shortest lengths)) (plan-fit r w p a (shortest lengths)) in
       plan-called (planning libraryMost (fitsPlan r w p a (shortest lengths)) text) result
       (subst (λ (q : Planning). PlanTexted q old oldWires oldPorts oldAnswers rerouters busWires ports answers result) is h)

@@ -8,9 +8,9 @@ use lib.ListN.{length}
 use Rattle.sheet.specs.declared.Counts.{Counts}
 use Rattle.sheet.specs.Table.{HALF_MOST}
 use Rattle.board.specs.Board.{Board, field, hasRow}
-use Rattle.board.specs.Rows.{turned, sizeX, sizeY, brickCell}
+use Rattle.board.specs.Rows.{turned, sizeX, brickCell}
 use Rattle.board.specs.Planning.{records}
-use Rattle.board.specs.Accepted.{Accepted, Y_HIGH}
+use Rattle.board.specs.Accepted.{Accepted}
 use Rattle.board.specs.Tables.{NodeFacts, nodesAlone}
 use Rattle.board.specs.Walk.{countsIn}
 use Rattle.base.proofs.Lists.{byTest}
@@ -19,32 +19,21 @@ use Rattle.board_plan.specs.TextPlan.{fitsLent, FactsHold}
 use Rattle.board_plan.proofs.Fitting.{fits-all}
 use Rattle.board.proofs.Reach.{REACH_MOST, end-most}
 use Rattle.routes.specs.declared.bus.BusCounts.{BusCounts}
-use Rattle.routes_beside.specs.Beside.{BrickInRange}
 use Rattle.routes_corners.specs.Turning.{InEdge, BoardFits}
 use Rattle.routes_gutter.specs.Bus.{BusLent}
-use Rattle.routes_gutter.proofs.Askable.{page-small, row-there}
+use Rattle.routes_gutter.proofs.Askable.{brick-in-range}
 use Rattle.routes_calls.specs.Turn.{TurnReady}
 
 module _ (b : Board) (a : Accepted b) where
-  -- S11: by the greatest half size no brick's cell is wider or higher.
-  brick-sizes : (i : ℕ) → (sizeX b i ≤ 2 * HALF_MOST) × (sizeY b i ≤ 2 * HALF_MOST)
-  brick-sizes i = (
-    byTest (λ n. 2 * n ≤ 2 * HALF_MOST) (turned b i) (λ e. omega (arith, a .halfY i)) (λ e. omega (arith, a .halfX i)),
-    byTest (λ n. 2 * n ≤ 2 * HALF_MOST) (turned b i) (λ e. omega (arith, a .halfX i)) (λ e. omega (arith, a .halfY i)),
-  )
+  -- S11: by the greatest half size no brick's cell is wider.
+  brick-wide : (i : ℕ) → sizeX b i ≤ 2 * HALF_MOST
+  brick-wide i = byTest (λ n. 2 * n ≤ 2 * HALF_MOST) (turned b i) (λ e. omega (arith, a .halfY i)) (λ e. omega (arith, a .halfX i))
 
   -- How far the cell of a node with a row reaches; it needs the nodes alone.
   cell-ends : (i : ℕ) → hasRow b i ≡ true
-      → (brickCell (nodesAlone (b .nodes)) i .x1 ≤ REACH_MOST) × (brickCell (nodesAlone (b .nodes)) i .x1 ≤ field (b .nodes) i 8 + 2 * HALF_MOST) × (brickCell (nodesAlone (b .nodes)) i .y1 ≤ Y_HIGH + 2 * HALF_MOST)
+      → (brickCell (nodesAlone (b .nodes)) i .x1 ≤ REACH_MOST) × (brickCell (nodesAlone (b .nodes)) i .x1 ≤ field (b .nodes) i 8 + 2 * HALF_MOST)
   unfolding brickCell
-  cell-ends i has = let y = a .y i (a .rowPlaced i has) in let size = brick-sizes i in (end-most b a i has, omega (arith, size), omega (arith, size))
-
-  brick-in-range : (facts : List (List ℕ)) → NodeFacts b facts → (i : ℕ) → i < length (b .nodes) → hasRow b i ≡ true → BrickInRange (b .nodes) facts i
-  brick-in-range facts known i h has =
-      let ends = cell-ends i has in
-      let row = row-there b a i h has in
-      let number = known .rows i h has in
-      record { page = page-small b a i h has; row = omega arith; endX = omega (arith, ends); endY = omega (arith, ends) }
+  cell-ends i has = (end-most b a i has, omega (arith, brick-wide i))
 
   in-edge : (i : ℕ) → hasRow b i ≡ true → InEdge (b .nodes) i
   in-edge i has = let ends = cell-ends i has in let y = a .y i (a .rowPlaced i has) in record { low = omega (arith, ends); wide = ends .1; flat = omega arith }
@@ -56,7 +45,7 @@ module _ (b : Board) (a : Accepted b) where
         wiresFew = a .fewWires;
         endsLong = wf;
         ports = λ w. a .target w .1;
-        bricks = record { few = a .fewNodes; onFacts = nf; inRange = brick-in-range facts known };
+        bricks = record { few = a .fewNodes; onFacts = nf; inRange = brick-in-range b a facts known };
         onPages = a .pageThere;
         inside = λ i h. in-edge i;
       }

@@ -17,7 +17,7 @@ use Rattle.routes_calls.specs.declared.route.BusText.{BusText}
 use Rattle.routes_calls.specs.declared.route.BusText.the-variants.{Refused, Laid}
 
 -- The bus of the lanes stands in the buffers, as long as named, and the corner pass can begin.
-pub record CornersReady (b : Board) (ps : List PageLanes) (old oldWires oldPorts rows : List (List ℕ)) (counts : Counts) (facts rerouters busWires ports : List (List ℕ)) (held : BusCounts) (marks sorting : List (List ℕ)) : Type 0 where
+pub record CornersReady (b : Board) (ps : List PageLanes) (old oldWires oldPorts rows : List (List ℕ)) (counts : Counts) (facts rerouters busWires ports : List (List ℕ)) (held : BusCounts) (marks : List (List ℕ)) : Type 0 where
   pub accepted : Accepted b
   pub plan : planLanes b ≡ planned ps
   pub turning : TurnReady b rows counts facts rerouters busWires ports held marks
@@ -25,8 +25,6 @@ pub record CornersReady (b : Board) (ps : List PageLanes) (old oldWires oldPorts
   pub reroutersLent : 5 * length (b .wires) ≤ length old
   pub wiresLent : 6 * length (b .wires) ≤ length oldWires
   pub portsLent : length (b .wires) ≤ length oldPorts
-  pub sortingLent : length (b .wires) ≤ length sorting
-  pub marksLent : length (b .wires) ≤ length marks
 
 -- What the three calls in order answer and leave: on a refusal all buffers as they were, else the finished plan.
 abbrev pub PlanTexted : Planning → (old oldWires oldPorts oldAnswers rerouters busWires ports answers : List (List ℕ)) → BusText → Type 0

@@ -55,11 +55,10 @@ abbrev pub crowdedAt : Bool → ℕ → BusPlan
 crowdedAt true line = Refused 8 line
 crowdedAt false line = Refused 7 0
 
--- A board of an accepted sheet, ready for the corner pass whatever is handed in, with rows for the ports that are sorted.
-pub record HeldReady (b : Board) (rows : List (List ℕ)) (counts : Counts) (facts rerouters busWires ports sorting marks : List (List ℕ)) : Type 0 where
+-- A board of an accepted sheet, ready for the corner pass whatever is handed in.
+pub record HeldReady (b : Board) (rows : List (List ℕ)) (counts : Counts) (facts rerouters busWires ports marks : List (List ℕ)) : Type 0 where
   pub ready :
       (held : BusCounts) → held .rerouters ≤ length rerouters → held .«bus_wires» ≤ length busWires → held .ports ≤ length ports
       → TurnReady b rows counts facts rerouters busWires ports held marks
   pub accepted : Accepted b
   pub portRoom : length (b .wires) ≤ length ports
-  pub sortRoom : (length (b .wires) ≤ length sorting) × (length (b .wires) ≤ length marks)

@@ -7,19 +7,15 @@ use base::rows::Record;
 use base::rows::RerouterRow;
 use base::rows::WorkRow;
 use board_plan::ANSWERS_MOST;
-use board_plan::Asked;
-use board_plan::Lent;
 use board_plan::MARK_ROWS;
-use board_plan::OUT_MOST;
 use board_plan::TextPlan;
+use board_plan::ask;
 use board_plan::plan_text;
-use board_plan::shortest_of;
 use routes::bus::BusCounts;
 use routes_corners::turn::Turned;
 use routes_gutter::bus::BusPlan;
 use routes_ports::settle::settle_ports;
 use sheet::Counts;
-use sheet::library_most;
 ghost use mathlib.Core.Path.{_≡_};
 ghost use mathlib.Core.List.{List};
 ghost use lib.ListN.{length};
@@ -73,8 +69,7 @@ fn refuse_crowded(fits: bool, line: usize) -> BusPlan
     }
 }
 
-// The corners of a board whose records stand in rows, on the bus that is handed in: 7 where the buffers do not hold it with all that may turn. The marks serve
-// the sort of the ports last.
+// The corners of a board whose records stand in rows, on the bus that is handed in: 7 where the buffers do not hold it with all that may turn.
 fn turn_held(
     held: BusCounts,
     records: &[Record],
@@ -83,11 +78,10 @@ fn turn_held(
     rerouters: &mut [RerouterRow],
     bus_wires: &mut [BusWireRow],
     ports: &mut [PortRow],
-    sorting: &mut [WorkRow],
     marks: &mut [WorkRow],
 ) -> BusPlan
-    requires { ⌜ ((b : Board) × HeldReady b (now records) counts (now facts) (now rerouters) (now «bus_wires») (now ports) (now sorting) (now marks)) ⌝ }
-    ensures { λ r. ⌜ ((b : Board) (ps : List PageLanes) → HeldReady b (now (records .entry)) counts (now (facts .entry)) (now (rerouters .entry)) (now («bus_wires» .entry)) (now (ports .entry)) (now (sorting .entry)) (now (marks .entry))
+    requires { ⌜ ((b : Board) × HeldReady b (now records) counts (now facts) (now rerouters) (now «bus_wires») (now ports) (now marks)) ⌝ }
+    ensures { λ r. ⌜ ((b : Board) (ps : List PageLanes) → HeldReady b (now (records .entry)) counts (now (facts .entry)) (now (rerouters .entry)) (now («bus_wires» .entry)) (now (ports .entry)) (now (marks .entry))
         → planLanes b ≡ planned ps → BusCalled (miniOn (now (rerouters .entry)) (now («bus_wires» .entry)) (now (ports .entry)) held b) (now (rerouters .entry)) (now («bus_wires» .entry)) (now (ports .entry)) (now (rerouters .exit)) (now («bus_wires» .exit)) (now (ports .exit)) r) ⌝ }
 {
     if !holds(held, rerouters.len(), bus_wires.len(), ports.len()) {
@@ -113,15 +107,7 @@ fn turn_held(
         Turned::Laid(count) => {
             let n = count.rerouters;
             let k = count.wires;
-            let u = settle_ports(
-                bus_wires,
-                held.bus_wires,
-                k,
-                ports,
-                held.ports,
-                sorting,
-                marks,
-            );
+            let u = settle_ports(bus_wires, held.bus_wires, k, ports, held.ports);
             BusPlan::Laid {
                 rerouters: n,
                 bus_wires: k,
@@ -152,27 +138,18 @@ pub fn lay_mini_bus(
         (now (rerouters .entry)) (now («bus_wires» .entry)) (now (ports .entry)) held)
         (now (rerouters .entry)) (now («bus_wires» .entry)) (now (ports .entry)) (now (rerouters .exit)) (now («bus_wires» .exit)) (now (ports .exit)) r ⌝ }
 {
-    let work = shortest_of([
-        records.len(),
-        facts.len(),
-        taps.len(),
-        groups.len(),
-        demands.len(),
-        keys.len(),
-        marks.len() / MARK_ROWS,
-    ]);
-    let lent = Lent {
-        rerouters: rerouters.len(),
-        bus_wires: bus_wires.len(),
-        ports: ports.len(),
-        answers: ANSWERS_MOST,
-        work,
-        out: OUT_MOST,
-    };
-    let asked = Asked {
-        most: library_most(),
-        lent,
-    };
+    let asked = ask(
+        [rerouters.len(), bus_wires.len(), ports.len(), ANSWERS_MOST],
+        [
+            records.len(),
+            facts.len(),
+            taps.len(),
+            groups.len(),
+            demands.len(),
+            keys.len(),
+            marks.len() / MARK_ROWS,
+        ],
+    );
     match plan_text(
         text,
         asked,
@@ -197,7 +174,6 @@ pub fn lay_mini_bus(
             rerouters,
             bus_wires,
             ports,
-            demands,
             marks,
         ),
     }

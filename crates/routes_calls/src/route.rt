@@ -7,12 +7,10 @@ use base::rows::Record;
 use base::rows::RerouterRow;
 use base::rows::WorkRow;
 use board_plan::Asked;
-use board_plan::Lent;
 use board_plan::MARK_ROWS;
-use board_plan::OUT_MOST;
 use board_plan::TextPlan;
+use board_plan::ask;
 use board_plan::plan_text;
-use board_plan::shortest_of;
 use board_plan::write_pages;
 use routes::bus::BusCounts;
 use routes_corners::turn::Turned;
@@ -20,7 +18,6 @@ use routes_gutter::bus::BusPlan;
 use routes_gutter::laying::lay_and_settle;
 use routes_ports::settle::settle_ports;
 use sheet::Counts;
-use sheet::library_most;
 ghost use mathlib.Core.Path.{_≡_};
 ghost use mathlib.Core.List.{List};
 ghost use Prim.Native.Nat.{ℕ, _≤_};
@@ -48,8 +45,7 @@ pub enum BusText {
     },
 }
 
-// The corners on top of the lanes' bus, and the ports that their deliveries suppress. There is always room: a wire that may turn is not delivered yet. The marks
-// serve the sort of the ports last.
+// The corners on top of the lanes' bus, and the ports that their deliveries suppress. There is always room: a wire that may turn is not delivered yet.
 fn turn_and_settle(
     records: &[Record],
     counts: Counts,
@@ -58,11 +54,10 @@ fn turn_and_settle(
     bus_wires: &mut [BusWireRow],
     ports: &mut [PortRow],
     held: BusCounts,
-    sorting: &mut [WorkRow],
     marks: &mut [WorkRow],
 ) -> BusCounts
-    requires { ⌜ ((b : Board) × (ps : List PageLanes) × (old : List (List ℕ)) × (oldWires : List (List ℕ)) × (oldPorts : List (List ℕ)) × CornersReady b ps old oldWires oldPorts (now records) counts (now facts) (now rerouters) (now «bus_wires») (now ports) held (now marks) (now sorting)) ⌝ }
-    ensures { λ r. ⌜ ((b : Board) (ps : List PageLanes) (old oldWires oldPorts : List (List ℕ)) → CornersReady b ps old oldWires oldPorts (now (records .entry)) counts (now (facts .entry)) (now (rerouters .entry)) (now («bus_wires» .entry)) (now (ports .entry)) held (now (marks .entry)) (now (sorting .entry))
+    requires { ⌜ ((b : Board) × (ps : List PageLanes) × (old : List (List ℕ)) × (oldWires : List (List ℕ)) × (oldPorts : List (List ℕ)) × CornersReady b ps old oldWires oldPorts (now records) counts (now facts) (now rerouters) (now «bus_wires») (now ports) held (now marks)) ⌝ }
+    ensures { λ r. ⌜ ((b : Board) (ps : List PageLanes) (old oldWires oldPorts : List (List ℕ)) → CornersReady b ps old oldWires oldPorts (now (records .entry)) counts (now (facts .entry)) (now (rerouters .entry)) (now («bus_wires» .entry)) (now (ports .entry)) held (now (marks .entry))
         → BusStands (finished b ps) old oldWires oldPorts (now (rerouters .exit)) (now («bus_wires» .exit)) (now (ports .exit)) r) ⌝ }
 {
     match turn_rows(
@@ -79,15 +74,7 @@ fn turn_and_settle(
         Turned::Laid(count) => {
             let n = count.rerouters;
             let k = count.wires;
-            let u = settle_ports(
-                bus_wires,
-                held.bus_wires,
-                k,
-                ports,
-                held.ports,
-                sorting,
-                marks,
-            );
+            let u = settle_ports(bus_wires, held.bus_wires, k, ports, held.ports);
             BusCounts {
                 rerouters: n,
                 bus_wires: k,
@@ -154,7 +141,6 @@ pub fn route_within(
                 bus_wires,
                 ports,
                 lanes,
-                demands,
                 marks,
             );
             write_pages(facts, counts.pages, answers);
@@ -205,27 +191,18 @@ pub fn route(
         (workRows (now (records .entry)) (now (facts .entry)) (now (taps .entry)) (now (groups .entry)) (now (demands .entry)) (now (keys .entry)) (now (marks .entry)))))
         (now (rerouters .entry)) (now («bus_wires» .entry)) (now (ports .entry)) (now (answers .entry)) (now (rerouters .exit)) (now («bus_wires» .exit)) (now (ports .exit)) (now (answers .exit)) r ⌝ }
 {
-    let work = shortest_of([
-        records.len(),
-        facts.len(),
-        taps.len(),
-        groups.len(),
-        demands.len(),
-        keys.len(),
-        marks.len() / MARK_ROWS,
-    ]);
-    let lent = Lent {
-        rerouters: rerouters.len(),
-        bus_wires: bus_wires.len(),
-        ports: ports.len(),
-        answers: answers.len(),
-        work,
-        out: OUT_MOST,
-    };
-    let asked = Asked {
-        most: library_most(),
-        lent,
-    };
+    let asked = ask(
+        [rerouters.len(), bus_wires.len(), ports.len(), answers.len()],
+        [
+            records.len(),
+            facts.len(),
+            taps.len(),
+            groups.len(),
+            demands.len(),
+            keys.len(),
+            marks.len() / MARK_ROWS,
+        ],
+    );
     without_counts(route_within(
         text,
         asked,

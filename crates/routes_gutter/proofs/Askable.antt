@@ -59,7 +59,7 @@ module _ (b : Board) (a : Accepted b) where
   pub row-there : (i : ℕ) → i < length (b .nodes) → hasRow b i ≡ true → rowOf b i < countOn (b .nodes) (pageOf b i)
   row-there i h has = count-alone (pageOf b i) (rowOf b i) (row-below-page b i h has)
 
-  brick-in-range : (facts : List (List ℕ)) → NodeFacts b facts → (i : ℕ) → i < length (b .nodes) → hasRow b i ≡ true → BrickInRange (b .nodes) facts i
+  pub brick-in-range : (facts : List (List ℕ)) → NodeFacts b facts → (i : ℕ) → i < length (b .nodes) → hasRow b i ≡ true → BrickInRange (b .nodes) facts i
   brick-in-range facts known i h has =
       let x = end-most b a i has in
       let y = end-high i has in

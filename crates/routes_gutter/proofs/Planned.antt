@@ -2,7 +2,7 @@
 use Prim.Native.Nat.{ℕ, _+_, _*_, _≤_}
 use native.Mathlib.Omega.{arith}
 use mathlib.Core.Path.{_≡_, refl, sym, ap, _∙_, subst}
-use mathlib.Core.List.{List}
+use mathlib.Core.List.{List, [], _∷_}
 use lib.ListN.{length}
 use borrow.Author.Tests.{le-leb}
 use Rattle.sheet.specs.declared.Counts.{Counts}
@@ -13,8 +13,9 @@ use Rattle.board.specs.Planning.{Planning, refused, lanesFor, planning, records
 use Rattle.board.specs.Walk.{WithinLibrary}
 use Rattle.board.proofs.Accepting.{sheet-accepted}
 use Rattle.board.proofs.Planning.{lanes-from}
+use Rattle.board_plan.specs.declared.Asked.{Asked}
 use Rattle.board_plan.specs.declared.Lent.{Lent}
-use Rattle.board_plan.specs.TextPlan.{LINE_MOST, hasRoom, fitsCounts, fitsLent, shortest, WorkLent}
+use Rattle.board_plan.specs.TextPlan.{LINE_MOST, hasRoom, fitsCounts, fitsLent, shortest, WorkLent, lentOf, askedFor}
 use Rattle.board_plan.proofs.Fitting.{fits-all}
 use Rattle.board_plan.proofs.Surveying.{LanesTold}
 use Rattle.board_plan.proofs.Calling.{planning-same}
@@ -80,33 +81,35 @@ module _ (most : Counts) (text : List ℕ) (lent : Lent) (low : WithinLibrary mo
         omega arith,
       )
 
--- What `lay_bus` finds lent, with so many rows of work space. It writes no page answers and no text, and plans as if the most were lent for them: so only
--- the named lengths (S15) decide.
-abbrev pub lentWith : ℕ → ℕ → ℕ → ℕ → Lent
-lentWith rerouters busWires ports work = record { rerouters = rerouters; «bus_wires» = busWires; ports = ports; answers = 64; work = work; out = 12591232 }
+-- Buffers as long as is asked.
+pub bus-lent : {a : ℕ} (asked : Asked) (rows : List ℕ) (marks rerouters busWires ports : List (List ℕ)) → asked ≡ askedFor (length rerouters ∷ length busWires ∷ length ports ∷ a ∷ []) rows
+    → 5 * asked .lent .work ≤ length marks → BusLent (asked .lent) marks rerouters busWires ports
+bus-lent asked rows marks rerouters busWires ports e h =
+    let r = ap (λ (q : Asked). q .lent .rerouters) e in
+    let w = ap (λ (q : Asked). q .lent .«bus_wires») e in
+    let p = ap (λ (q : Asked). q .lent .ports) e in
+    record { marks-lent = h; rerouters-lent = omega arith; wires-lent = omega arith; ports-lent = omega arith }
 
-pub bus-fit : (r w p work : ℕ) (b : Board) → length (b .wires) ≤ libraryMost .wires → length (b .pages) ≤ libraryMost .pages → fitsLent (lentWith r w p work) b ≡ fitsBus r w p work b
+-- What `lay_bus` finds lent. It writes no page answers, and plans as if the most were lent for them: so only the named lengths (S15) decide.
+pub bus-fit : (r w p work : ℕ) (b : Board) → length (b .wires) ≤ libraryMost .wires → length (b .pages) ≤ libraryMost .pages → fitsLent (lentOf r w p 64 work) b ≡ fitsBus r w p work b
 unfolding fitsLent fitsCounts hasRoom fitsBus records
 bus-fit r w p work b h g =
     rw (le-leb (length (b .pages)) 64 g, le-leb (LINE_MOST * (length (b .pages) + 12 * length (b .wires) + 1)) 12591232 (omega arith)) refl
 
-pub bus-planning : (text : List ℕ) (r w p work : ℕ) → planning libraryMost (fitsLent (lentWith r w p work)) text ≡ planning libraryMost (fitsBus r w p work) text
-bus-planning text r w p work = planning-same text (fitsLent (lentWith r w p work)) (fitsBus r w p work) (bus-fit r w p work)
-
 -- `lay_bus` with what it finds lent.
-module _ (text : List ℕ) (most : Counts) (library : most ≡ libraryMost) (r w p work : ℕ) (rows : List ℕ) (shortest-is : work ≡ shortest rows) (old oldWires oldPorts : List (List ℕ)) where
-  call-is : layCall text (busFits r w p rows) ≡ routedBy busOf (planning most (fitsLent (lentWith r w p work)) text)
+module _ (text : List ℕ) (asked : Asked) (r w p : ℕ) (rows : List ℕ) (is : asked ≡ askedFor (r ∷ w ∷ p ∷ 64 ∷ []) rows) (old oldWires oldPorts : List (List ℕ)) where
+  call-is : layCall text (busFits r w p rows) ≡ routedBy busOf (planning (asked .most) (fitsLent (asked .lent)) text)
   unfolding layCall laid
   call-is =
       ap (routedBy busOf)
-      (ap (λ (n : ℕ). planning libraryMost (fitsBus r w p n) text) (sym shortest-is) ∙ sym (bus-planning text r w p work)
-      ∙ ap (λ (m : Counts). planning m (fitsLent (lentWith r w p work)) text) (sym library))
+      (sym (planning-same text (fitsLent (lentOf r w p 64 (shortest rows))) (fitsBus r w p (shortest rows)) (bus-fit r w p (shortest rows)))
+      ∙ ap (λ (q : Asked). planning (q .most) (fitsLent (q .lent)) text) (sym is))
 
-  pub lay-refused : (n l : ℕ) → planning most (fitsLent (lentWith r w p work)) text ≡ refused n l
+  pub lay-refused : (n l : ℕ) → planning (asked .most) (fitsLent (asked .lent)) text ≡ refused n l
       → BusCalled (layCall text (busFits r w p rows)) old oldWires oldPorts old oldWires oldPorts (Refused n l)
   lay-refused n l e = rw (call-is ∙ ap (routedBy busOf) e) (record { answer = refl; rerouters-are = refl; wires-are = refl; ports-are = refl })
 
-  pub lay-done : (b : Board) (ps : List PageLanes) → planning most (fitsLent (lentWith r w p work)) text ≡ lanesFor b ps → (rerouters busWires ports : List (List ℕ)) (held : BusCounts) (g : ℕ)
+  pub lay-done : (b : Board) (ps : List PageLanes) → planning (asked .most) (fitsLent (asked .lent)) text ≡ lanesFor b ps → (rerouters busWires ports : List (List ℕ)) (held : BusCounts) (g : ℕ)
       → BusStands (busOf b ps) old oldWires oldPorts rerouters busWires ports held → g ≡ laidGroups b ps
       → BusCalled (layCall text (busFits r w p rows)) old oldWires oldPorts rerouters busWires ports (Laid (held .rerouters) (held .«bus_wires») (held .ports) g)
   lay-done b ps e rerouters busWires ports held g s laid-are =

@@ -39,11 +39,10 @@ module _ {b : Board} {ps : List PageLanes} {rows : List (List ℕ)} {counts : Co
     room : length (busOf b ps .wires) ≤ length busWires
     room = let r = room-to-turn b ps plan accepted .wires in let f = ready .ready .busRoom .1 in omega arith
 
-    pub suppressible : (sorting spare : List (List ℕ)) → length (b .wires) ≤ length sorting → length (b .wires) ≤ length spare → length (b .wires) ≤ length ports
-        → Settleable busWires′ 0 (count .wires) ports 0 sorting spare
-    suppressible sorting spare h k l =
-        subst (λ (n : ℕ). Settleable busWires′ 0 n ports 0 sorting spare) (sym (held .wireCount))
-        (settleable b ps accepted ported refl made busWires′ busWires (held .wireRows) room ports 0 (omega arith) refl sorting spare h k l)
+    pub suppressible : length (b .wires) ≤ length ports → Settleable busWires′ 0 (count .wires) ports 0
+    suppressible l =
+        subst (λ (n : ℕ). Settleable busWires′ 0 n ports 0) (sym (held .wireCount))
+        (settleable b ps accepted ported refl made busWires′ busWires (held .wireRows) room ports 0 (omega arith) refl l)
 
     suppressed : settled busWires′ 0 (count .wires) ports 0 ≡ busOf b ps .ports
     suppressed =

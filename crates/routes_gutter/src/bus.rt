@@ -6,14 +6,10 @@ use base::rows::Record;
 use base::rows::RerouterRow;
 use base::rows::WorkRow;
 use board_plan::ANSWERS_MOST;
-use board_plan::Asked;
-use board_plan::Lent;
 use board_plan::MARK_ROWS;
-use board_plan::OUT_MOST;
 use board_plan::TextPlan;
+use board_plan::ask;
 use board_plan::plan_text;
-use board_plan::shortest_of;
-use sheet::library_most;
 ghost use lib.ListN.{length};
 ghost use Rattle.board_plan.specs.TextPlan.{workRows};
 ghost use Rattle.routes_gutter.specs.Calls.{busFits, layCall, BusCalled};
@@ -50,27 +46,18 @@ pub fn lay_bus(
         (workRows (now (records .entry)) (now (facts .entry)) (now (taps .entry)) (now (groups .entry)) (now (demands .entry)) (now (keys .entry)) (now (marks .entry)))))
         (now (rerouters .entry)) (now («bus_wires» .entry)) (now (ports .entry)) (now (rerouters .exit)) (now («bus_wires» .exit)) (now (ports .exit)) r ⌝ }
 {
-    let work = shortest_of([
-        records.len(),
-        facts.len(),
-        taps.len(),
-        groups.len(),
-        demands.len(),
-        keys.len(),
-        marks.len() / MARK_ROWS,
-    ]);
-    let lent = Lent {
-        rerouters: rerouters.len(),
-        bus_wires: bus_wires.len(),
-        ports: ports.len(),
-        answers: ANSWERS_MOST,
-        work,
-        out: OUT_MOST,
-    };
-    let asked = Asked {
-        most: library_most(),
-        lent,
-    };
+    let asked = ask(
+        [rerouters.len(), bus_wires.len(), ports.len(), ANSWERS_MOST],
+        [
+            records.len(),
+            facts.len(),
+            taps.len(),
+            groups.len(),
+            demands.len(),
+            keys.len(),
+            marks.len() / MARK_ROWS,
+        ],
+    );
     match plan_text(
         text,
         asked,

@@ -65,8 +65,7 @@ fn lay_rows(
     )
 }
 
-// The lanes of a planned board, laid, and their deliveries' ports settled. The demands and keys of planning give way to the laid taps and their stops, and then
-// to the ports that are sorted.
+// The lanes of a planned board, laid, and their deliveries' ports settled. The demands and keys of planning give way to the laid taps and their stops.
 pub fn lay_and_settle(
     records: &[Record],
     counts: Counts,
@@ -100,7 +99,7 @@ pub fn lay_and_settle(
     );
     let n = laid.count.rerouters;
     let k = laid.count.wires;
-    let u = settle_ports(bus_wires, 0, k, ports, 0, demands, marks);
+    let u = settle_ports(bus_wires, 0, k, ports, 0);
     let bus = BusCounts {
         rerouters: n,
         bus_wires: k,

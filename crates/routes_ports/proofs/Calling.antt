@@ -1,4 +1,4 @@
--- What a caller of `settle_ports` supplies: rows for each delivery and each port fit where there are as many as wires, since no wire is delivered twice.
+-- What a caller of `settle_ports` supplies: there are no more deliveries and ports than wires, since no wire is delivered twice.
 use Prim.Native.Nat.{ℕ, zero, suc, _+_, _≤_, _<_}
 use native.Mathlib.Omega.{arith}
 use native.Mathlib.Decide.{decLt}
@@ -139,7 +139,7 @@ front-all : (new old : List BusWire) → All Legible (new ++ old) → All Legibl
 front-all [] old a = tt
 front-all (w ∷ new) old a = (a .0, front-all new old (a .1))
 
--- A plan's earlier bus, its ports handed in, and its later bus, held in the table of bus wires: with room for as many rows and ports as wires the ports can
+-- A plan's earlier bus, its ports handed in, and its later bus, held in the table of bus wires: with room for as many ports as wires the ports can
 -- be settled, and are the later bus's. The earlier bus may be the empty one, with no ports.
 module _ (b : Board) (ps : List PageLanes) (accepted : Accepted b) {start later : Bus} (p : Ported start later) (own : start .ports ≡ portsWith [] (start .wires))
     (made : Made b ps later) (wires old : List (List ℕ)) (held : wires ≡ writtenOver wireRow (later .wires) old) (room : length (later .wires) ≤ length old)
@@ -170,20 +170,18 @@ module _ (b : Board) (ps : List PageLanes) (accepted : Accepted b) {start later 
         length-append (targets (p .new)) (targets (start .wires)),
       )
 
-  pub settleable : (rows spare : List (List ℕ)) → length (b .wires) ≤ length rows → length (b .wires) ≤ length spare → length (b .wires) ≤ length ports
-      → Settleable wires (length (start .wires)) (length (later .wires)) ports u rows spare
-  settleable rows spare h k l =
+  pub settleable : length (b .wires) ≤ length ports → Settleable wires (length (start .wires)) (length (later .wires)) ports u
+  settleable l =
       let read = ap length (targets-held p legible wires old held room) in
       record {
         rising = from-start p legible wires old held room;
         written = all-written p legible wires old held room;
         given = few;
-        room = omega (arith, handed-few);
-        spared = omega (arith, handed-few);
+        few = omega (arith, handed-few, accepted .fewWires);
         fits = omega (arith, ap length settled-plan, ap length later-own, set-length (targets (later .wires)), targets-few b ps made);
       }
 
--- The corner pass from any bus, its ports handed in in any order: with room for those and for one more a wire that passes the pass's tests.
+-- The corner pass from any bus, its ports handed in in any order: with room for those and for one more a wire that passes the pass's tests, no more than wires.
 module _ (b : Board) (accepted : Accepted b) (start : Bus) (wires old : List (List ℕ)) (held : wires ≡ writtenOver wireRow (corners b start .wires) old)
     (room : length (corners b start .wires) ≤ length old) (ports : List (List ℕ)) (u : ℕ) (few : u ≤ length ports) (given : portsSet (portsHeld ports u) ≡ start .ports) where
   turned : Cornered b start (corners b start)
@@ -192,10 +190,10 @@ module _ (b : Board) (accepted : Accepted b) (start : Bus) (wires old : List (Li
   pub settled-corners : settled wires (length (start .wires)) (length (corners b start .wires)) ports u ≡ corners b start .ports
   settled-corners = settled-held (turned .ported) (turned .legible accepted) wires old held room ports u given
 
-  pub settleable-corners : (rows spare : List (List ℕ)) → turnable b start + u ≤ length rows → turnable b start + u ≤ length spare
-      → turnable b start + u ≤ length ports → Settleable wires (length (start .wires)) (length (corners b start .wires)) ports u rows spare
+  pub settleable-corners : turnable b start + u ≤ length (b .wires) → turnable b start + u ≤ length ports
+      → Settleable wires (length (start .wires)) (length (corners b start .wires)) ports u
   unfolding turned
-  settleable-corners rows spare h k l =
+  settleable-corners h l =
       let read = ap length (targets-held (turned .ported) (turned .legible accepted) wires old held room) in
       let more : length (targets (turned .ported .new)) ≤ turnable b start = corner-targets b start in
       let many : length (portsHeld ports u) ≡ u = length-map (take u ports) portIn ∙ length-take-le u ports few in
@@ -203,7 +201,6 @@ module _ (b : Board) (accepted : Accepted b) (start : Bus) (wires old : List (Li
         rising = from-start (turned .ported) (turned .legible accepted) wires old held room;
         written = all-written (turned .ported) (turned .legible accepted) wires old held room;
         given = few;
-        room = omega arith;
-        spared = omega arith;
+        few = omega (arith, accepted .fewWires);
         fits = omega (arith, ap length settled-corners, corner-ports b start, ap length given, set-length (portsHeld ports u));
       }

@@ -1,73 +1,73 @@
--- Laws of the loops: rows written from the front of a table, one store a turn.
+-- Laws of the loops: entries written from the front of a table, one store a turn.
 use Prim.Native.Nat.{ℕ, suc, _+_, _-_, _≤_, _<_}
 use native.Mathlib.Omega.{arith}
 use native.Mathlib.Numerals.{add-one}
 use mathlib.Core.Path.{_≡_, refl, sym, ap, _∙_}
 use mathlib.Core.Bool.{Bool, true, false, not, _&&_}
-use mathlib.Core.List.{List, [], _∷_, _++_, map, append-nil, append-assoc}
+use mathlib.Core.List.{List, [], _∷_, _++_, map, map-id, map-append, append-nil, append-assoc}
 use lib.Dec.{eqb}
 use lib.ListN.{length, getD, take, drop, set, length-set, length-append, length-map, take-append-drop, drop-of-length-le}
 use lib.Seq.{take-suc-set, drop-set-lt, drop-drop, length-take-le, drop-cons, getD-take}
 use Rattle.sheet.specs.Table.{MISSING}
 use borrow.Author.Tests.{eq-eqb, ne-eqb, not-true, not-false}
 use Rattle.base.proofs.Bools.{clash}
-use Rattle.routes.specs.Bus.{BusWire, port, rerouter, onward, delivery, Port, samePort}
+use Rattle.routes.specs.Bus.{BusWire, port, rerouter, onward, delivery, Port}
 use Rattle.routes.specs.Buffers.{portRow, wireIn, portIn, portsHeld}
 use Rattle.routes_ports.specs.Ports.{sentTo, targets}
-use Rattle.routes_ports.specs.Settling.{deliversIn, wiresFrom, sortRow, again, unique, portsOver}
-use Rattle.routes_ports.proofs.SetLaws.{unique-again, unique-last}
+use Rattle.routes_ports.specs.Settling.{deliversIn, wiresFrom, keyPort, again, unique, portsOver}
+use Rattle.routes_ports.proofs.SetLaws.{unique-again, unique-last, keys-same}
 
--- n rows of `front` are written over `old`, and `rest` is still to be.
-pub record Filled (front old now : List (List ℕ)) (n : ℕ) (rest : List (List ℕ)) : Type 0 where
+-- n entries are written over `old`, which are read as the first of `front`, and `rest` is still to be.
+pub record Filled {A B : Type 0} (read : A → B) (front : List B) (old now : List A) (n : ℕ) (rest : List B) : Type 0 where
   pub fits : length front ≤ length old
   pub long : length now ≡ length old
   pub count : n + length rest ≡ length front
-  pub rows : front ≡ take n now ++ rest
+  pub rows : front ≡ map read (take n now) ++ rest
   pub kept : drop n now ≡ drop n old
 
-pub filled-none : (front old : List (List ℕ)) → length front ≤ length old → Filled front old old 0 front
-filled-none front old h = record { fits = h; long = refl; count = omega arith; rows = refl; kept = refl }
+module _ {A B : Type 0} (read : A → B) where
+  pub filled-none : (front : List B) (old : List A) → length front ≤ length old → Filled read front old old 0 front
+  filled-none front old h = record { fits = h; long = refl; count = omega arith; rows = refl; kept = refl }
 
--- Behind n rows that stand already.
-pub filled-behind : (old rest : List (List ℕ)) (n k : ℕ) → k ≡ n → n + length rest ≤ length old → Filled (take n old ++ rest) old old k rest
-filled-behind old rest n k e h =
-    let long : length (take n old ++ rest) ≡ n + length rest = length-append (take n old) rest ∙ ap (λ k. k + length rest) (length-take-le n old (omega arith)) in
-    rw e (record { fits = omega arith; long = refl; count = sym long; rows = refl; kept = refl })
+  -- Behind n entries that stand already.
+  pub filled-behind : (old : List A) (rest : List B) (n k : ℕ) → k ≡ n → n + length rest ≤ length old → Filled read (map read (take n old) ++ rest) old old k rest
+  filled-behind old rest n k e h =
+      let long : length (map read (take n old) ++ rest) ≡ n + length rest
+      = length-append (map read (take n old)) rest ∙ ap (λ k. k + length rest) (length-map (take n old) read ∙ length-take-le n old (omega arith)) in
+      rw e (record { fits = omega arith; long = refl; count = sym long; rows = refl; kept = refl })
 
-module _ {front old now : List (List ℕ)} {n : ℕ} {rest : List (List ℕ)} (f : Filled front old now n rest) where
-  pub filled-room : (row : List ℕ) (more : List (List ℕ)) → rest ≡ row ∷ more → n < length now
-  filled-room row more e = let l = ap length e in omega (arith, f .fits, f .long, f .count)
+module _ {A B : Type 0} {read : A → B} {front : List B} {old now : List A} {n : ℕ} {rest : List B} (f : Filled read front old now n rest) where
+  pub filled-room : (x : B) (more : List B) → rest ≡ x ∷ more → n < length now
+  filled-room x more e = let l = ap length e in omega (arith, f .fits, f .long, f .count)
 
-  pub filled-more : (row : List ℕ) (more : List (List ℕ)) (k : ℕ) → rest ≡ row ∷ more → k ≡ n + 1 → Filled front old (set now n row) k more
-  filled-more row more k e d =
-      let room : n < length now = filled-room row more e in
+  pub filled-more : (x : A) (more : List B) (k : ℕ) → rest ≡ read x ∷ more → k ≡ n + 1 → Filled read front old (set now n x) k more
+  filled-more x more k e d =
+      let room : n < length now = filled-room (read x) more e in
       let l = ap length e in
       let next : k ≡ suc n = d ∙ add-one n in
+      let written : map read (take (suc n) (set now n x)) ≡ map read (take n now) ++ (read x ∷ [])
+      = ap (map read) (take-suc-set now n x room) ∙ map-append read (take n now) (x ∷ []) in
       rw next
       (record {
         fits = f .fits;
-        long = length-set now n row ∙ f .long;
+        long = length-set now n x ∙ f .long;
         count = omega (arith, f .count);
-        rows = f .rows ∙ (ap (λ r. take n now ++ r) e ∙ (sym (append-assoc (take n now) (row ∷ []) more) ∙ ap (λ r. r ++ more) (sym (take-suc-set now n row room))));
-        kept = drop-set-lt (suc n) now n row (omega arith) ∙ further;
+        rows = f .rows ∙ (ap (λ r. map read (take n now) ++ r) e ∙ (sym (append-assoc (map read (take n now)) (read x ∷ []) more) ∙ ap (λ r. r ++ more) (sym written)));
+        kept = drop-set-lt (suc n) now n x (omega arith) ∙ further;
       })
     where
       further : drop (suc n) now ≡ drop (suc n) old
       further = rw (← (add-one n)) (sym (drop-drop 1 n now) ∙ (ap (drop 1) (f .kept) ∙ drop-drop 1 n old))
 
-  pub filled-same : (more : List (List ℕ)) → rest ≡ more → Filled front old now n more
+  pub filled-same : (more : List B) → rest ≡ more → Filled read front old now n more
   filled-same more e = rw (← e) f
 
   module _ (e : rest ≡ []) where
     pub filled-count : n ≡ length front
     filled-count = let l = ap length e in omega (arith, f .count)
 
-    pub filled-front : take n now ≡ front
-    filled-front = sym (f .rows ∙ (ap (λ r. take n now ++ r) e ∙ append-nil (take n now)))
-
-    pub filled-whole : now ≡ front ++ drop (length front) old
-    filled-whole =
-        sym (take-append-drop n now) ∙ (ap (λ r. r ++ drop n now) filled-front ∙ (ap (λ r. front ++ r) (f .kept) ∙ ap (λ k. front ++ drop k old) filled-count))
+    pub filled-front : map read (take n now) ≡ front
+    filled-front = sym (f .rows ∙ (ap (λ r. map read (take n now) ++ r) e ∙ append-nil (map read (take n now))))
 
 -- A row read as a bus wire: its target comes in front where it is a delivery to a port.
 module _ (r : List ℕ) (ws : List BusWire) where
@@ -95,8 +95,8 @@ module _ (r : List ℕ) (ws : List BusWire) where
 
 -- The targets of the bus wires that are left, row by row.
 module _ (table : List (List ℕ)) (from : ℕ) where
-  abbrev pub sentFrom : ℕ → List (List ℕ)
-  sentFrom left = map sortRow (targets (wiresFrom table from left))
+  abbrev pub sentFrom : ℕ → List Port
+  sentFrom left = targets (wiresFrom table from left)
 
   module _ (left : ℕ) (h : 0 < left) where
     abbrev row : List ℕ
@@ -105,11 +105,11 @@ module _ (table : List (List ℕ)) (from : ℕ) where
     unrolled : wiresFrom table from left ≡ wireIn row ∷ wiresFrom table from (left - 1)
     unrolled = let e : left ≡ suc (left - 1) = omega arith in ap (wiresFrom table from) e
 
-    pub sent-next : deliversIn row ≡ true → sentFrom left ≡ sortRow (record { node = getD row 2 0; port = getD row 3 0 }) ∷ sentFrom (left - 1)
-    sent-next d = ap (map sortRow) (ap targets unrolled ∙ row-sent row (wiresFrom table from (left - 1)) d)
+    pub sent-next : deliversIn row ≡ true → (key : ℕ) → keyPort key ≡ portIn (getD row 2 0 ∷ getD row 3 0 ∷ []) → sentFrom left ≡ keyPort key ∷ sentFrom (left - 1)
+    sent-next d key e = ap targets unrolled ∙ (row-sent row (wiresFrom table from (left - 1)) d ∙ ap {B = List Port} (λ p. p ∷ sentFrom (left - 1)) (sym e))
 
     pub sent-same : deliversIn row ≡ false → sentFrom left ≡ sentFrom (left - 1)
-    sent-same d = ap (map sortRow) (ap targets unrolled ∙ row-kept row (wiresFrom table from (left - 1)) d)
+    sent-same d = ap targets unrolled ∙ row-kept row (wiresFrom table from (left - 1)) d
 
   pub sent-done : (left : ℕ) → left ≤ 0 → sentFrom left ≡ []
   sent-done left h = let e : left ≡ 0 = omega arith in ap sentFrom e
@@ -125,68 +125,64 @@ module _ (r : List ℕ) (h : getD r 3 0 ≡ MISSING → ⊥) where
   pub sent-far : getD r 4 0 ≡ MISSING → not (eqb (getD r 5 0) MISSING) ≡ deliversIn r
   sent-far k = rw (ne-eqb (getD r 3 0) MISSING h, eq-eqb (getD r 4 0) MISSING k)
 
-drop-next : (l : List (List ℕ)) (i : ℕ) → i < length l → drop i l ≡ getD l i [] ∷ drop (i + 1) l
-drop-next l i h = rw (add-one i) (drop-cons l i [] h)
+drop-next : {A : Type 0} (l : List A) (i : ℕ) (d : A) → i < length l → drop i l ≡ getD l i d ∷ drop (i + 1) l
+drop-next l i d h = rw (add-one i) (drop-cons l i d h)
 
 -- The ports handed in, row by row.
 module _ (ports : List (List ℕ)) (u : ℕ) where
-  abbrev pub handedFrom : ℕ → List (List ℕ)
-  handedFrom i = map sortRow (map portIn (drop i (take u ports)))
+  abbrev pub handedFrom : ℕ → List Port
+  handedFrom i = map portIn (drop i (take u ports))
 
   pub handed-length : u ≤ length ports → length (handedFrom 0) ≡ u
-  handed-length h = length-map (portsHeld ports u) sortRow ∙ (length-map (take u ports) portIn ∙ length-take-le u ports h)
+  handed-length h = length-map (take u ports) portIn ∙ length-take-le u ports h
 
-  pub handed-next : u ≤ length ports → (i : ℕ) → i < u → handedFrom i ≡ sortRow (portIn (getD ports i [])) ∷ handedFrom (i + 1)
-  handed-next h i k =
+  pub handed-next : u ≤ length ports → (i : ℕ) → i < u → (key : ℕ) → keyPort key ≡ portIn (getD (getD ports i []) 0 0 ∷ getD (getD ports i []) 1 0 ∷ [])
+      → handedFrom i ≡ keyPort key ∷ handedFrom (i + 1)
+  handed-next h i k key e =
       let inside : i < length (take u ports) = omega (arith, length-take-le u ports h) in
-      ap (λ r. map sortRow (map portIn r)) (drop-next (take u ports) i inside)
-      ∙ ap (λ r. sortRow (portIn r) ∷ handedFrom (i + 1)) (getD-take u ports i [] k)
+      ap (map portIn) (drop-next (take u ports) i [] inside)
+      ∙ (ap (λ r. portIn r ∷ handedFrom (i + 1)) (getD-take u ports i [] k) ∙ ap {B = List Port} (λ p. p ∷ handedFrom (i + 1)) (sym e))
 
   pub handed-done : u ≤ length ports → (i : ℕ) → u ≤ i → handedFrom i ≡ []
   handed-done h i k =
       let outside : length (take u ports) ≤ i = omega (arith, length-take-le u ports h) in
-      ap (λ r. map sortRow (map portIn r)) (drop-of-length-le (take u ports) outside)
+      ap (map portIn) (drop-of-length-le (take u ports) outside)
 
--- The rows in order, each port once.
-module _ (rows : List (List ℕ)) where
+-- The keys in order, each port once.
+module _ (keys : List ℕ) where
   abbrev pub onceFrom : ℕ → List (List ℕ)
-  onceFrom i = map portRow (unique (map portIn (drop i rows)))
+  onceFrom i = map portRow (unique (map keyPort (drop i keys)))
 
   abbrev pub againAt : ℕ → Bool
-  againAt i = again (portIn (getD rows i [])) (map portIn (drop (i + 1) rows))
+  againAt i = again (keyPort (getD keys i 0)) (map keyPort (drop (i + 1) keys))
 
-  pub once-last : (i : ℕ) → i < length rows → not (againAt i) ≡ true → onceFrom i ≡ portRow (portIn (getD rows i [])) ∷ onceFrom (i + 1)
+  pub once-last : (i : ℕ) → i < length keys → not (againAt i) ≡ true → onceFrom i ≡ portRow (keyPort (getD keys i 0)) ∷ onceFrom (i + 1)
   once-last i h t =
-      ap (λ r. map portRow (unique (map portIn r))) (drop-next rows i h)
-      ∙ ap (map portRow) (unique-last (portIn (getD rows i [])) (map portIn (drop (i + 1) rows)) (not-true (againAt i) t))
+      ap (λ r. map portRow (unique (map keyPort r))) (drop-next keys i 0 h)
+      ∙ ap (map portRow) (unique-last (keyPort (getD keys i 0)) (map keyPort (drop (i + 1) keys)) (not-true (againAt i) t))
 
-  pub once-again : (i : ℕ) → i < length rows → not (againAt i) ≡ false → onceFrom i ≡ onceFrom (i + 1)
+  pub once-again : (i : ℕ) → i < length keys → not (againAt i) ≡ false → onceFrom i ≡ onceFrom (i + 1)
   once-again i h t =
-      ap (λ r. map portRow (unique (map portIn r))) (drop-next rows i h)
-      ∙ ap (map portRow) (unique-again (portIn (getD rows i [])) (map portIn (drop (i + 1) rows)) (not-false (againAt i) t))
+      ap (λ r. map portRow (unique (map keyPort r))) (drop-next keys i 0 h)
+      ∙ ap (map portRow) (unique-again (keyPort (getD keys i 0)) (map keyPort (drop (i + 1) keys)) (not-false (againAt i) t))
 
-  pub once-done : (i : ℕ) → length rows ≤ i → onceFrom i ≡ []
-  once-done i h = ap (λ r. map portRow (unique (map portIn r))) (drop-of-length-le rows h)
+  pub once-done : (i : ℕ) → length keys ≤ i → onceFrom i ≡ []
+  once-done i h = ap (λ r. map portRow (unique (map keyPort r))) (drop-of-length-le keys h)
 
-  -- What the tests of the next row say.
-  pub none-next : (i : ℕ) → i + 1 ≡ length rows → true ≡ not (againAt i)
-  none-next i h = let outside : length rows ≤ i + 1 = omega arith in rw (drop-of-length-le rows outside)
+  -- What the test of the next key says.
+  pub none-next : (i : ℕ) → i + 1 ≡ length keys → true ≡ not (againAt i)
+  none-next i h = let outside : length keys ≤ i + 1 = omega arith in rw (drop-of-length-le keys outside)
 
-  module _ (i : ℕ) (h : i + 1 < length rows) where
-    next : againAt i ≡ samePort (portIn (getD rows i [])) (portIn (getD rows (i + 1) []))
-    next = ap (λ r. again (portIn (getD rows i [])) (map portIn r)) (drop-next rows (i + 1) h)
-
-    pub other-node : (getD (getD rows i []) 0 0 ≡ getD (getD rows (i + 1) []) 0 0 → ⊥) → true ≡ not (againAt i)
-    other-node d = sym (ap not next ∙ rw (ne-eqb (getD (getD rows i []) 0 0) (getD (getD rows (i + 1) []) 0 0) d))
-
-    pub other-port : getD (getD rows i []) 0 0 ≡ getD (getD rows (i + 1) []) 0 0
-        → not (eqb (getD (getD rows i []) 1 0) (getD (getD rows (i + 1) []) 1 0)) ≡ not (againAt i)
-    other-port d = sym (ap not next ∙ rw (eq-eqb (getD (getD rows i []) 0 0) (getD (getD rows (i + 1) []) 0 0) d))
+  pub other-next : (i : ℕ) → i + 1 < length keys → not (eqb (getD keys i 0) (getD keys (i + 1) 0)) ≡ not (againAt i)
+  other-next i h =
+      ap not
+      (sym (ap (λ r. again (keyPort (getD keys i 0)) (map keyPort r)) (drop-next keys (i + 1) 0 h) ∙ keys-same (getD keys i 0) (getD keys (i + 1) 0)))
 
 -- Rows of ports written over a table.
-pub filled-ports : {old now : List (List ℕ)} {n : ℕ} {rest : List (List ℕ)} (l : List Port) → Filled (map portRow l) old now n rest → rest ≡ []
+pub filled-ports : {old now : List (List ℕ)} {n : ℕ} {rest : List (List ℕ)} (l : List Port) → Filled (λ (r : List ℕ). r) (map portRow l) old now n rest → rest ≡ []
     → (n ≡ length l) × (now ≡ portsOver l old)
-filled-ports {old} l f e = (
-  filled-count f e ∙ length-map l portRow,
-  filled-whole f e ∙ ap (λ k. map portRow l ++ drop k old) (length-map l portRow),
-)
+filled-ports {old} {now} {n} l f e =
+    let count : n ≡ length l = filled-count f e ∙ length-map l portRow in (
+      count,
+      sym (take-append-drop n now) ∙ (ap (λ r. r ++ drop n now) (sym (map-id (take n now)) ∙ filled-front f e) ∙ (ap (λ r. map portRow l ++ r) (f .kept) ∙ ap (λ k. map portRow l ++ drop k old) count)),
+    )

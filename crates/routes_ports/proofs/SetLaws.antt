@@ -1,22 +1,22 @@
 -- The set of suppressed ports: sorting ports and leaving out repetitions gives it.
-use Prim.Native.Nat.{ℕ, _+_, _-_}
+use Prim.Native.Nat.{ℕ, _+_, _-_, _/_, _%_}
 use native.Mathlib.Omega.{arith}
 use mathlib.Core.Path.{_≡_, refl, sym, ap, _∙_}
 use mathlib.Core.Bool.{Bool, true, false, _&&_, _||_}
-use mathlib.Core.List.{List, [], _∷_, _++_, map, map-append}
+use mathlib.Core.List.{List, [], _∷_, _++_, map}
 use lib.Dec.{eqb, ltb}
 use lib.ListN.{length, take}
 use lib.Seq.{take-at}
 use borrow.Author.Tests.{lt-ltb, le-ltb, eq-eqb, ne-eqb}
-use Rattle.base.specs.Sort.{inserted, sorted, lexLess, sortedRows}
+use Rattle.base.specs.Sort.{inserted, sorted, lexLess, sortedKeys}
 use Rattle.base.proofs.SortLaws.{inserted-past, inserted-here, lex-order, Compared, below, same, above, compared}
 use Rattle.base.proofs.Bools.{clash}
 use Rattle.base.proofs.Lists.{byTest}
 use Rattle.routes.specs.Bus.{Port, insertPort, samePort}
 use Rattle.routes.proofs.Views.{sorted-map}
 use Rattle.routes_ports.specs.Ports.{targets, suppress, portsSet}
-use Rattle.routes.specs.Buffers.{portIn, portsHeld}
-use Rattle.routes_ports.specs.Settling.{wiresFrom, sortRow, portLess, again, unique, settled}
+use Rattle.routes.specs.Buffers.{portRow, portsHeld}
+use Rattle.routes_ports.specs.Settling.{wiresFrom, WORD, keyPort, portLess, again, unique, settled}
 
 -- Two ports compared: exactly one of three.
 pub data Ordered (p q : Port) : Type 0 where
@@ -120,42 +120,47 @@ unfolding sorted
 unique-sorted [] = refl
 unique-sorted (p ∷ l) = unique-inserted p (sorted portLess l) ∙ ap (insertPort p) (unique-sorted l)
 
--- Rows compare as their ports do.
-rows-less : (p q : Port) → lexLess (sortRow p) (sortRow q) ≡ portLess p q
-unfolding lexLess
-rows-less p q = go (ltb (p .node) (q .node)) (eqb (p .node) (q .node)) (ltb (p .port) (q .port)) (eqb (p .port) (q .port))
+-- Keys compare as their ports do, and are equal where these are.
+keys-less : (a b : ℕ) → portLess (keyPort a) (keyPort b) ≡ ltb a b
+keys-less a b = go (compared (a / WORD) (b / WORD)) (compared (a % WORD) (b % WORD))
   where
-    go : (s t u v : Bool) → (s || (t && (u || (v && false)))) ≡ (s || (t && u))
-    go true t u v = refl
-    go false false u v = refl
-    go false true true v = refl
-    go false true false true = refl
-    go false true false false = refl
+    go : Compared (a / WORD) (b / WORD) → Compared (a % WORD) (b % WORD) → portLess (keyPort a) (keyPort b) ≡ ltb a b
+    go (below h) k = rw (lt-ltb (a / WORD) (b / WORD) h, lt-ltb a b (omega arith))
+    go (above h) k = rw (le-ltb (a / WORD) (b / WORD) (omega arith), ne-eqb (a / WORD) (b / WORD) (λ e. omega arith), le-ltb a b (omega arith))
+    go (same h) (below k) =
+        rw (le-ltb (a / WORD) (b / WORD) (omega arith), eq-eqb (a / WORD) (b / WORD) h, lt-ltb (a % WORD) (b % WORD) k, lt-ltb a b (omega arith))
+    go (same h) (above k) =
+        rw (le-ltb (a / WORD) (b / WORD) (omega arith), eq-eqb (a / WORD) (b / WORD) h, le-ltb (a % WORD) (b % WORD) (omega arith), le-ltb a b (omega arith))
+    go (same h) (same k) =
+        rw (le-ltb (a / WORD) (b / WORD) (omega arith), eq-eqb (a / WORD) (b / WORD) h, le-ltb (a % WORD) (b % WORD) (omega arith), le-ltb a b (omega arith))
 
-rows-read : (l : List Port) → map portIn (map sortRow l) ≡ l
-rows-read [] = refl
-rows-read (p ∷ l) = ap {B = List Port} (λ r. p ∷ r) (rows-read l)
+pub keys-same : (a b : ℕ) → samePort (keyPort a) (keyPort b) ≡ eqb a b
+keys-same a b = go (compared (a / WORD) (b / WORD)) (compared (a % WORD) (b % WORD))
+  where
+    go : Compared (a / WORD) (b / WORD) → Compared (a % WORD) (b % WORD) → samePort (keyPort a) (keyPort b) ≡ eqb a b
+    go (below h) k = rw (ne-eqb (a / WORD) (b / WORD) (λ e. omega arith), ne-eqb a b (λ e. omega arith))
+    go (above h) k = rw (ne-eqb (a / WORD) (b / WORD) (λ e. omega arith), ne-eqb a b (λ e. omega arith))
+    go (same h) (below k) = rw (eq-eqb (a / WORD) (b / WORD) h, ne-eqb (a % WORD) (b % WORD) (λ e. omega arith), ne-eqb a b (λ e. omega arith))
+    go (same h) (above k) = rw (eq-eqb (a / WORD) (b / WORD) h, ne-eqb (a % WORD) (b % WORD) (λ e. omega arith), ne-eqb a b (λ e. omega arith))
+    go (same h) (same k) = rw (eq-eqb (a / WORD) (b / WORD) h, eq-eqb (a % WORD) (b % WORD) k, eq-eqb a b (omega arith))
 
 pub suppress-append : (old l more : List Port) → suppress old (more ++ l) ≡ suppress (suppress old l) more
 suppress-append old l [] = refl
 suppress-append old l (p ∷ more) = ap (insertPort p) (suppress-append old l more)
 
--- Rows of ports sorted and read without repetitions.
-pub rows-once : (rows : List (List ℕ)) (old more : List Port) → rows ≡ map sortRow more ++ map sortRow old
-    → unique (map portIn (sortedRows rows)) ≡ suppress (portsSet old) more
-unfolding sortedRows
-rows-once rows old more h =
-    ap (λ r. unique (map portIn (sorted lexLess r))) (h ∙ sym (map-append sortRow more old))
-    ∙ (ap (λ r. unique (map portIn r)) (sym (sorted-map portLess lexLess sortRow rows-less (more ++ old)))
-    ∙ (ap unique (rows-read (sorted portLess (more ++ old))) ∙ (unique-sorted (more ++ old) ∙ suppress-append [] old more)))
+-- Keys sorted and read without repetitions.
+keys-once : (keys : List ℕ) (old more : List Port) → map keyPort keys ≡ more ++ old → unique (map keyPort (sortedKeys keys)) ≡ suppress (portsSet old) more
+unfolding sortedKeys
+keys-once keys old more h =
+    ap unique (sorted-map ltb portLess keyPort keys-less keys ∙ ap (sorted portLess) h) ∙ (unique-sorted (more ++ old) ∙ suppress-append [] old more)
 
--- The whole: rows gathered from bus wires, those of the ports handed in behind them, all sorted and read without repetitions.
-pub settled-once : (wires : List (List ℕ)) (from to : ℕ) (ports : List (List ℕ)) (u n : ℕ) (gathered rows sorted′ rest : List (List ℕ))
-    → take n gathered ≡ map sortRow (targets (wiresFrom wires from (to - from))) → take (n + u) rows ≡ take n gathered ++ map sortRow (portsHeld ports u)
-    → length sorted′ ≡ n + u → sorted′ ≡ sortedRows (take (n + u) rows) → unique (map portIn (take (n + u) (sorted′ ++ rest))) ≡ settled wires from to ports u
-settled-once wires from to ports u n gathered rows sorted′ rest g a long s =
-    ap (λ r. unique (map portIn r)) (take-at sorted′ rest (n + u) long ∙ s)
-    ∙ rows-once (take (n + u) rows) (portsHeld ports u) (targets (wiresFrom wires from (to - from))) (a ∙ ap (λ r. r ++ map sortRow (portsHeld ports u)) g)
+-- The whole: keys gathered from bus wires, those of the ports handed in behind them, all sorted and read without repetitions.
+pub settled-once : (wires : List (List ℕ)) (from to : ℕ) (ports : List (List ℕ)) (u n : ℕ) (gathered keys sorted′ rest : List ℕ)
+    → map keyPort (take n gathered) ≡ targets (wiresFrom wires from (to - from)) → map keyPort (take (n + u) keys) ≡ map keyPort (take n gathered) ++ portsHeld ports u
+    → length sorted′ ≡ n + u → sorted′ ≡ sortedKeys (take (n + u) keys) → unique (map keyPort (take (n + u) (sorted′ ++ rest))) ≡ settled wires from to ports u
+settled-once wires from to ports u n gathered keys sorted′ rest g a long s =
+    ap (λ r. unique (map keyPort r)) (take-at sorted′ rest (n + u) long ∙ s)
+    ∙ keys-once (take (n + u) keys) (portsHeld ports u) (targets (wiresFrom wires from (to - from))) (a ∙ ap (λ r. r ++ portsHeld ports u) g)
 
 -- A set of ports is ascending, and is its own set.
 abbrev Under : Port → List Port → Type 0
@@ -196,8 +201,19 @@ pub set-again : (l : List Port) → portsSet (portsSet l) ≡ portsSet l
 set-again l = ascending-set (portsSet l) (set-ascending l)
 
 -- The order in which ports are put in makes no difference.
+rows-less : (p q : Port) → lexLess (portRow p) (portRow q) ≡ portLess p q
+unfolding lexLess
+rows-less p q = go (ltb (p .node) (q .node)) (eqb (p .node) (q .node)) (ltb (p .port) (q .port)) (eqb (p .port) (q .port))
+  where
+    go : (s t u v : Bool) → (s || (t && (u || (v && false)))) ≡ (s || (t && u))
+    go true t u v = refl
+    go false false u v = refl
+    go false true true v = refl
+    go false true false true = refl
+    go false true false false = refl
+
 less-through : (x p q : Port) → portLess x p ≡ true → portLess p q ≡ true → portLess x q ≡ true
-less-through x p q h k = sym (rows-less x q) ∙ lex-order .through (sortRow x) (sortRow p) (sortRow q) (rows-less x p ∙ h) (rows-less p q ∙ k)
+less-through x p q h k = sym (rows-less x q) ∙ lex-order .through (portRow x) (portRow p) (portRow q) (rows-less x p ∙ h) (rows-less p q ∙ k)
 
 insert-past : (p q : Port) (l : List Port) → portLess p q ≡ true → insertPort q (p ∷ l) ≡ p ∷ insertPort q l
 insert-past p q l h = go (ordered q p)

@@ -1,5 +1,5 @@
 -- How the code holds suppressed ports and reads bus wires in tables of rows of numbers. Of the rules only P8 stands here.
-use Prim.Native.Nat.{ℕ, zero, suc, _+_, _-_, _≤_}
+use Prim.Native.Nat.{ℕ, zero, suc, _+_, _-_, _/_, _%_, _≤_}
 use mathlib.Core.Path.{_≡_}
 use mathlib.Core.Bool.{Bool, true, false, not, _&&_, _||_}
 use mathlib.Core.List.{List, [], _∷_, _++_, map}
@@ -19,9 +19,12 @@ abbrev pub wiresFrom : List (List ℕ) → ℕ → ℕ → List BusWire
 wiresFrom table from zero = []
 wiresFrom table from (suc n) = wireIn (getD table (from + n) []) ∷ wiresFrom table from n
 
--- A port in a row of eight numbers, to be sorted.
-abbrev pub sortRow : Port → List ℕ
-sortRow p = p .node ∷ p .port ∷ 0 ∷ 0 ∷ 0 ∷ 0 ∷ 0 ∷ 0 ∷ []
+-- The port of a key, by which it is sorted: the node above the port.
+abbrev pub WORD : ℕ
+WORD = 4294967296
+
+abbrev pub keyPort : ℕ → Port
+keyPort k = record { node = k / WORD; port = k % WORD }
 
 -- The order of suppressed ports.
 abbrev pub portLess : Port → Port → Bool
@@ -45,13 +48,16 @@ portsOver l old = map portRow l ++ drop (length l) old
 abbrev pub settled : List (List ℕ) → ℕ → ℕ → List (List ℕ) → ℕ → List Port
 settled wires from to ports u = portsWith (portsSet (portsHeld ports u)) (wiresFrom wires from (to - from))
 
--- What is to be sorted fits into the rows lent, and what is left fits into the table of ports.
-pub record Settleable (wires : List (List ℕ)) (from to : ℕ) (ports : List (List ℕ)) (u : ℕ) (rows spare : List (List ℕ)) : Type 0 where
+-- So many ports are sorted at most: no wire is delivered twice, and a board has no more wires.
+abbrev pub PORTS : ℕ
+PORTS = 8192
+
+-- What is to be sorted is not too much, and what is left fits into the table of ports.
+pub record Settleable (wires : List (List ℕ)) (from to : ℕ) (ports : List (List ℕ)) (u : ℕ) : Type 0 where
   pub rising : from ≤ to
   pub written : to ≤ length wires
   pub given : u ≤ length ports
-  pub room : length (targets (wiresFrom wires from (to - from))) + u ≤ length rows
-  pub spared : length (targets (wiresFrom wires from (to - from))) + u ≤ length spare
+  pub few : length (targets (wiresFrom wires from (to - from))) + u ≤ PORTS
   pub fits : length (settled wires from to ports u) ≤ length ports
 
 pub record Settled (wires : List (List ℕ)) (from to : ℕ) (ports : List (List ℕ)) (u : ℕ) (after : List (List ℕ)) (r : ℕ) : Type 0 where

@@ -1,64 +1,52 @@
 -- Planned; then the page answers.
 use Prim.Native.Nat.{ℕ}
 use native.Mathlib.Omega.{arith}
-use mathlib.Core.Bool.{Bool}
-use mathlib.Core.Path.{_≡_, refl, sym, ap, _∙_, subst}
+use mathlib.Core.Path.{_≡_, sym, ap, _∙_, subst}
 use mathlib.Core.List.{List, _++_, map}
 use lib.ListN.{length, drop}
 use Rattle.sheet.specs.declared.Counts.{Counts}
-use Rattle.sheet.specs.Table.{libraryMost}
-use Rattle.board.specs.Board.{Board}
 use Rattle.board.specs.Planning.{planning, pageRow}
-use Rattle.board.specs.Walk.{WithinLibrary}
 use Rattle.board.proofs.Planning.{lanes-from}
-use Rattle.board_plan.specs.TextPlan.{TextPlanned, workRows, fitsLent, fitting}
+use Rattle.board_plan.specs.TextPlan.{workRows, fitsLent}
+use Rattle.board_plan.specs.declared.Asked.{Asked}
 use Rattle.board_plan.specs.PagesPlan.{planCall, PagesPlanned}
 use Rattle.board_plan.specs.declared.PagesPlan.the-variants.{Planned}
 use Rattle.board_plan.proofs.Planned.{planned-counts}
 use Rattle.board_plan.proofs.Surveying.{LanesTold, text-refusal, text-crowded, text-lanes}
-use Rattle.board_plan.proofs.Calling.{within-library, work-room, pagesLent, pages-ready, pages-refused, pages-laned}
+use Rattle.board_plan.proofs.Calling.{asked-room, pages-ready, pages-refused, pages-laned}
 use borrow.Author.Needs.{needs}
 use Rattle.board_plan.proofs.plan_bus.Statement.{statement}
 use Rattle.board_plan.proofs.plan_bus.Tie as tie
 use Rattle.board_plan.proofs.plan_bus.Reads as reads
 use Rattle.board_plan.proofs.plan_bus.Lts as lts
 use Rattle.board_plan.proofs.plan_text.Reads as plan-text-reads
-use Rattle.board_plan.proofs.shortest_of.Reads as shortest-of-reads
 use Rattle.board_plan.proofs.write_pages.Reads as write-pages-reads
-use Rattle.sheet.proofs.library_most.Reads as library-most-reads
+use Rattle.board_plan.proofs.ask.Reads as ask-reads
 
 abbrev start : tie.After-plan-text → tie.Start
-start d = d .before .before .before .before .before .before .before .before .before .before .before
+start d = d .before .before .before .before .before .before .before .before .before .before
 
-abbrev least-of : tie.After-plan-text → ℕ
-least-of d = d .before .before .before .before .before .before .before .before .before .shortest-of .result
-
-abbrev fits-of : tie.After-plan-text → Board → Bool
-fits-of d = fitsLent (pagesLent (length (start d .args .answers .now)) (least-of d))
+abbrev asked-of : tie.After-plan-text → Asked
+asked-of d = d .before .before .before .before .before .before .before .before .ask .result
 
 abbrev work-of : tie.After-plan-text → List ℕ
 work-of d = let a = start d .args in workRows (a .records .now) (a .facts .now) (a .taps .now) (a .groups .now) (a .demands .now) (a .keys .now) (a .marks .now)
 
-planned : (d : tie.After-plan-text) → let p = d .plan-text in TextPlanned (fitting libraryMost (fits-of d) (start d .args .text .now)) (p .last .1 .1 .0) (p .last .1 .1 .1 .0) (p .last .1 .1 .1 .1 .0) (p .last .1 .1 .1 .1 .1 .0) (p .result)
-planned d = let p = d .plan-text in subst (λ (m : Counts). TextPlanned (fitting m (fits-of d) (start d .args .text .now)) (p .last .1 .1 .0) (p .last .1 .1 .1 .0) (p .last .1 .1 .1 .1 .0) (p .last .1 .1 .1 .1 .1 .0) (p .result)) (d .before .before .before .before .before .before .before .before .library-most .ensures) (p .ensures)
-
 abbrev planned-at : tie.After-write-pages-arg2 → tie.After-plan-text
 planned-at c = c .before .before .before .before .before .before .before .before .before .before .before .before
 
-told : (c : tie.After-write-pages-arg2) → let p = planned-at c .plan-text in LanesTold (p .last .1 .1 .0) (p .last .1 .1 .1 .0) (p .last .1 .1 .1 .1 .0) (p .last .1 .1 .1 .1 .1 .0) (planning libraryMost (fits-of (planned-at c)) (start (planned-at c) .args .text .now)) (c .before .before .before .counts .given .0 .0) (c .before .before .before .counts .given .0 .1 .0)
-told c = let d = planned-at c in let p = d .plan-text in text-lanes (p .last .1 .1 .0) (p .last .1 .1 .1 .0) (p .last .1 .1 .1 .1 .0) (p .last .1 .1 .1 .1 .1 .0) libraryMost (fits-of d) (start d .args .text .now) (p .result) (planned d) _ _ (c .before .before .before .counts .given .1)
+told : (c : tie.After-write-pages-arg2) → let d = planned-at c in let p = d .plan-text in LanesTold (p .last .1 .1 .0) (p .last .1 .1 .1 .0) (p .last .1 .1 .1 .1 .0) (p .last .1 .1 .1 .1 .1 .0) (planning (asked-of d .most) (fitsLent (asked-of d .lent)) (start d .args .text .now)) (c .before .before .before .counts .given .0 .0) (c .before .before .before .counts .given .0 .1 .0)
+told c = let d = planned-at c in let p = d .plan-text in text-lanes (p .last .1 .1 .0) (p .last .1 .1 .1 .0) (p .last .1 .1 .1 .1 .0) (p .last .1 .1 .1 .1 .1 .0) (asked-of d .most) (fitsLent (asked-of d .lent)) (start d .args .text .now) (p .result) (p .ensures) _ _ (c .before .before .before .counts .given .1)
 
-shortest-of-requires : tie.Need-shortest-of-requires
-shortest-of-requires c κs = search needs
-
-library-most-requires : tie.Need-library-most-requires
-library-most-requires c κs = search needs
+ask-requires : tie.Need-ask-requires
+ask-requires c κs = search needs
 
 plan-text-requires : tie.Need-plan-text-requires
 plan-text-requires c κs =
-    let a = c .before .before .before .before .before .before .before .before .before .before .args in
-    let l = c .before .before .before .before .before .before .before .before .shortest-of in
-    (work-room (l .result) (a .records .now) (a .facts .now) (a .taps .now) (a .groups .now) (a .demands .now) (a .keys .now) (a .marks .now) (l .ensures) .lent, subst (λ (m : Counts). WithinLibrary m) (sym (c .before .before .before .before .before .before .before .library-most .ensures)) within-library)
+    let a = c .before .before .before .before .before .before .before .before .before .args in
+    let q = c .before .before .before .before .before .before .before .ask in
+    let room = asked-room (q .result) (a .records .now) (a .facts .now) (a .taps .now) (a .groups .now) (a .demands .now) (a .keys .now) (a .marks .now) (q .ensures) in
+    (room .0 .lent, room .1)
 
 enum-known-number : tie.Need-enum-known-number
 enum-known-number c = search needs
@@ -74,10 +62,11 @@ write-pages-requires c κs =
     let d = planned-at c in
     let p = d .plan-text in
     let a = start d .args in
-    let room = work-room (least-of d) (a .records .now) (a .facts .now) (a .taps .now) (a .groups .now) (a .demands .now) (a .keys .now) (a .marks .now) (d .before .before .before .before .before .before .before .before .before .shortest-of .ensures) in
-    let long = room .lent .facts-lent in
+    let q = d .before .before .before .before .before .before .before .before .ask in
+    let room = asked-room (q .result) (a .records .now) (a .facts .now) (a .taps .now) (a .groups .now) (a .demands .now) (a .keys .now) (a .marks .now) (q .ensures) in
+    let long = room .0 .lent .facts-lent in
     let kept = p .kept .1 .1 .1 .0 in
-    pages-ready (p .last .1 .1 .0) (p .last .1 .1 .1 .0) (p .last .1 .1 .1 .1 .0) (p .last .1 .1 .1 .1 .1 .0) libraryMost (a .text .now) (pagesLent (length (a .answers .now)) (least-of d)) _ _ _ (told c) (omega arith) refl
+    pages-ready (p .last .1 .1 .0) (p .last .1 .1 .1 .0) (p .last .1 .1 .1 .1 .0) (p .last .1 .1 .1 .1 .1 .0) (q .result .most) (a .text .now) (q .result .lent) _ _ (length (a .answers .now)) (told c) (omega arith) (ap (λ (z : Asked). z .lent .answers) (q .ensures))
 
 same-length : tie.Need-same-length
 same-length c = search needs
@@ -105,7 +94,7 @@ returns c =
     let d = c .before .before .before .before .before .before .before .before .before .before in
     let p = d .plan-text in
     let a = start d .args in
-    pages-refused (a .text .now) (work-of d) (a .answers .now) (a .answers .now) (least-of d) (d .before .before .before .before .before .before .before .before .before .shortest-of .ensures) _ _ (text-refusal (p .last .1 .1 .0) (p .last .1 .1 .1 .0) (p .last .1 .1 .1 .1 .0) (p .last .1 .1 .1 .1 .1 .0) libraryMost (fits-of d) (a .text .now) (p .result) (planned d) _ _ (c .before .number .given .1))
+    pages-refused (a .text .now) (work-of d) (a .answers .now) (a .answers .now) (asked-of d) (d .before .before .before .before .before .before .before .before .ask .ensures) _ _ (text-refusal (p .last .1 .1 .0) (p .last .1 .1 .1 .0) (p .last .1 .1 .1 .1 .0) (p .last .1 .1 .1 .1 .1 .0) (asked-of d .most) (fitsLent (asked-of d .lent)) (a .text .now) (p .result) (p .ensures) _ _ (c .before .number .given .1))
 
 same-length-8 : tie.Need-same-length-8
 same-length-8 c = search needs
@@ -133,7 +122,7 @@ returns-2 c =
     let d = c .before .before .before .before .before .before .before .before .before .before in
     let p = d .plan-text in
     let a = start d .args in
-    pages-refused (a .text .now) (work-of d) (a .answers .now) (a .answers .now) (least-of d) (d .before .before .before .before .before .before .before .before .before .shortest-of .ensures) _ _ (text-crowded (p .last .1 .1 .0) (p .last .1 .1 .1 .0) (p .last .1 .1 .1 .1 .0) (p .last .1 .1 .1 .1 .1 .0) libraryMost (fits-of d) (a .text .now) (p .result) (planned d) _ _ (c .before .place .given .1))
+    pages-refused (a .text .now) (work-of d) (a .answers .now) (a .answers .now) (asked-of d) (d .before .before .before .before .before .before .before .before .ask .ensures) _ _ (text-crowded (p .last .1 .1 .0) (p .last .1 .1 .1 .0) (p .last .1 .1 .1 .1 .0) (p .last .1 .1 .1 .1 .1 .0) (asked-of d .most) (fitsLent (asked-of d .lent)) (a .text .now) (p .result) (p .ensures) _ _ (c .before .place .given .1))
 
 same-length-15 : tie.Need-same-length-15
 same-length-15 c = search needs
@@ -166,19 +155,18 @@ returns-3 c =
     let a = start d .args in
     let t = told w in
     let b = t .onBoard in
-    let from = lanes-from libraryMost (a .text .now) _ b (t .lanes) (t .is) in
+    let from = lanes-from (asked-of d .most) (a .text .now) _ b (t .lanes) (t .is) in
     let counts = planned-counts b (t .lanes) (from .lanes) in
     let pages : w .before .before .before .counts .given .0 .0 .pages ≡ length (b .pages) = ap (λ (k : Counts). k .pages) (t .counted) in
     let written = c .before .write-pages .ensures (t .lanes) (counts .0 ∙ sym pages) (t .tables .pages-known) in
     subst (λ (k : ℕ). PagesPlanned (planCall (a .text .now) (length (a .answers .now)) (work-of d)) (a .answers .now) (c .before .write-pages .last .1 .1 .0) (Planned k)) (sym pages)
-    (pages-laned (a .text .now) (work-of d) (a .answers .now) (c .before .write-pages .last .1 .1 .0) (least-of d) (d .before .before .before .before .before .before .before .before .before .shortest-of .ensures) b (t .lanes) (t .is) (from .lanes) (written ∙ ap (λ (k : ℕ). map pageRow (t .lanes) ++ drop k (a .answers .now)) pages))
+    (pages-laned (a .text .now) (work-of d) (a .answers .now) (c .before .write-pages .last .1 .1 .0) (asked-of d) (d .before .before .before .before .before .before .before .before .ask .ensures) b (t .lanes) (t .is) (from .lanes) (written ∙ ap (λ (k : ℕ). map pageRow (t .lanes) ++ drop k (a .answers .now)) pages))
 
 pub plan-bus-spec : {M : Type 1} → statement M
 plan-bus-spec =
     tie.close
     (tie.spec
-    shortest-of-requires
-    library-most-requires
+    ask-requires
     plan-text-requires
     enum-known-number
     enum-known-place

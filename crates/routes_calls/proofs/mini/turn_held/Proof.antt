@@ -16,7 +16,7 @@ abbrev start : tie.After-turn-rows → tie.Start
 start c = c .before .before .before .before .before .before .before
 
 abbrev Ready : tie.Start → Board → Type 0
-Ready s b = HeldReady b (s .args .records .now) (s .args .counts) (s .args .facts .now) (s .args .rerouters .now) (s .args .bus-wires .now) (s .args .ports .now) (s .args .sorting .now) (s .args .marks .now)
+Ready s b = HeldReady b (s .args .records .now) (s .args .counts) (s .args .facts .now) (s .args .rerouters .now) (s .args .bus-wires .now) (s .args .ports .now) (s .args .marks .now)
 
 -- The buffers hold what is said to be in them.
 fit : (c : tie.After-turn-rows) → holds (start c .args .held) (length (start c .args .rerouters .now)) (length (start c .args .bus-wires .now)) (length (start c .args .ports .now)) ≡ true
@@ -51,10 +51,10 @@ enum-known-count c = search needs
 
 settle-ports-requires : tie.Need-settle-ports-requires
 settle-ports-requires c κs =
-    let e = c .before .before .before .before .before .before .before .before .before .before in
+    let e = c .before .before .before .before .before .before .before .before in
     let s = start e in
     let a = s .args in
-    settle (a .rerouters .now) (a .bus-wires .now) (a .ports .now) (a .held) (s .pre .0) (fit e) (s .pre .1) (e .turn-rows .last .1 .1 .1 .0) (e .turn-rows .last .1 .1 .1 .1 .0) (e .turn-rows .result) _ (turned e (s .pre .0) (s .pre .1)) (c .before .before .before .before .before .count .given .1) (e .turn-rows .last .1 .1 .1 .1 .1 .1 .1 .0) (e .turn-rows .kept .1 .1 .1 .1 .1 .1 .1 .0)
+    settle (a .rerouters .now) (a .bus-wires .now) (a .ports .now) (a .held) (s .pre .0) (fit e) (s .pre .1) (e .turn-rows .last .1 .1 .1 .0) (e .turn-rows .last .1 .1 .1 .1 .0) (e .turn-rows .result) _ (turned e (s .pre .0) (s .pre .1)) (c .before .before .before .count .given .1)
 
 same-length : tie.Need-same-length
 same-length c = search needs
@@ -86,15 +86,12 @@ same-length-7 c = search needs
 same-length-8 : tie.Need-same-length-8
 same-length-8 c = search needs
 
-same-length-9 : tie.Need-same-length-9
-same-length-9 c = search needs
-
 returns-3 : tie.Need-returns-3
 returns-3 c =
-    let e = c .before .before .before .before .before .before .before .before .before .before .before .before .before .before in
+    let e = c .before .before .before .before .before .before .before .before .before .before in
     let a = start e .args in
-    let u = c .before .before .before .settle-ports in
-    λ b ps rd lanes. mini-laid (a .rerouters .now) (a .bus-wires .now) (a .ports .now) (a .held) b (fit e) rd (e .turn-rows .last .1 .1 .1 .0) (e .turn-rows .last .1 .1 .1 .1 .0) (e .turn-rows .result) _ (turned e b rd) (c .before .before .before .before .before .before .before .before .before .count .given .1) ps lanes (u .last .1 .1 .1 .0) (u .result) (u .ensures)
+    let u = c .before .settle-ports in
+    λ b ps rd lanes. mini-laid (a .rerouters .now) (a .bus-wires .now) (a .ports .now) (a .held) b (fit e) rd (e .turn-rows .last .1 .1 .1 .0) (e .turn-rows .last .1 .1 .1 .1 .0) (e .turn-rows .result) _ (turned e b rd) (c .before .before .before .before .before .count .given .1) ps lanes (u .last .1 .1 .1 .0) (u .result) (u .ensures)
 
 pub turn-held-spec : {M : Type 1} → statement M
 turn-held-spec =
@@ -115,5 +112,4 @@ turn-held-spec =
     same-length-6
     same-length-7
     same-length-8
-    same-length-9
     returns-3)

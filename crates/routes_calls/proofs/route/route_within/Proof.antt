@@ -59,37 +59,37 @@ ready c =
     (work-again _ _ (s .pre .0) (p .kept .1 .1 .1 .0) (p .kept .1 .1 .1 .1 .0) (p .kept .1 .1 .1 .1 .1 .0) (p .kept .1 .1 .1 .1 .1 .1 .0) (p .kept .1 .1 .1 .1 .1 .1 .1 .0) (p .kept .1 .1 .1 .1 .1 .1 .1 .1 .0))
     (record { marks-lent = omega arith; rerouters-lent = lent .rerouters-lent; wires-lent = lent .wires-lent; ports-lent = lent .ports-lent }) _ _ (told c)
 
-abbrev laying : tie.After-turn-and-settle-arg7 → tie.After-lay-and-settle-arg10
-laying c = c .before .before .before .before .before .before .before .before .before .before .before .before .before .before .before .before
+abbrev laying : tie.After-turn-and-settle-arg6 → tie.After-lay-and-settle-arg10
+laying c = c .before .before .before .before .before .before .before .before .before .before .before .before .before .before .before
 
 -- The bus of the lanes stands in the buffers.
-laid : (c : tie.After-turn-and-settle-arg7)
-    → BusStands (busOf (told (laying c) .onBoard) (told (laying c) .lanes)) (c .before .before .before .before .before .before .before .before .before .before .before .before .before .before .before .before .before .before .before .before .before .before .before .before .before .before .before .before .before .before .before .before .before .before .before .before .before .before .before .before .before .before .before .before .before .args .rerouters .now) (c .before .before .before .before .before .before .before .before .before .before .before .before .before .before .before .before .before .before .before .before .before .before .before .before .before .before .before .before .before .before .before .before .before .before .before .before .before .before .before .before .before .before .before .before .before .args .bus-wires .now) (c .before .before .before .before .before .before .before .before .before .before .before .before .before .before .before .before .before .before .before .before .before .before .before .before .before .before .before .before .before .before .before .before .before .before .before .before .before .before .before .before .before .before .before .before .before .args .ports .now) (c .before .before .before .before .before .before .before .before .before .before .before .before .before .before .before .lay-and-settle .last .1 .1 .1 .1 .1 .1 .1 .1 .1 .0) (c .before .before .before .before .before .before .before .before .before .before .before .before .before .before .before .lay-and-settle .last .1 .1 .1 .1 .1 .1 .1 .1 .1 .1 .0) (c .before .before .before .before .before .before .before .before .before .before .before .before .before .before .before .lay-and-settle .last .1 .1 .1 .1 .1 .1 .1 .1 .1 .1 .1 .0) (c .before .before .before .before .before .before .before .before .before .before .before .before .before .before .before .lay-and-settle .result .bus)
-    × (c .before .before .before .before .before .before .before .before .before .before .before .before .before .before .before .lay-and-settle .result .groups ≡ laidGroups (told (laying c) .onBoard) (told (laying c) .lanes))
-laid c = let e = laying c in c .before .before .before .before .before .before .before .before .before .before .before .before .before .before .before .lay-and-settle .ensures (told e .onBoard) (told e .lanes) (ready e .0) (ready e .1)
+laid : (c : tie.After-turn-and-settle-arg6)
+    → BusStands (busOf (told (laying c) .onBoard) (told (laying c) .lanes)) (c .before .before .before .before .before .before .before .before .before .before .before .before .before .before .before .before .before .before .before .before .before .before .before .before .before .before .before .before .before .before .before .before .before .before .before .before .before .before .before .before .before .before .before .before .args .rerouters .now) (c .before .before .before .before .before .before .before .before .before .before .before .before .before .before .before .before .before .before .before .before .before .before .before .before .before .before .before .before .before .before .before .before .before .before .before .before .before .before .before .before .before .before .before .before .args .bus-wires .now) (c .before .before .before .before .before .before .before .before .before .before .before .before .before .before .before .before .before .before .before .before .before .before .before .before .before .before .before .before .before .before .before .before .before .before .before .before .before .before .before .before .before .before .before .before .args .ports .now) (c .before .before .before .before .before .before .before .before .before .before .before .before .before .before .lay-and-settle .last .1 .1 .1 .1 .1 .1 .1 .1 .1 .0) (c .before .before .before .before .before .before .before .before .before .before .before .before .before .before .lay-and-settle .last .1 .1 .1 .1 .1 .1 .1 .1 .1 .1 .0) (c .before .before .before .before .before .before .before .before .before .before .before .before .before .before .lay-and-settle .last .1 .1 .1 .1 .1 .1 .1 .1 .1 .1 .1 .0) (c .before .before .before .before .before .before .before .before .before .before .before .before .before .before .lay-and-settle .result .bus)
+    × (c .before .before .before .before .before .before .before .before .before .before .before .before .before .before .lay-and-settle .result .groups ≡ laidGroups (told (laying c) .onBoard) (told (laying c) .lanes))
+laid c = let e = laying c in c .before .before .before .before .before .before .before .before .before .before .before .before .before .before .lay-and-settle .ensures (told e .onBoard) (told e .lanes) (ready e .0) (ready e .1)
 
-abbrev Turning : tie.After-turn-and-settle-arg7 → Type 0
+abbrev Turning : tie.After-turn-and-settle-arg6 → Type 0
 Turning c =
     let e = laying c in
-    let l = c .before .before .before .before .before .before .before .before .before .before .before .before .before .before .before .lay-and-settle in
+    let l = c .before .before .before .before .before .before .before .before .before .before .before .before .before .before .lay-and-settle in
     let p = planned e .plan-text in
-    let a = c .before .before .before .before .before .before .before .before .before .before .before .before .before .before .before .before .before .before .before .before .before .before .before .before .before .before .before .before .before .before .before .before .before .before .before .before .before .before .before .before .before .before .before .before .before .args in
-    CornersReady (told e .onBoard) (told e .lanes) (a .rerouters .now) (a .bus-wires .now) (a .ports .now) (p .last .1 .1 .0) (e .before .before .before .before .before .before .before .before .before .before .before .counts .given .0 .0) (p .last .1 .1 .1 .0) (l .last .1 .1 .1 .1 .1 .1 .1 .1 .1 .0) (l .last .1 .1 .1 .1 .1 .1 .1 .1 .1 .1 .0) (l .last .1 .1 .1 .1 .1 .1 .1 .1 .1 .1 .1 .0) (l .result .bus) (l .last .1 .1 .1 .1 .1 .1 .1 .1 .0) (l .last .1 .1 .1 .1 .1 .1 .0)
+    let a = c .before .before .before .before .before .before .before .before .before .before .before .before .before .before .before .before .before .before .before .before .before .before .before .before .before .before .before .before .before .before .before .before .before .before .before .before .before .before .before .before .before .before .before .before .args in
+    CornersReady (told e .onBoard) (told e .lanes) (a .rerouters .now) (a .bus-wires .now) (a .ports .now) (p .last .1 .1 .0) (e .before .before .before .before .before .before .before .before .before .before .before .counts .given .0 .0) (p .last .1 .1 .1 .0) (l .last .1 .1 .1 .1 .1 .1 .1 .1 .1 .0) (l .last .1 .1 .1 .1 .1 .1 .1 .1 .1 .1 .0) (l .last .1 .1 .1 .1 .1 .1 .1 .1 .1 .1 .1 .0) (l .result .bus) (l .last .1 .1 .1 .1 .1 .1 .1 .1 .0)
 
-turning : (c : tie.After-turn-and-settle-arg7) → Turning c
+turning : (c : tie.After-turn-and-settle-arg6) → Turning c
 turning c =
     let e = laying c in
-    let l = c .before .before .before .before .before .before .before .before .before .before .before .before .before .before .before .lay-and-settle in
+    let l = c .before .before .before .before .before .before .before .before .before .before .before .before .before .before .lay-and-settle in
     let p = planned e .plan-text in
     let s = start (planned e) in
     let a = s .args in
     let lent = s .pre .1 .1 in
     let ml = lent .marks-lent in let rl = lent .rerouters-lent in let bl = lent .wires-lent in let pl = lent .ports-lent in
     let kp = p .kept .1 .1 .1 .1 .1 .1 .1 .1 .0 in let km = l .kept .1 .1 .1 .1 .1 .1 .1 .1 .0 in let kr = l .kept .1 .1 .1 .1 .1 .1 .1 .1 .1 .0 in let kw = l .kept .1 .1 .1 .1 .1 .1 .1 .1 .1 .1 .0 in let kt = l .kept .1 .1 .1 .1 .1 .1 .1 .1 .1 .1 .1 .0 in
-    let fs = s .pre .0 .facts-lent in let ds = s .pre .0 .demands-lent in
-    let kf = p .kept .1 .1 .1 .0 in let pd = p .kept .1 .1 .1 .1 .1 .1 .0 in let ld = l .kept .1 .1 .1 .1 .1 .1 .0 in
-    corners-ready (a .asked .most) (a .text .now) (a .asked .lent) (s .pre .1 .0) (p .last .1 .1 .0) (p .last .1 .1 .1 .0) (p .last .1 .1 .1 .1 .0) (p .last .1 .1 .1 .1 .1 .0) _ _ (told e) (a .rerouters .now) (a .bus-wires .now) (a .ports .now) (l .last .1 .1 .1 .1 .1 .1 .1 .1 .1 .0) (l .last .1 .1 .1 .1 .1 .1 .1 .1 .1 .1 .0) (l .last .1 .1 .1 .1 .1 .1 .1 .1 .1 .1 .1 .0) (l .result .bus) (laid c .0) (l .last .1 .1 .1 .1 .1 .1 .1 .1 .0) (l .last .1 .1 .1 .1 .1 .1 .0)
-    (record { marks-lent = omega arith; rerouters-lent = omega arith; wires-lent = omega arith; ports-lent = omega arith }) (omega arith) (omega arith) kr kw kt
+    let fs = s .pre .0 .facts-lent in
+    let kf = p .kept .1 .1 .1 .0 in
+    corners-ready (a .asked .most) (a .text .now) (a .asked .lent) (s .pre .1 .0) (p .last .1 .1 .0) (p .last .1 .1 .1 .0) (p .last .1 .1 .1 .1 .0) (p .last .1 .1 .1 .1 .1 .0) _ _ (told e) (a .rerouters .now) (a .bus-wires .now) (a .ports .now) (l .last .1 .1 .1 .1 .1 .1 .1 .1 .1 .0) (l .last .1 .1 .1 .1 .1 .1 .1 .1 .1 .1 .0) (l .last .1 .1 .1 .1 .1 .1 .1 .1 .1 .1 .1 .0) (l .result .bus) (laid c .0) (l .last .1 .1 .1 .1 .1 .1 .1 .1 .0)
+    (record { marks-lent = omega arith; rerouters-lent = omega arith; wires-lent = omega arith; ports-lent = omega arith }) (omega arith) kr kw kt
 
 plan-text-requires : tie.Need-plan-text-requires
 plan-text-requires c κs = search needs
@@ -107,11 +107,11 @@ lay-and-settle-requires : tie.Need-lay-and-settle-requires
 lay-and-settle-requires c κs = (told c .onBoard, told c .lanes, ready c .0, ready c .1)
 
 turn-and-settle-requires : tie.Need-turn-and-settle-requires
-turn-and-settle-requires c κs = let a = c .before .before .before .before .before .before .before .before .before .before .before .before .before .before .before .before .before .before .before .before .before .before .before .before .before .before .before .before .before .before .before .before .before .before .before .before .before .before .before .before .before .before .before .before .before .args in (told (laying c) .onBoard, told (laying c) .lanes, a .rerouters .now, a .bus-wires .now, a .ports .now, turning c)
+turn-and-settle-requires c κs = let a = c .before .before .before .before .before .before .before .before .before .before .before .before .before .before .before .before .before .before .before .before .before .before .before .before .before .before .before .before .before .before .before .before .before .before .before .before .before .before .before .before .before .before .before .before .args in (told (laying c) .onBoard, told (laying c) .lanes, a .rerouters .now, a .bus-wires .now, a .ports .now, turning c)
 
 write-pages-requires : tie.Need-write-pages-requires
 write-pages-requires c κs =
-    let e = laying (c .before .before .before .before .before .before .before .before) in
+    let e = laying (c .before .before .before .before .before .before .before) in
     let p = planned e .plan-text in
     let s = start (planned e) in
     let a = s .args in
@@ -191,40 +191,40 @@ same-length-18 : tie.Need-same-length-18
 same-length-18 c = search needs
 
 same-length-19 : tie.Need-same-length-19
-same-length-19 c = c .before .before .before .before .before .before .before .before .before .before .before .before .before .before .before .before .before .before .before .before .before .before .before .before .before .before .before .before .before .before .before .before .before .before .before .before .before .before .before .before .before .before .before .before .before .before .plan-text .kept .1 .1 .0
+same-length-19 c = c .before .before .before .before .before .before .before .before .before .before .before .before .before .before .before .before .before .before .before .before .before .before .before .before .before .before .before .before .before .before .before .before .before .before .before .before .before .before .before .before .before .before .before .before .plan-text .kept .1 .1 .0
 
 same-length-20 : tie.Need-same-length-20
-same-length-20 c = c .before .before .before .before .before .before .before .before .before .before .before .before .before .before .before .before .before .before .before .before .before .before .before .before .before .before .before .before .before .before .before .before .before .before .before .before .before .before .before .before .before .before .before .before .before .before .plan-text .kept .1 .1 .1 .0
+same-length-20 c = c .before .before .before .before .before .before .before .before .before .before .before .before .before .before .before .before .before .before .before .before .before .before .before .before .before .before .before .before .before .before .before .before .before .before .before .before .before .before .before .before .before .before .before .before .plan-text .kept .1 .1 .1 .0
 
 same-length-21 : tie.Need-same-length-21
-same-length-21 c = c .before .before .before .before .before .before .before .before .before .before .before .before .before .before .before .before .before .before .before .before .before .before .before .before .before .lay-and-settle .kept .1 .1 .1 .1 .0 ∙ c .before .before .before .before .before .before .before .before .before .before .before .before .before .before .before .before .before .before .before .before .before .before .before .before .before .before .before .before .before .before .before .before .before .before .before .before .before .before .before .before .before .before .before .before .before .before .plan-text .kept .1 .1 .1 .1 .0
+same-length-21 c = c .before .before .before .before .before .before .before .before .before .before .before .before .before .before .before .before .before .before .before .before .before .before .before .lay-and-settle .kept .1 .1 .1 .1 .0 ∙ c .before .before .before .before .before .before .before .before .before .before .before .before .before .before .before .before .before .before .before .before .before .before .before .before .before .before .before .before .before .before .before .before .before .before .before .before .before .before .before .before .before .before .before .before .plan-text .kept .1 .1 .1 .1 .0
 
 same-length-22 : tie.Need-same-length-22
-same-length-22 c = c .before .before .before .before .before .before .before .before .before .before .before .before .before .before .before .before .before .before .before .before .before .before .before .before .before .before .before .before .before .before .before .before .before .before .before .before .before .before .before .before .before .before .before .before .before .before .plan-text .kept .1 .1 .1 .1 .1 .0
+same-length-22 c = c .before .before .before .before .before .before .before .before .before .before .before .before .before .before .before .before .before .before .before .before .before .before .before .before .before .before .before .before .before .before .before .before .before .before .before .before .before .before .before .before .before .before .before .before .plan-text .kept .1 .1 .1 .1 .1 .0
 
 same-length-23 : tie.Need-same-length-23
-same-length-23 c = c .before .before .before .before .before .before .before .before .before .turn-and-settle .kept .1 .1 .1 .1 .1 .1 .1 .0 ∙ c .before .before .before .before .before .before .before .before .before .before .before .before .before .before .before .before .before .before .before .before .before .before .before .before .before .lay-and-settle .kept .1 .1 .1 .1 .1 .1 .0 ∙ c .before .before .before .before .before .before .before .before .before .before .before .before .before .before .before .before .before .before .before .before .before .before .before .before .before .before .before .before .before .before .before .before .before .before .before .before .before .before .before .before .before .before .before .before .before .before .plan-text .kept .1 .1 .1 .1 .1 .1 .0
+same-length-23 c = c .before .before .before .before .before .before .before .before .before .before .before .before .before .before .before .before .before .before .before .before .before .before .before .lay-and-settle .kept .1 .1 .1 .1 .1 .1 .0 ∙ c .before .before .before .before .before .before .before .before .before .before .before .before .before .before .before .before .before .before .before .before .before .before .before .before .before .before .before .before .before .before .before .before .before .before .before .before .before .before .before .before .before .before .before .before .plan-text .kept .1 .1 .1 .1 .1 .1 .0
 
 same-length-24 : tie.Need-same-length-24
-same-length-24 c = c .before .before .before .before .before .before .before .before .before .before .before .before .before .before .before .before .before .before .before .before .before .before .before .before .before .lay-and-settle .kept .1 .1 .1 .1 .1 .1 .1 .0 ∙ c .before .before .before .before .before .before .before .before .before .before .before .before .before .before .before .before .before .before .before .before .before .before .before .before .before .before .before .before .before .before .before .before .before .before .before .before .before .before .before .before .before .before .before .before .before .before .plan-text .kept .1 .1 .1 .1 .1 .1 .1 .0
+same-length-24 c = c .before .before .before .before .before .before .before .before .before .before .before .before .before .before .before .before .before .before .before .before .before .before .before .lay-and-settle .kept .1 .1 .1 .1 .1 .1 .1 .0 ∙ c .before .before .before .before .before .before .before .before .before .before .before .before .before .before .before .before .before .before .before .before .before .before .before .before .before .before .before .before .before .before .before .before .before .before .before .before .before .before .before .before .before .before .before .before .plan-text .kept .1 .1 .1 .1 .1 .1 .1 .0
 
 same-length-25 : tie.Need-same-length-25
-same-length-25 c = c .before .before .before .before .before .before .before .before .before .turn-and-settle .kept .1 .1 .1 .1 .1 .1 .1 .1 .0 ∙ c .before .before .before .before .before .before .before .before .before .before .before .before .before .before .before .before .before .before .before .before .before .before .before .before .before .lay-and-settle .kept .1 .1 .1 .1 .1 .1 .1 .1 .0 ∙ c .before .before .before .before .before .before .before .before .before .before .before .before .before .before .before .before .before .before .before .before .before .before .before .before .before .before .before .before .before .before .before .before .before .before .before .before .before .before .before .before .before .before .before .before .before .before .plan-text .kept .1 .1 .1 .1 .1 .1 .1 .1 .0
+same-length-25 c = c .before .before .before .before .before .before .before .before .turn-and-settle .kept .1 .1 .1 .1 .1 .1 .1 .0 ∙ c .before .before .before .before .before .before .before .before .before .before .before .before .before .before .before .before .before .before .before .before .before .before .before .lay-and-settle .kept .1 .1 .1 .1 .1 .1 .1 .1 .0 ∙ c .before .before .before .before .before .before .before .before .before .before .before .before .before .before .before .before .before .before .before .before .before .before .before .before .before .before .before .before .before .before .before .before .before .before .before .before .before .before .before .before .before .before .before .before .plan-text .kept .1 .1 .1 .1 .1 .1 .1 .1 .0
 
 returns-3 : tie.Need-returns-3
 returns-3 c =
-    let f = c .before .before .before .before .before .before .before .before .before .before in
+    let f = c .before .before .before .before .before .before .before .before .before in
     let e = laying f in
     let p = planned e .plan-text in
     let s = start (planned e) in
     let a = s .args in
-    let l = c .before .before .before .before .before .before .before .before .before .before .before .before .before .before .before .before .before .before .before .before .before .before .before .before .before .lay-and-settle in
-    let t = c .before .before .before .before .before .before .before .before .before .turn-and-settle in
+    let l = c .before .before .before .before .before .before .before .before .before .before .before .before .before .before .before .before .before .before .before .before .before .before .before .lay-and-settle in
+    let t = c .before .before .before .before .before .before .before .before .turn-and-settle in
     let w = c .before .write-pages in
     let b = told e .onBoard in
     let ps = told e .lanes in
     let from = lanes-from (a .asked .most) (a .text .now) (fitsLent (a .asked .lent)) b ps (told e .is) in
-    let pages : length ps ≡ c .before .before .before .before .before .before .before .before .before .before .before .before .before .before .before .before .before .before .before .before .before .before .before .before .before .before .before .before .before .before .before .before .before .before .before .before .before .counts .given .0 .0 .pages = planned-counts b ps (from .lanes) .0 ∙ sym (ap (λ (d : Counts). d .pages) (told e .counted)) in
+    let pages : length ps ≡ c .before .before .before .before .before .before .before .before .before .before .before .before .before .before .before .before .before .before .before .before .before .before .before .before .before .before .before .before .before .before .before .before .before .before .before .counts .given .0 .0 .pages = planned-counts b ps (from .lanes) .0 ∙ sym (ap (λ (d : Counts). d .pages) (told e .counted)) in
     plan-told (a .asked .most) (a .text .now) (a .asked .lent) (s .pre .1 .0) (p .last .1 .1 .0) (p .last .1 .1 .1 .0) (p .last .1 .1 .1 .1 .0) (p .last .1 .1 .1 .1 .1 .0) _ _ (told e) (a .rerouters .now) (a .bus-wires .now) (a .ports .now)
     (t .last .1 .1 .1 .0) (t .last .1 .1 .1 .1 .0) (t .last .1 .1 .1 .1 .1 .0) (a .answers .now) (w .last .1 .1 .0) (t .result) (l .result .groups) (t .ensures b ps (a .rerouters .now) (a .bus-wires .now) (a .ports .now) (turning f)) (laid f .1) (w .ensures ps pages (told e .tables .pages-known))
 

@@ -20,10 +20,10 @@ enum-known-count c = search needs
 
 settle-ports-requires : tie.Need-settle-ports-requires
 settle-ports-requires c κs =
-    let t = c .before .before .before .before .before .before .before .before .before .before .turn-rows in
-    let p = c .before .before .before .before .before .before .before .before .before .before .before .before .before .before .before .pre in
+    let t = c .before .before .before .before .before .before .before .before .turn-rows in
+    let p = c .before .before .before .before .before .before .before .before .before .before .before .before .before .pre in
     let ready = p .5 in
-    settle-ready ready (turned-laid ready (t .last .1 .1 .1 .0) (t .last .1 .1 .1 .1 .0) (t .result) (c .before .before .before .before .before .count .given .0 .0) (t .ensures .1 (p .0) (busOf (p .0) (p .1)) (p .2) (p .3) (ready .turning) (ready-mutes ready) (ready-handed ready)) (c .before .before .before .before .before .count .given .1)) (t .last .1 .1 .1 .1 .1 .1 .1 .0) (t .kept .1 .1 .1 .1 .1 .1 .1 .0)
+    settle-ready ready (turned-laid ready (t .last .1 .1 .1 .0) (t .last .1 .1 .1 .1 .0) (t .result) (c .before .before .before .count .given .0 .0) (t .ensures .1 (p .0) (busOf (p .0) (p .1)) (p .2) (p .3) (ready .turning) (ready-mutes ready) (ready-handed ready)) (c .before .before .before .count .given .1))
 
 same-length : tie.Need-same-length
 same-length c = search needs
@@ -54,14 +54,11 @@ same-length-7 c = search needs
 same-length-8 : tie.Need-same-length-8
 same-length-8 c = search needs
 
-same-length-9 : tie.Need-same-length-9
-same-length-9 c = search needs
-
 returns-2 : tie.Need-returns-2
 returns-2 c =
-    let t = c .before .before .before .before .before .before .before .before .before .before .before .before .before .before .turn-rows in
-    let k = c .before .before .before .before .before .before .before .before .before .count .given in
-    let p = c .before .before .before .settle-ports in
+    let t = c .before .before .before .before .before .before .before .before .before .before .turn-rows in
+    let k = c .before .before .before .before .before .count .given in
+    let p = c .before .settle-ports in
     λ b ps old oldWires oldPorts ready.
     settle-done ready (turned-laid ready (t .last .1 .1 .1 .0) (t .last .1 .1 .1 .1 .0) (t .result) (k .0 .0) (t .ensures .1 b (busOf b ps) old oldWires (ready .turning) (ready-mutes ready) (ready-handed ready)) (k .1)) (p .last .1 .1 .1 .0) (p .result) (p .ensures)
 
@@ -82,5 +79,4 @@ turn-and-settle-spec =
     same-length-6
     same-length-7
     same-length-8
-    same-length-9
     returns-2)

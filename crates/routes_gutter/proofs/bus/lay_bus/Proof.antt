@@ -1,20 +1,19 @@
 -- Planned, laid and settled, by the lengths that are lent.
 use Prim.Native.Nat.{ℕ, _≤_}
 use native.Mathlib.Omega.{arith}
-use mathlib.Core.Path.{_≡_, sym, _∙_, subst}
+use mathlib.Core.Path.{_≡_, _∙_}
 use lib.ListN.{length}
-use Rattle.sheet.specs.declared.Counts.{Counts}
 use mathlib.Core.Bool.{Bool}
 use Rattle.board.specs.Board.{Board}
 use Rattle.board.specs.Planning.{Planning, refused, planning}
-use Rattle.board.specs.Walk.{WithinLibrary}
-use Rattle.board_plan.specs.TextPlan.{fitsLent, shortest, workRows}
-use Rattle.board_plan.proofs.Calling.{within-library, WorkRoom, work-room}
+use Rattle.board_plan.specs.TextPlan.{fitsLent, workRows}
+use Rattle.board_plan.specs.declared.Asked.{Asked}
+use Rattle.board_plan.proofs.Calling.{asked-room}
 use Rattle.board_plan.proofs.Surveying.{LanesTold, text-refusal, text-crowded, text-lanes}
 use Rattle.routes_gutter.specs.Bus.{RowsReady}
 use Rattle.routes_gutter.specs.Calls.{busFits, layCall, BusCalled}
 use Rattle.routes_gutter.specs.declared.bus.BusPlan.the-variants.{Refused}
-use Rattle.routes_gutter.proofs.Planned.{work-again, rows-ready, lentWith, lay-refused, lay-done}
+use Rattle.routes_gutter.proofs.Planned.{work-again, rows-ready, bus-lent, lay-refused, lay-done}
 use borrow.Author.Needs.{needs}
 use Rattle.routes_gutter.proofs.bus.lay_bus.Statement.{statement}
 use Rattle.routes_gutter.proofs.bus.lay_bus.Tie as tie
@@ -22,24 +21,19 @@ use Rattle.routes_gutter.proofs.bus.lay_bus.Reads as reads
 use Rattle.routes_gutter.proofs.bus.lay_bus.Lts as lts
 use Rattle.routes_gutter.proofs.laying.lay_and_settle.Reads as lay-and-settle-reads
 use Rattle.board_plan.proofs.plan_text.Reads as plan-text-reads
-use Rattle.board_plan.proofs.shortest_of.Reads as shortest-of-reads
-use Rattle.sheet.proofs.library_most.Reads as library-most-reads
-
--- Rows for each record in every slice of work space.
-abbrev Work : tie.Start → ℕ → Type 0
-Work s n = let a = s .args in WorkRoom n (a .records .now) (a .facts .now) (a .taps .now) (a .groups .now) (a .demands .now) (a .keys .now) (a .marks .now)
-
-work : (s : tie.Start) (n : ℕ) → n ≡ shortest (workRows (s .args .records .now) (s .args .facts .now) (s .args .taps .now) (s .args .groups .now) (s .args .demands .now) (s .args .keys .now) (s .args .marks .now)) → Work s n
-work s n e = let a = s .args in work-room n (a .records .now) (a .facts .now) (a .taps .now) (a .groups .now) (a .demands .now) (a .keys .now) (a .marks .now) e
+use Rattle.board_plan.proofs.ask.Reads as ask-reads
 
 abbrev start : tie.After-plan-text → tie.Start
-start d = d .before .before .before .before .before .before .before .before .before .before .before
+start d = d .before .before .before .before .before .before .before .before .before .before
+
+abbrev asked-of : tie.After-plan-text → Asked
+asked-of d = d .before .before .before .before .before .before .before .before .ask .result
 
 abbrev fits-of : tie.After-plan-text → Board → Bool
-fits-of d = let a = start d .args in fitsLent (lentWith (length (a .rerouters .now)) (length (a .bus-wires .now)) (length (a .ports .now)) (d .before .before .before .before .before .before .before .before .before .shortest-of .result))
+fits-of d = fitsLent (asked-of d .lent)
 
 abbrev plan-of : tie.After-plan-text → Planning
-plan-of d = planning (d .before .before .before .before .before .before .before .before .library-most .result) (fits-of d) (start d .args .text .now)
+plan-of d = planning (asked-of d .most) (fits-of d) (start d .args .text .now)
 
 abbrev planned : tie.After-lay-and-settle-arg10 → tie.After-plan-text
 planned c = c .before .before .before .before .before .before .before .before .before .before .before .before .before .before .before .before .before .before .before .before
@@ -50,7 +44,7 @@ refused-by : (d : tie.After-plan-text) (n l : ℕ) → plan-of d ≡ refused n l
     BusCalled (layCall (a .text .now) (busFits (length (a .rerouters .now)) (length (a .bus-wires .now)) (length (a .ports .now)) (workRows (a .records .now) (a .facts .now) (a .taps .now) (a .groups .now) (a .demands .now) (a .keys .now) (a .marks .now)))) (a .rerouters .now) (a .bus-wires .now) (a .ports .now) (a .rerouters .now) (a .bus-wires .now) (a .ports .now) (Refused n l)
 refused-by d n l e =
     let a = start d .args in
-    lay-refused (a .text .now) _ (d .before .before .before .before .before .before .before .before .library-most .ensures) (length (a .rerouters .now)) (length (a .bus-wires .now)) (length (a .ports .now)) (d .before .before .before .before .before .before .before .before .before .shortest-of .result) _ (d .before .before .before .before .before .before .before .before .before .shortest-of .ensures) (a .rerouters .now) (a .bus-wires .now) (a .ports .now) n l e
+    lay-refused (a .text .now) (asked-of d) (length (a .rerouters .now)) (length (a .bus-wires .now)) (length (a .ports .now)) _ (d .before .before .before .before .before .before .before .before .ask .ensures) (a .rerouters .now) (a .bus-wires .now) (a .ports .now) n l e
 
 told : (c : tie.After-lay-and-settle-arg10) → LanesTold (planned c .plan-text .last .1 .1 .0) (planned c .plan-text .last .1 .1 .1 .0) (planned c .plan-text .last .1 .1 .1 .1 .0) (planned c .plan-text .last .1 .1 .1 .1 .1 .0) (plan-of (planned c)) (c .before .before .before .before .before .before .before .before .before .before .before .counts .given .0 .0) (c .before .before .before .before .before .before .before .before .before .before .before .counts .given .0 .1 .0)
 told c = let d = planned c in let p = d .plan-text in text-lanes (p .last .1 .1 .0) (p .last .1 .1 .1 .0) (p .last .1 .1 .1 .1 .0) (p .last .1 .1 .1 .1 .1 .0) _ (fits-of d) (start d .args .text .now) (p .result) (p .ensures) _ _ (c .before .before .before .before .before .before .before .before .before .before .before .counts .given .1)
@@ -68,25 +62,24 @@ ready c =
     let s = start d in
     let a = s .args in
     let p = d .plan-text in
-    let n = d .before .before .before .before .before .before .before .before .before .shortest-of .result in
-    let w = work s n (d .before .before .before .before .before .before .before .before .before .shortest-of .ensures) in
+    let q = d .before .before .before .before .before .before .before .before .ask in
+    let room = asked-room (q .result) (a .records .now) (a .facts .now) (a .taps .now) (a .groups .now) (a .demands .now) (a .keys .now) (a .marks .now) (q .ensures) in
     let km = p .kept .1 .1 .1 .1 .1 .1 .1 .1 .0 in
-    let fm = w .fivefold in
-    rows-ready _ (a .text .now) (lentWith (length (a .rerouters .now)) (length (a .bus-wires .now)) (length (a .ports .now)) n) (subst (λ (m : Counts). WithinLibrary m) (sym (d .before .before .before .before .before .before .before .before .library-most .ensures)) within-library)
+    let fm = room .0 .fivefold in
+    rows-ready _ (a .text .now) (q .result .lent) (room .1)
     (p .last .1 .1 .0) (p .last .1 .1 .1 .0) (p .last .1 .1 .1 .1 .0) (p .last .1 .1 .1 .1 .1 .0) (p .last .1 .1 .1 .1 .1 .1 .0) (p .last .1 .1 .1 .1 .1 .1 .1 .0) (p .last .1 .1 .1 .1 .1 .1 .1 .1 .0) (a .rerouters .now) (a .bus-wires .now) (a .ports .now) _
-    (work-again n _ (w .lent) (p .kept .1 .1 .1 .0) (p .kept .1 .1 .1 .1 .0) (p .kept .1 .1 .1 .1 .1 .0) (p .kept .1 .1 .1 .1 .1 .1 .0) (p .kept .1 .1 .1 .1 .1 .1 .1 .0) (p .kept .1 .1 .1 .1 .1 .1 .1 .1 .0))
-    (record { marks-lent = omega arith; rerouters-lent = omega arith; wires-lent = omega arith; ports-lent = omega arith }) _ _ (told c)
+    (work-again _ _ (room .0 .lent) (p .kept .1 .1 .1 .0) (p .kept .1 .1 .1 .1 .0) (p .kept .1 .1 .1 .1 .1 .0) (p .kept .1 .1 .1 .1 .1 .1 .0) (p .kept .1 .1 .1 .1 .1 .1 .1 .0) (p .kept .1 .1 .1 .1 .1 .1 .1 .1 .0))
+    (bus-lent (q .result) _ (p .last .1 .1 .1 .1 .1 .1 .1 .1 .0) (a .rerouters .now) (a .bus-wires .now) (a .ports .now) (q .ensures) (omega arith)) _ _ (told c)
 
-shortest-of-requires : tie.Need-shortest-of-requires
-shortest-of-requires c κs = search needs
-
-library-most-requires : tie.Need-library-most-requires
-library-most-requires c κs = search needs
+ask-requires : tie.Need-ask-requires
+ask-requires c κs = search needs
 
 plan-text-requires : tie.Need-plan-text-requires
 plan-text-requires c κs =
-    let s = c .before .before .before .before .before .before .before .before .before .before in
-    (work s (c .before .before .before .before .before .before .before .before .shortest-of .result) (c .before .before .before .before .before .before .before .before .shortest-of .ensures) .lent, subst (λ (m : Counts). WithinLibrary m) (sym (c .before .before .before .before .before .before .before .library-most .ensures)) within-library)
+    let a = c .before .before .before .before .before .before .before .before .before .args in
+    let q = c .before .before .before .before .before .before .before .ask in
+    let room = asked-room (q .result) (a .records .now) (a .facts .now) (a .taps .now) (a .groups .now) (a .demands .now) (a .keys .now) (a .marks .now) (q .ensures) in
+    (room .0 .lent, room .1)
 
 enum-known-number : tie.Need-enum-known-number
 enum-known-number c = search needs
@@ -182,20 +175,18 @@ same-length-24 c = search needs
 returns-3 : tie.Need-returns-3
 returns-3 c =
     let e = c .before .before .before .before .before .before .before .before .before in
-    let d = c .before .before .before .before .before .before .before .before .before .before .before .before .before .before .before .before .before .before .before .before .before .before .before .before .before .before .before .before .before in
-    let s = c .before .before .before .before .before .before .before .before .before .before .before .before .before .before .before .before .before .before .before .before .before .before .before .before .before .before .before .before .before .before .before .before .before .before .before .before .before .before .before .before in
+    let s = c .before .before .before .before .before .before .before .before .before .before .before .before .before .before .before .before .before .before .before .before .before .before .before .before .before .before .before .before .before .before .before .before .before .before .before .before .before .before .before in
     let a = s .args in
     let l = c .before .before .before .before .before .before .before .before .lay-and-settle in
     let q = l .ensures (told e .onBoard) (told e .lanes) (ready e .0) (ready e .1) in
-    lay-done (a .text .now) _ (c .before .before .before .before .before .before .before .before .before .before .before .before .before .before .before .before .before .before .before .before .before .before .before .before .before .before .before .before .before .before .before .before .before .before .before .before .before .library-most .ensures) (length (a .rerouters .now)) (length (a .bus-wires .now)) (length (a .ports .now)) (c .before .before .before .before .before .before .before .before .before .before .before .before .before .before .before .before .before .before .before .before .before .before .before .before .before .before .before .before .before .before .before .before .before .before .before .before .before .before .shortest-of .result) _ (c .before .before .before .before .before .before .before .before .before .before .before .before .before .before .before .before .before .before .before .before .before .before .before .before .before .before .before .before .before .before .before .before .before .before .before .before .before .before .shortest-of .ensures) (a .rerouters .now) (a .bus-wires .now) (a .ports .now)
+    lay-done (a .text .now) _ (length (a .rerouters .now)) (length (a .bus-wires .now)) (length (a .ports .now)) _ (c .before .before .before .before .before .before .before .before .before .before .before .before .before .before .before .before .before .before .before .before .before .before .before .before .before .before .before .before .before .before .before .before .before .before .before .before .before .ask .ensures) (a .rerouters .now) (a .bus-wires .now) (a .ports .now)
     (told e .onBoard) (told e .lanes) (told e .is) (l .last .1 .1 .1 .1 .1 .1 .1 .1 .1 .0) (l .last .1 .1 .1 .1 .1 .1 .1 .1 .1 .1 .0) (l .last .1 .1 .1 .1 .1 .1 .1 .1 .1 .1 .1 .0) (l .result .bus) (l .result .groups) (q .0) (q .1)
 
 pub lay-bus-spec : {M : Type 1} → statement M
 lay-bus-spec =
     tie.close
     (tie.spec
-    shortest-of-requires
-    library-most-requires
+    ask-requires
     plan-text-requires
     enum-known-number
     enum-known-place

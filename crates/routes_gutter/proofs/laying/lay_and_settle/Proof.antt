@@ -1,5 +1,4 @@
 -- The lanes laid, then the ports of their deliveries: what is left is the lanes' bus.
-use native.Mathlib.Omega.{arith}
 use Rattle.routes_gutter.proofs.Settling.{suppressible, stands}
 use borrow.Author.Needs.{needs}
 use Rattle.routes_gutter.proofs.laying.lay_and_settle.Statement.{statement}
@@ -14,14 +13,10 @@ lay-rows-requires c κs = search needs
 
 settle-ports-requires : tie.Need-settle-ports-requires
 settle-ports-requires c κs =
-    let d = c .before .before .before .before .before .before .before .before .before .before .lay-rows in
-    let s = c .before .before .before .before .before .before .before .before .before .before .before .before .before .before .before .before .before in
+    let d = c .before .before .before .before .before .before .before .before .lay-rows in
+    let s = c .before .before .before .before .before .before .before .before .before .before .before .before .before .before .before in
     let ready = s .pre .2 in
-    let kd = d .kept .1 .1 .1 .1 .1 .1 .0 in
-    let km = d .kept .1 .1 .1 .1 .1 .1 .1 .1 .0 in
-    let ld = ready .ready .laidRoom in
-    let lm = ready .ready .stopRoom .1 in
-    suppressible ready (d .ensures (s .pre .0) (s .pre .1) ready .0) (s .args .ports .now) (d .last .1 .1 .1 .1 .1 .1 .0) (d .last .1 .1 .1 .1 .1 .1 .1 .1 .0) (omega arith) (omega arith) (s .pre .3)
+    suppressible ready (d .ensures (s .pre .0) (s .pre .1) ready .0) (s .args .ports .now) (s .pre .3)
 
 same-length : tie.Need-same-length
 same-length c = search needs
@@ -46,9 +41,9 @@ same-length-7 c = search needs
 
 returns : tie.Need-returns
 returns c =
-    let d = c .before .before .before .before .before .before .before .before .before .before .before .before .before .before .lay-rows in
-    let s = c .before .before .before .before .before .before .before .before .before .before .before .before .before .before .before .before .before .before .before .before .before in
-    let p = c .before .before .before .settle-ports in
+    let d = c .before .before .before .before .before .before .before .before .before .before .lay-rows in
+    let s = c .before .before .before .before .before .before .before .before .before .before .before .before .before .before .before .before .before in
+    let p = c .before .settle-ports in
     λ b ps ready room. (stands ready (d .ensures b ps ready .0) (s .args .ports .now) (p .last .1 .1 .1 .0) (p .result) (p .ensures), d .ensures b ps ready .1)
 
 pub lay-and-settle-spec : {M : Type 1} → statement M
