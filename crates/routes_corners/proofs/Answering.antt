@@ -165,6 +165,7 @@ module _ (nodes facts : List (List ℕ)) (classes list : List ℕ) (n : ℕ) (re
                 let z : length nodes + m + (orderAt items′ p - (length nodes + m)) ≡ orderAt items′ p = omega arith in
                 subst (λ (j : ℕ). Askable items′ j) z (askable (orderAt items′ p - (length nodes + m)) (omega arith));
             there = λ p h l. let w = o .within p h in omega arith;
+            few = λ p h l. let w = o .within p h in let f = turns .few in omega arith;
             notesLong = notesLong;
             fresh = fresh;
           }

@@ -93,6 +93,7 @@ module _ (pages nodes wires facts R W ports items : List (List ℕ)) (held : Bus
       let long = fits .endsLong in
       let turning = f .few in
       record {
+        few = omega arith;
         listLong = omega arith;
         there = λ q h. let low = f .below q h in let class = f .classed .low (getD list q 0) low in record { onFacts = omega arith; onClasses = omega arith; class = omega arith; ends = f .ends q h };
         low = λ q h. let e = f .ends q h in fits .inside (field facts (getD list q 0) 3) (e .target) (e .onRow) .low;

@@ -39,8 +39,9 @@ pub record TurnThere (nodes facts : List (List ℕ)) (classes : List ℕ) (w : �
   pub class : getD classes w 0 < 8192
   pub ends : EndsThere nodes facts w
 
--- What is asked for can be listed: no corner reaches beyond the edge, and no sink is wider than 1,000 levels.
+-- What is asked for can be listed: no more than the wires of a sheet, no corner reaches beyond the edge, and no sink is wider than 1,000 levels.
 pub record TurnsListed (nodes facts : List (List ℕ)) (classes list : List ℕ) (n : ℕ) : Type 0 where
+  pub few : n ≤ 8192
   pub listLong : n ≤ length list
   pub there : (q : ℕ) → q < n → TurnThere nodes facts classes (getD list q 0)
   pub low : (q : ℕ) → q < n → brickCell (nodesAlone nodes) (field facts (getD list q 0) 3) .x1 ≤ EDGE

@@ -12,7 +12,7 @@ use lib.Seq.{getD-set-same}
 use borrow.Author.Tests.{ne-eqb, ltb-true, ltb-false, lt-ltb, le-ltb}
 use Rattle.sheet.specs.Table.{MISSING}
 use Rattle.base.specs.Lists.{Found, none, at, any, keep}
-use Rattle.base.proofs.Bools.{never, and-false, either-right, pick-true, pick-false}
+use Rattle.base.proofs.Bools.{never, clash, and-false, either-right, pick-true, pick-false}
 use Rattle.board.specs.Rows
 use Rattle.board.specs.Rows.{cellsOverlap, rerouterCell}
 use Rattle.board.specs.Tables.{held}
@@ -25,11 +25,11 @@ use Rattle.routes_rows.specs.Booking.{cellOf, itemCell, orderAt, begins,
 use Rattle.routes_rows.specs.Blocked.{countIn, levelNo, cornerCell, blocked, Blocks, cellsMeet, Spread, NoEnds, NoEndsPast}
 use Rattle.routes_rows.specs.Notes.{NOTES, rowNo, Plain, AllPlain, NotesLow, Noted, SamePast, Begun}
 use Rattle.routes_rows.specs.Turning.{Entry, sinkX, sinkEnd, cornerY, sinkIn, classIn, clearAt, loadAt, ofClass, levelAt, bookCorner, bookItem, entriesOn, entriesAfter, answerIf, answersAfter}
-use Rattle.routes_rows.specs.Entries.{SLICE_MOST, inSlice, LEVELS_END, levelIn, cellEntry, blank, cornerBox, cornerEntry, entryFor, seen, rowBefore, spanOf, spanFor, BlockedBy, BlockedFor, levelBy, TellsClear, Askable, RowFits, Turnable, Weighed, Laid, Decidable, Decided, TurnsFit}
+use Rattle.routes_rows.specs.Entries.{SLICE_MOST, inSlice, LEVELS_END, levelIn, cellEntry, blank, cornerBox, cornerEntry, entryFor, seen, rowBefore, spanOf, spanFor, BlockedBy, BlockedFor, levelBy, TellsClear, asked, Askable, RowFits, Turnable, Weighed, Laid, Decidable, Decided, TurnsFit}
 use Rattle.routes_rows.specs.declared.book.Cell.{Cell}
 use Rattle.routes_rows.proofs.Blocking.{none-beyond, leb-not}
 use Rattle.routes_rows.proofs.EntryLaws.{row-kept}
-use Rattle.routes_rows.proofs.NoteLaws.{low-same, noted-same, blocked-kept, past-kept, ends-kept, noted-plain}
+use Rattle.routes_rows.proofs.NoteLaws.{low-same, noted-same, blocked-kept, past-kept, ends-kept, noted-more, noted-plain}
 
 -- ---- a level that is found lies in the span
 lowest-within : (free : ℕ → Bool) (x n l : ℕ) → lowest free x n ≡ at l → (l + 2 ≤ x + 2 * n) × (0 < n)
@@ -137,6 +137,10 @@ ends-tell span booked ends ends′ count high counts b s k low =
     leb-not (getD ends′ k 0) (levelNo span k) ∙ ap not (s .tells k (levelNo span k) (omega (arith, low, counts)) ∙ b k low)
     ∙ (λ i. not (any (λ e. cellsOverlap (e .cell) (record { x0 = levelNo span k; x1 = levelNo span k + 2; y0 = span .y0; y1 = high i })) booked))
 
+-- The same ends tell the same.
+pub clear-kept : (span : Cell) (clear : ℕ → Bool) (notes notes′ : List ℕ) → countIn span ≤ 1000 → ((k : ℕ) → k < 1000 → getD notes′ k 0 ≡ getD notes k 0) → TellsClear span clear notes → TellsClear span clear notes′
+clear-kept span clear notes notes′ few same h k low = ap (λ e. leb e (levelNo span k)) (same k (omega (arith, low, few))) ∙ h k low
+
 -- ---- no end past the levels of a question
 past-corner : (items : List (List ℕ)) (first i : ℕ) (ends : List ℕ) → first ≤ i → NoEndsPast (countIn (spanFor items first i)) ends → NoEndsPast (countIn (spanOf items i)) ends
 past-corner items first i ends l past = subst (λ (s : Cell). NoEndsPast (countIn s) ends) (pick-false (ltb i first) noCell (spanOf items i) (le-ltb i first l)) past
@@ -156,9 +160,9 @@ module _ (items : List (List ℕ)) (p first : ℕ) (answers : List ℕ) where
 
   pub weighed-by : (notes notes′ : List ℕ) (span : Cell) (found : LevelFound) (level : ℕ) → span ≡ spanOf items here → span .x1 ≤ MISSING
       → found ≡ levelAnswer (levelBy (rowBefore items first answers p) span (sinkIn items here) (classIn items here)) → ((g : Found) → found ≡ levelAnswer g → level ≡ held g)
-      → length notes′ ≡ length notes → NoEnds notes′ → SamePast notes notes′ → Noted (rowBefore items first answers p) notes → Weighed items p first answers notes notes′ level
-  weighed-by notes notes′ span found level spans top by told long zeros same noted =
-      record { told = told answer is; within = few; long = long; noEnds = zeros; rows = same 9192 (omega arith); noted = noted-same long same noted }
+      → length notes′ ≡ length notes → NoEnds notes′ → rowNo notes′ ≡ rowNo notes → Noted (rowBefore items first answers p) (orderAt items p - first) notes′ → Weighed items p first answers notes notes′ level
+  weighed-by notes notes′ span found level spans top by told long zeros rows noted =
+      record { told = told answer is; within = few; long = long; noEnds = zeros; rows = rows; noted = noted }
     where
       is : found ≡ levelAnswer answer
       is = by ∙ ap (λ (s : Cell). levelAnswer (levelBy (rowBefore items first answers p) s (sinkIn items here) (classIn items here))) spans ∙ sym (ap levelAnswer (level-by items (rowBefore items first answers p) here))
@@ -168,8 +172,8 @@ module _ (items : List (List ℕ)) (p first : ℕ) (answers : List ℕ) where
 
   -- ---- an item decided: a cell, or a question
   module _ {n : ℕ} {notes notes₁ : List ℕ} (able : Decidable items p first n notes answers) (begun : Begun n notes notes₁) where
-    begun-noted : Noted (rowBefore items first answers p) notes₁
-    begun-noted = begun .noted (rowBefore items first answers p) (able .noted) (able .plain)
+    begun-noted : Noted (rowBefore items first answers p) (orderAt items p - first) notes₁
+    begun-noted = begun .noted (rowBefore items first answers p) (orderAt items p - first) (able .noted) (able .plain)
 
     pub turnable : first ≤ orderAt items p → Turnable items p first n notes₁ answers
     turnable l =
@@ -191,7 +195,7 @@ module _ (items : List (List ℕ)) (p first : ℕ) (answers : List ℕ) where
           long = begun .long;
           noEnds = ends-kept notes notes₁ (begun .ends) (λ k low. let none : countIn (spanFor items first here) ≡ 0 = ap countIn (pick-true (ltb here first) noCell (spanOf items here) b) in able .past k (omega (arith, none)) low);
           rows = begun .rows;
-          noted = subst (λ (x : Entry). Noted (x ∷ rowBefore items first answers p) notes₁) (sym is) (noted-plain (cellEntry items here) (refl, refl) begun-noted);
+          noted = subst (λ (x : Entry). Noted (x ∷ rowBefore items first answers p) (suc here - first) notes₁) (sym is) (noted-plain (cellEntry items here) (refl, refl) (noted-more (omega arith) begun-noted));
           told = sym (ap (λ t. answerIf t answers (here - first) (held answer)) b);
           within = λ h. absurd (omega (arith, h, l));
         }
@@ -212,7 +216,7 @@ module _ (items : List (List ℕ)) (p first : ℕ) (answers : List ℕ) where
         long = laid .long ∙ w .long;
         noEnds = ends-kept notes₁ notes′ (laid .ends) (w .noEnds);
         rows = omega (arith, rows, more);
-        noted = subst (λ (x : Entry). Noted (x ∷ rowBefore items first answers p) notes′) (ap (cornerEntry items here) told ∙ sym is) (laid .noted (cornerY items here) (rowBefore items first answers p) (w .noted));
+        noted = noted-more (omega (arith, l)) (subst (λ (x : Entry). Noted (x ∷ rowBefore items first answers p) (suc (here - first)) notes′) (ap (cornerEntry items here) told ∙ sym is) (laid .noted (cornerY items here) (rowBefore items first answers p) (here - first) (w .noted)));
         told = ap (set answers (here - first)) (w .told) ∙ sym (ap (λ t. answerIf t answers (here - first) (held answer)) b);
         within = λ _. w .within;
       }
@@ -378,7 +382,7 @@ pub record Standing (items : List (List ℕ)) (first : ℕ) (ends₀ answers₀ 
   pub noEnds : NoEnds ends
   pub low : NotesLow ends
   pub rows : rowNo ends ≤ p
-  pub noted : 0 < n → Noted (seen items first answers p) ends
+  pub noted : 0 < n → Noted (seen items first answers p) (asked items first p) ends
   pub plain : n ≡ 0 → AllPlain (seen items first answers p)
   pub slice : Holds n (firstCells cells (inSlice n)) (seen items first answers p)
   pub alike : Alike (seen items first answers p) (entriesAfter items first p)
@@ -464,6 +468,7 @@ row-fits items first m p ends answers₀ answers fit more long =
       ordered = λ q h. fit .ordered q (omega (arith, h, more));
       asks = λ q h. fit .asks q (omega (arith, h, more));
       there = λ q h l. let t = fit .there q (omega (arith, h, more)) l in omega (arith, t, long);
+      few = λ q h. fit .few q (omega (arith, h, more));
       rising = λ q h. fit .rising q (omega (arith, h, more));
     }
 
@@ -477,13 +482,21 @@ module _ {items : List (List ℕ)} {first m : ℕ} {ends₀ answers₀ : List �
   held-before : (before : ℕ) → before ≡ unless (begins items p) n → Holds before (firstCells cells (inSlice before)) before-it
   held-before before stood = holds-row cells n before (begins items p) (seen items first answers p) stood (s .slice)
 
-  -- where a cell counts the row has begun before
-  noted-before : (before : ℕ) → 0 < before → before ≡ unless (begins items p) n → Noted before-it ends
-  noted-before before some stood = go (begins items p) stood
+  -- where a cell counts the row has begun before, and its questions come by their numbers
+  asked-few : (q : ℕ) → p ≡ q → begins items p ≡ false → asked items first p ≤ orderAt items p - first
+  asked-few zero e t = clash (ap (begins items) e) t
+  asked-few (suc q) e t =
+      let h : orderAt items q < orderAt items (suc q) = fit .rising q (omega (arith, e, more)) (sym (ap (begins items) e) ∙ t) in
+      let a : asked items first p ≡ suc (orderAt items q) - first = ap (asked items first) e in
+      let b : orderAt items p ≡ orderAt items (suc q) = ap (orderAt items) e in
+      omega (arith, h, a, b)
+
+  noted-before : (before : ℕ) → 0 < before → before ≡ unless (begins items p) n → Noted before-it (orderAt items p - first) ends
+  noted-before before some stood = go (begins items p) refl stood
     where
-      go : (t : Bool) → before ≡ unless t n → Noted (entriesOn t (seen items first answers p)) ends
-      go true q = absurd (omega (arith, some, q))
-      go false q = s .noted (omega (arith, some, q))
+      go : (t : Bool) → begins items p ≡ t → before ≡ unless t n → Noted (entriesOn t (seen items first answers p)) (orderAt items p - first) ends
+      go true b q = absurd (omega (arith, some, q))
+      go false b q = noted-more (asked-few p refl b) (s .noted (omega (arith, some, q)))
 
   plain-before : (before : ℕ) → before ≡ 0 → before ≡ unless (begins items p) n → AllPlain before-it
   plain-before before z stood = go (begins items p) stood
@@ -583,7 +596,7 @@ module _ {items : List (List ℕ)} {first m : ℕ} {ends₀ answers₀ : List �
           noEnds = u .decided .noEnds;
           low = u .decided .noted .low;
           rows = let r = s .rows in let d = u .decided .rows in let e = u .blocks .rest 9192 (let h = span-few items first this span (fit .asks p more) (u .spans) in omega (arith, h)) in omega (arith, r, d, e);
-          noted = λ some. subst (λ (k : ℕ). Noted (seen items first answers′ k) ends′) (sym (add-one p)) (subst (λ (l : List Entry). Noted l ends′) (sym now-seen) (u .decided .noted));
+          noted = λ some. subst (λ (k : ℕ). Noted (seen items first answers′ k) (asked items first k) ends′) (sym (add-one p)) (subst (λ (l : List Entry). Noted l (asked items first (suc p)) ends′) (sym now-seen) (u .decided .noted));
           plain = λ z. subst (λ (k : ℕ). AllPlain (seen items first answers′ k)) (sym (add-one p)) (subst AllPlain (sym now-seen) (next-plain z));
           slice = subst (λ (k : ℕ). Holds n′ (firstCells cells′ (inSlice n′)) (seen items first answers′ k)) (sym (add-one p)) next-slice;
           alike = subst (λ (k : ℕ). Alike (seen items first answers′ k) (entriesAfter items first k)) (sym (add-one p)) next-alike;

@@ -1,4 +1,4 @@
--- What a row tells, read back from the item whose turn it is: cells that block, loads. Assumes nothing.
+-- What a row tells, read back from the item whose turn it is: cells that block. Assumes nothing.
 use Prim.Native.Nat.{ℕ, zero, suc, _+_, _-_, _*_, _/_, _≤_, _<_}
 use mathlib.Core.Path.{_≡_, refl, ap, ap₂, sym, subst, _∙_}
 use mathlib.Core.Bool.{Bool, true, false, not, _&&_, _||_}
@@ -17,9 +17,9 @@ use Rattle.board.specs.Rows.{cellsOverlap}
 use Rattle.routes.specs.Levels.{levelsIn}
 use Rattle.routes_rows.specs.Booking.{cellOf, keyOf, orderAt, begins, countAfter}
 use Rattle.routes_rows.specs.Blocked.{countIn, levelNo, cornerCell, blocked, Blocks, cellMeets}
-use Rattle.routes_rows.specs.Notes.{Plain, AllPlain}
+use Rattle.routes_rows.specs.Notes.{loadNo, AllPlain}
 use Rattle.routes_rows.specs.Turning.{Entry, sinkIn, loadAt, ofClass, entriesOn}
-use Rattle.routes_rows.specs.Entries.{LEVELS_END, levelIn, cellEntry, ifFound, cornerEntry, entryAt, seen, rowBefore, followsRow, asksBefore, entriesMeet, BlockedBy, BlockedFor, TellsClear, TellsLoads, RowFits}
+use Rattle.routes_rows.specs.Entries.{LEVELS_END, levelIn, cellEntry, ifFound, cornerEntry, entryAt, seen, rowBefore, followsRow, entriesMeet, BlockedBy, BlockedFor, TellsClear, TellsLoads, RowFits}
 use Rattle.routes_rows.specs.declared.book.Cell.{Cell}
 use Rattle.routes_rows.proofs.Blocking.{or-no, or-both, or-more}
 
@@ -56,7 +56,7 @@ pub plain-class : (l : List Entry) (class : ℕ) → (class ≡ MISSING → ⊥)
 plain-class [] class has a = refl
 plain-class (e ∷ l) class has a = neither _ _ (ne-eqb (e .class) class (λ q. has (sym q ∙ a .0 .1))) (plain-class l class has (a .1))
 
-load-more : (e : Entry) (l : List Entry) (sink level : ℕ) → loadAt (e ∷ l) sink level ≡ countAfter (eqb (e .sink) sink && eqb (e .cell .x0) level) (loadAt l sink level)
+pub load-more : (e : Entry) (l : List Entry) (sink level : ℕ) → loadAt (e ∷ l) sink level ≡ countAfter (eqb (e .sink) sink && eqb (e .cell .x0) level) (loadAt l sink level)
 load-more e l sink level = go (eqb (e .sink) sink && eqb (e .cell .x0) level)
   where
     K : List Entry
@@ -66,7 +66,7 @@ load-more e l sink level = go (eqb (e .sink) sink && eqb (e .cell .x0) level)
     go true = sym (add-one (length K))
     go false = refl
 
-plain-load : (l : List Entry) (sink level : ℕ) → (sink ≡ MISSING → ⊥) → AllPlain l → loadAt l sink level ≡ 0
+pub plain-load : (l : List Entry) (sink level : ℕ) → (sink ≡ MISSING → ⊥) → AllPlain l → loadAt l sink level ≡ 0
 plain-load [] sink level has a = refl
 plain-load (e ∷ l) sink level has a =
     load-more e l sink level ∙ ap (λ t. countAfter t (loadAt l sink level)) (false-first _ (eqb (e .cell .x0) level) (ne-eqb (e .sink) sink (λ q. has (sym q ∙ a .0 .0)))) ∙ plain-load l sink level has (a .1)
@@ -76,17 +76,9 @@ pub follows-at : (items : List (List ℕ)) (k key : ℕ) → (k ≡ 0 → ⊥) �
 follows-at items zero key h = absurd (h refl)
 follows-at items (suc k) key h = let e : k ≡ suc k - 1 = omega arith in ap (λ (i : ℕ). eqb (keyOf items (orderAt items i)) key) e
 
-pub asks-at : (items : List (List ℕ)) (k first key : ℕ) → (k ≡ 0 → ⊥) → asksBefore items k first key ≡ leb first (orderAt items (k - 1)) && eqb (keyOf items (orderAt items (k - 1))) key
-asks-at items zero first key h = absurd (h refl)
-asks-at items (suc k) first key h = let e : k ≡ suc k - 1 = omega arith in ap (λ (i : ℕ). leb first (orderAt items i) && eqb (keyOf items (orderAt items i)) key) e
-
 pub follows-some : (items : List (List ℕ)) (k key : ℕ) → followsRow items k key ≡ true → 0 < k
 follows-some items zero key t = clash t refl
 follows-some items (suc k) key t = omega arith
-
-asks-follows : (items : List (List ℕ)) (k first key : ℕ) → asksBefore items k first key ≡ true → followsRow items k key ≡ true
-asks-follows items zero first key t = t
-asks-follows items (suc k) first key t = and-right (leb first (orderAt items k)) _ t
 
 -- what a cell, and what a question has booked
 module _ (items : List (List ℕ)) (first : ℕ) (answers : List ℕ) (k : ℕ) where
@@ -95,9 +87,6 @@ module _ (items : List (List ℕ)) (first : ℕ) (answers : List ℕ) (k : ℕ) 
 
   pub corner-at : first ≤ orderAt items k → entryAt items first answers k ≡ cornerEntry items (orderAt items k) (levelIn (getD answers (orderAt items k - first) 0))
   corner-at h = pick-false (ltb (orderAt items k) first) (cellEntry items (orderAt items k)) _ (le-ltb (orderAt items k) first h)
-
-  cell-plain : orderAt items k < first → Plain (entryAt items first answers k)
-  cell-plain h = subst Plain (sym (cell-at h)) (refl, refl)
 
 -- ---- a row read back from its p-th item, as far as the k-th
 pub record Back (items : List (List ℕ)) (p key k : ℕ) : Type 0 where
@@ -139,119 +128,9 @@ row-less k low fit =
       ordered = λ q h. fit .ordered q (omega (arith, h, low));
       asks = λ q h. fit .asks q (omega (arith, h, low));
       there = λ q h. fit .there q (omega (arith, h, low));
+      few = λ q h. fit .few q (omega (arith, h, low));
       rising = λ q h. fit .rising q (omega (arith, h, low));
     }
-
--- ---- before a cell stand cells only
-module _ (items : List (List ℕ)) (first : ℕ) (answers : List ℕ) (p : ℕ) (fit : RowFits items p first answers) where
-  cells-before : (k : ℕ) → k ≤ p → orderAt items k < first → AllPlain (rowBefore items first answers k)
-  cells-before zero h low = tt
-  cells-before (suc k) h low = go (begins items (suc k)) refl (cells-before k (omega (arith, h)))
-    where
-      go : (t : Bool) → begins items (suc k) ≡ t → (orderAt items k < first → AllPlain (rowBefore items first answers k)) → AllPlain (entriesOn t (entryAt items first answers k ∷ rowBefore items first answers k))
-      go true q ih = tt
-      go false q ih = let l : orderAt items k < orderAt items (suc k) = fit .rising k h q in let b : orderAt items k < first = omega (arith, l, low) in (cell-plain items first answers k b, ih b)
-
-  no-questions : (k key : ℕ) → Back items p key k → asksBefore items k first key ≡ false → AllPlain (rowBefore items first answers k)
-  no-questions zero key b t = tt
-  no-questions (suc k) key b t = go (leb first (orderAt items k)) refl t
-    where
-      on-row : (s : Bool) → orderAt items k < first → AllPlain (entriesOn s (entryAt items first answers k ∷ rowBefore items first answers k))
-      on-row true l = tt
-      on-row false l = let low = b .low in (cell-plain items first answers k l, cells-before k (omega (arith, low)) l)
-
-      go : (s : Bool) → leb first (orderAt items k) ≡ s → s && eqb (keyOf items (orderAt items k)) key ≡ false → AllPlain (rowBefore items first answers (suc k))
-      go true q z = subst AllPlain (sym (row-ends b first answers z)) tt
-      go false q z = on-row (begins items (suc k)) (leb-false first (orderAt items k) q)
-
--- ---- the questions before the k-th item
-module _ {items : List (List ℕ)} {first : ℕ} {answers : List ℕ} {p key k : ℕ} (fit : RowFits items p first answers) (b : Back items p key k) where
-  abbrev i : ℕ
-  i = orderAt items (k - 1)
-
-  abbrev a : ℕ
-  a = getD answers (i - first) 0
-
-  abbrev row : List Entry
-  row = rowBefore items first answers k
-
-  abbrev left : List Entry
-  left = rowBefore items first answers (k - 1)
-
-  pub order-before : orderAt items (k - 1) < length items
-  order-before = let low = b .low in fit .ordered (k - 1) (omega (arith, low))
-
-  module _ (t : asksBefore items k first key ≡ true) where
-    pub asks-some : 0 < k
-    asks-some = follows-some items k key (asks-follows items k first key t)
-
-    pub asks-next : Back items p key (k - 1)
-    asks-next = back-next b (asks-follows items k first key t)
-
-    pub asks-question : first ≤ orderAt items (k - 1)
-    asks-question = leb-true first i (and-left (leb first i) (eqb (keyOf items i) key) (sym (asks-at items k first key (λ z. let some = asks-some in omega (arith, z, some))) ∙ t))
-
-    pub answer-before : orderAt items (k - 1) - first < length answers
-    answer-before = let low = b .low in fit .there (k - 1) (omega (arith, low)) asks-question
-
-    asks-more : rowBefore items first answers k ≡ cornerEntry items i (levelIn a) ∷ left
-    asks-more = row-more b first answers (asks-follows items k first key t) ∙ ap (λ (x : Entry). x ∷ left) (corner-at items first answers (k - 1) asks-question)
-
--- ---- loads counted from the newest down, what stands before the k-th item still to come
-pub record Counted (items : List (List ℕ)) (first : ℕ) (answers : List ℕ) (p : ℕ) (span : Cell) (sink k : ℕ) (loads : List ℕ) : Type 0 where
-  pub sum : (j : ℕ) → j < countIn span → getD loads j 0 + loadAt (rowBefore items first answers k) sink (levelNo span j) ≡ loadAt (rowBefore items first answers p) sink (levelNo span j)
-  pub few : (j : ℕ) → j < countIn span → getD loads j 0 + k ≤ p
-
-pub counted-start : (items : List (List ℕ)) (first : ℕ) (answers : List ℕ) (p : ℕ) (span : Cell) (sink : ℕ) (loads : List ℕ) → ((j : ℕ) → j < countIn span → getD loads j 0 ≡ 0) → Counted items first answers p span sink p loads
-counted-start items first answers p span sink loads zeros = record { sum = λ j low. let z = zeros j low in omega (arith, z); few = λ j low. let z = zeros j low in omega (arith, z) }
-
-module _ {items : List (List ℕ)} {first : ℕ} {answers : List ℕ} {p key k : ℕ} (fit : RowFits items p first answers) (b : Back items p key k) {sink : ℕ} (has : sink ≡ MISSING → ⊥) {span : Cell} {loads : List ℕ} (h : Counted items first answers p span sink k loads) where
-  abbrev hit : ℕ → Bool
-  hit level = eqb (ifFound (levelIn (a fit b)) (sinkIn items (i fit b))) sink && eqb (cornerEntry items (i fit b) (levelIn (a fit b)) .cell .x0) level
-
-  load-step : (level : ℕ) → asksBefore items k first key ≡ true → loadAt (row fit b) sink level ≡ countAfter (hit level) (loadAt (left fit b) sink level)
-  load-step level t = ap (λ (l : List Entry). loadAt l sink level) (asks-more fit b t) ∙ load-more (cornerEntry items (i fit b) (levelIn (a fit b))) (left fit b) sink level
-
-  -- one question more, that hits a level or not
-  counts : (t : Bool) (x x′ u v all : ℕ) → 0 < k → x′ ≡ countAfter t x → u ≡ countAfter t v → x + u ≡ all → x + k ≤ p → (x′ + v ≡ all) × (x′ + (k - 1) ≤ p)
-  counts true x x′ u v all more e f g h = (omega (arith, e, f, g), omega (arith, e, h, more))
-  counts false x x′ u v all more e f g h = (omega (arith, e, f, g), omega (arith, e, h, more))
-
-  next : (loads′ : List ℕ) (hits : ℕ → Bool) → asksBefore items k first key ≡ true → ((j : ℕ) → j < countIn span → hit (levelNo span j) ≡ hits (levelNo span j))
-      → ((j : ℕ) → j < countIn span → getD loads′ j 0 ≡ countAfter (hits (levelNo span j)) (getD loads j 0)) → Counted items first answers p span sink (k - 1) loads′
-  next loads′ hits t same adds = record { sum = λ j low. both j low .0; few = λ j low. both j low .1 }
-    where
-      both : (j : ℕ) → j < countIn span → (getD loads′ j 0 + loadAt (left fit b) sink (levelNo span j) ≡ loadAt (rowBefore items first answers p) sink (levelNo span j)) × (getD loads′ j 0 + (k - 1) ≤ p)
-      both j low =
-          let level : ℕ = levelNo span j in
-          counts (hits level) (getD loads j 0) (getD loads′ j 0) (loadAt (row fit b) sink level) (loadAt (left fit b) sink level) (loadAt (rowBefore items first answers p) sink level) (asks-some fit b t) (adds j low)
-          (load-step level t ∙ ap (λ s. countAfter s (loadAt (left fit b) sink level)) (same j low)) (h .sum j low) (h .few j low)
-
-  pub counted-other : asksBefore items k first key ≡ true → (sinkIn items (orderAt items (k - 1)) ≡ sink → ⊥) → Counted items first answers p span sink (k - 1) loads
-  counted-other t other = next loads (λ l. false) t (λ j low. go (levelNo span j) (levelIn (a fit b))) (λ j low. refl)
-    where
-      go : (level : ℕ) (f : Found) → eqb (ifFound f (sinkIn items (i fit b))) sink && eqb (cornerEntry items (i fit b) f .cell .x0) level ≡ false
-      go level none = false-first _ _ (ne-eqb MISSING sink (λ z. has (sym z)))
-      go level (at l) = false-first _ _ (ne-eqb (sinkIn items (i fit b)) sink other)
-
-  -- MISSING is no level of a span
-  pub counted-more : (loads′ : List ℕ) → span .x1 ≤ MISSING → asksBefore items k first key ≡ true → sinkIn items (orderAt items (k - 1)) ≡ sink
-      → ((j : ℕ) → j < countIn span → getD loads′ j 0 ≡ countAfter (eqb (getD answers (orderAt items (k - 1) - first) 0) (levelNo span j)) (getD loads j 0)) → Counted items first answers p span sink (k - 1) loads′
-  counted-more loads′ top t is adds = next loads′ (λ l. eqb (a fit b) l) t (λ j low. go (levelNo span j) (omega (arith, low, top)) (ltb (a fit b) LEVELS_END) refl) adds
-    where
-      go : (level : ℕ) → level < LEVELS_END → (t : Bool) → ltb (a fit b) LEVELS_END ≡ t
-          → eqb (ifFound (elim t [ true ↦ at (a fit b) | false ↦ none ]) (sinkIn items (i fit b))) sink && eqb (cornerEntry items (i fit b) (elim t [ true ↦ at (a fit b) | false ↦ none ]) .cell .x0) level ≡ eqb (a fit b) level
-      go level few true z = ap (λ s. s && eqb (a fit b) level) (eq-eqb (sinkIn items (i fit b)) sink is)
-      go level few false z =
-          false-first _ _ (ne-eqb MISSING sink (λ y. has (sym y))) ∙ sym (ne-eqb (a fit b) level (λ y. let h : LEVELS_END ≤ a fit b = ltb-false (a fit b) LEVELS_END z in omega (arith, h, y, few)))
-
-  pub counted-end : asksBefore items k first key ≡ false → TellsLoads span (loadAt (rowBefore items first answers p) sink) loads
-  counted-end t j low =
-      let z : loadAt (row fit b) sink (levelNo span j) ≡ 0 = plain-load (row fit b) sink (levelNo span j) has (no-questions items first answers p fit k key b t) in
-      let c = h .sum j low in
-      let d = h .few j low in
-      let most = fit .countable in
-      (omega (arith, c, z), omega (arith, c, d, z, most))
 
 -- ---- a later answer of the row leaves what is booked before it
 pub row-kept : (items : List (List ℕ)) (first : ℕ) (answers : List ℕ) (p : ℕ) → RowFits items p first answers → (i v k : ℕ) → first ≤ i → k ≤ p → orderAt items k ≤ i → rowBefore items first (set answers (i - first) v) k ≡ rowBefore items first answers k
@@ -277,41 +156,14 @@ row-kept items first answers p fit i v (suc k) later h low = go (begins items (s
         let l : orderAt items k < i = omega (arith, r, low) in
         ap₂ (λ (x : Entry) (l : List Entry). x ∷ l) (entry l (ltb (orderAt items k) first) refl) (ih (omega (arith, l)))
 
--- ---- a level counted
-module _ (level : ℕ) (span : Cell) (loads : List ℕ) where
-  abbrev pub AddsTo : List ℕ → Type 0
-  AddsTo loads′ = (k : ℕ) → k < countIn span → getD loads′ k 0 ≡ countAfter (eqb level (levelNo span k)) (getD loads k 0)
-
-  none-hit : ((k : ℕ) → k < countIn span → level ≡ levelNo span k → ⊥) → AddsTo loads
-  none-hit h k low = sym (ap (λ t. countAfter t (getD loads k 0)) (ne-eqb level (levelNo span k) (h k low)))
-
-  module _ (j : ℕ) (is : j ≡ (level - span .x0) / 2) where
-    pub beyond-levels : countIn span ≤ j → AddsTo loads
-    beyond-levels o = none-hit (λ k low e. omega (arith, e, is, o, low))
-
-    pub between-levels : (span .x0 + 2 * j ≡ level → ⊥) → AddsTo loads
-    between-levels o = none-hit (λ k low e. o (omega (arith, e, is)))
-
-    pub at-level : j < length loads → span .x0 + 2 * j ≡ level → AddsTo (set loads j (getD loads j 0 + 1))
-    at-level room e k low = go (eqb k j) refl
-      where
-        go : (t : Bool) → eqb k j ≡ t → getD (set loads j (getD loads j 0 + 1)) k 0 ≡ countAfter (eqb level (levelNo span k)) (getD loads k 0)
-        go true q =
-            let same : k ≡ j = eqb-true k j q in
-            let hit : eqb level (levelNo span k) ≡ true = eq-eqb level (levelNo span k) (omega (arith, e, same)) in
-            (λ i. getD (set loads j (getD loads j 0 + 1)) (same i) 0) ∙ getD-set-same loads j (getD loads j 0 + 1) 0 room ∙ (λ i. countAfter (sym hit i) (getD loads (sym same i) 0))
-        go false q =
-            let other = eqb-false k j q in
-            getD-set-other loads j k (getD loads j 0 + 1) 0 other ∙ sym (ap (λ t. countAfter t (getD loads k 0)) (ne-eqb level (levelNo span k) (λ f. other (omega (arith, e, f)))))
-
 -- ---- a level at hand: what its end and its load tell
 abbrev pub across : ℕ → ℕ → Cell
 across x top = record { x0 = x; x1 = top; y0 = 0; y1 = 0 }
 
-pub open-at : (clear : ℕ → Bool) (load : ℕ → ℕ) (ends loads : List ℕ) (x top k level : ℕ) (r : Bool) → TellsClear (across x top) clear ends → TellsLoads (across x top) load loads
-    → level ≡ x + 2 * k → k < levelsIn x top → r ≡ eqb (getD loads k 0) 0 && leb (getD ends k 0) level → r ≡ eqb (load level) 0 && clear level
-open-at clear load ends loads x top k level r h g e low is =
-    is ∙ ap₂ (λ s t. eqb s 0 && t) (g k low .0 ∙ ap load (sym e)) (ap (leb (getD ends k 0)) e ∙ h k low ∙ ap clear (sym e))
+pub open-at : (clear : ℕ → Bool) (load : ℕ → ℕ) (notes : List ℕ) (x top k level : ℕ) (r : Bool) → TellsClear (across x top) clear notes → TellsLoads (across x top) load notes
+    → level ≡ x + 2 * k → k < levelsIn x top → r ≡ eqb (loadNo notes k) 0 && leb (getD notes k 0) level → r ≡ eqb (load level) 0 && clear level
+open-at clear load notes x top k level r h g e low is =
+    is ∙ ap₂ (λ s t. eqb s 0 && t) (g k low .0 ∙ ap load (sym e)) (ap (leb (getD notes k 0)) e ∙ h k low ∙ ap clear (sym e))
 
 -- one level more is not clear
 pub none-clear : (clear : ℕ → Bool) (ends : List ℕ) (x top k level : ℕ) → TellsClear (across x top) clear ends → level ≡ x + 2 * k → k < levelsIn x top → level < getD ends k 0

@@ -4,6 +4,7 @@ pub mod Blocking
 pub mod Cells
 pub mod Deciding
 pub mod EntryLaws
+pub mod LoadLaws
 pub mod Local
 pub mod NoteLaws
 pub mod Turns

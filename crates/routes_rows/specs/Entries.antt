@@ -12,9 +12,11 @@ use Rattle.board.specs.Rows
 use Rattle.board.specs.Rows.{cellsOverlap, rerouterCell, REROUTER_SIZE}
 use Rattle.board.specs.Tables.{held}
 use Rattle.routes.specs.Levels.{levelsIn, lowest, lightest}
+use Rattle.routes_levels.specs.Laying.{levelAnswer}
+use Rattle.routes_levels.specs.declared.levels.Found.{Found as LevelFound}
 use Rattle.routes_rows.specs.Blocked.{countIn, levelNo, cornerCell, blocked, NoEnds, NoEndsPast}
 use Rattle.routes_rows.specs.Booking.{cellOf, itemCell, keyOf, orderAt, begins, noCell}
-use Rattle.routes_rows.specs.Notes.{NOTES, CLASSES, rowNo, AllPlain, NotesLow, Noted}
+use Rattle.routes_rows.specs.Notes.{NOTES, CLASSES, rowNo, loadNo, AllPlain, NotesLow, Noted}
 use Rattle.routes_rows.specs.Turning.{Entry, sinkX, sinkEnd, cornerY, sinkIn, classIn, clearAt, loadAt, ofClass, levelAt, entriesOn, answerIf}
 use Rattle.routes_rows.specs.declared.book.Cell.{Cell}
 
@@ -72,14 +74,10 @@ seen items first answers (suc p) = entryAt items first answers p ∷ entriesOn (
 abbrev pub rowBefore : List (List ℕ) → ℕ → List ℕ → ℕ → List Entry
 rowBefore items first answers p = entriesOn (begins items p) (seen items first answers p)
 
--- Whether the item before the one that comes k-th is of the row with a key; and whether it is a question there.
+-- Whether the item before the one that comes k-th is of the row with a key.
 abbrev pub followsRow : List (List ℕ) → ℕ → ℕ → Bool
 followsRow items zero key = false
 followsRow items (suc k) key = eqb (keyOf items (orderAt items k)) key
-
-abbrev pub asksBefore : List (List ℕ) → ℕ → ℕ → ℕ → Bool
-asksBefore items zero first key = false
-asksBefore items (suc k) first key = leb first (orderAt items k) && eqb (keyOf items (orderAt items k)) key
 
 -- The span of a question's levels; a cell has none.
 abbrev pub spanOf : List (List ℕ) → ℕ → Cell
@@ -114,9 +112,9 @@ levelBy booked span sink class =
 abbrev pub TellsClear : Cell → (ℕ → Bool) → List ℕ → Type 0
 TellsClear span clear ends = (k : ℕ) → k < countIn span → leb (getD ends k 0) (levelNo span k) ≡ clear (levelNo span k)
 
--- The loads of the levels, as counted.
+-- The loads of the levels, as noted.
 abbrev pub TellsLoads : Cell → (ℕ → ℕ) → List ℕ → Type 0
-TellsLoads span load loads = (k : ℕ) → k < countIn span → (getD loads k 0 ≡ load (levelNo span k)) × (load (levelNo span k) ≤ MISSING)
+TellsLoads span load notes = (k : ℕ) → k < countIn span → (loadNo notes k ≡ load (levelNo span k)) × (load (levelNo span k) ≤ MISSING)
 
 -- A question that can be answered: few levels, all of it within the numbers, a sink and a class.
 pub record Askable (items : List (List ℕ)) (i : ℕ) : Type 0 where
@@ -132,7 +130,21 @@ pub record RowFits (items : List (List ℕ)) (p first : ℕ) (answers : List ℕ
   pub ordered : (q : ℕ) → q ≤ p → orderAt items q < length items
   pub asks : (q : ℕ) → q ≤ p → first ≤ orderAt items q → Askable items (orderAt items q)
   pub there : (q : ℕ) → q ≤ p → first ≤ orderAt items q → orderAt items q - first < length answers
+  pub few : (q : ℕ) → q ≤ p → first ≤ orderAt items q → orderAt items q - first < CLASSES
   pub rising : (q : ℕ) → suc q ≤ p → begins items (suc q) ≡ false → orderAt items q < orderAt items (suc q)
+
+-- How many questions of the row can have been answered after so many items: its questions come by their numbers.
+abbrev pub asked : List (List ℕ) → ℕ → ℕ → ℕ
+asked items first zero = 0
+asked items first (suc p) = suc (orderAt items p) - first
+
+-- A level sought in a span, and the notes that are then left behind.
+pub record Sought (span : Cell) (sink class : ℕ) (notes notes′ : List ℕ) (r : LevelFound) : Type 0 where
+  pub long : length notes′ ≡ length notes
+  pub ends : (k : ℕ) → k < 1000 → getD notes′ k 0 ≡ getD notes k 0
+  pub rows : rowNo notes′ ≡ rowNo notes
+  pub noted : (booked : List Entry) (most : ℕ) → Noted booked most notes → Noted booked most notes′
+  pub tells : (booked : List Entry) (most : ℕ) → Noted booked most notes → TellsClear span (clearAt booked (span .y0)) notes → r ≡ levelAnswer (levelBy booked span sink class)
 
 -- What is asked for to answer the question that comes p-th, behind n cells of its row.
 pub record Turnable (items : List (List ℕ)) (p first n : ℕ) (notes answers : List ℕ) : Type 0 where
@@ -140,7 +152,7 @@ pub record Turnable (items : List (List ℕ)) (p first n : ℕ) (notes answers :
   pub question : first ≤ orderAt items p
   pub blocks : BlockedFor n (spanOf items (orderAt items p)) (rowBefore items first answers p) notes
   pub past : NoEndsPast (countIn (spanOf items (orderAt items p))) notes
-  pub noted : Noted (rowBefore items first answers p) notes
+  pub noted : Noted (rowBefore items first answers p) (orderAt items p - first) notes
 
 -- Its level, and the notes that are then left behind.
 pub record Weighed (items : List (List ℕ)) (p first : ℕ) (answers notes notes′ : List ℕ) (level : ℕ) : Type 0 where
@@ -149,14 +161,14 @@ pub record Weighed (items : List (List ℕ)) (p first : ℕ) (answers notes note
   pub long : length notes′ ≡ length notes
   pub noEnds : NoEnds notes′
   pub rows : rowNo notes′ ≡ rowNo notes
-  pub noted : Noted (rowBefore items first answers p) notes′
+  pub noted : Noted (rowBefore items first answers p) (orderAt items p - first) notes′
 
 -- A corner is noted, where the level is one.
 pub record Laid (sink class level : ℕ) (notes notes′ : List ℕ) : Type 0 where
   pub long : length notes′ ≡ length notes
   pub ends : (k : ℕ) → k < 1000 → getD notes′ k 0 ≡ getD notes k 0
   pub rows : rowNo notes′ ≡ rowNo notes
-  pub noted : (y : ℕ) (booked : List Entry) → Noted booked notes → Noted (cornerFor y sink class (levelIn level) ∷ booked) notes′
+  pub noted : (y : ℕ) (booked : List Entry) (most : ℕ) → Noted booked most notes → Noted (cornerFor y sink class (levelIn level) ∷ booked) (suc most) notes′
 
 -- What is asked for to decide the item that comes p-th, behind n cells of its row.
 pub record Decidable (items : List (List ℕ)) (p first n : ℕ) (notes answers : List ℕ) : Type 0 where
@@ -165,7 +177,7 @@ pub record Decidable (items : List (List ℕ)) (p first n : ℕ) (notes answers 
   pub rows : rowNo notes < MISSING
   pub blocks : first ≤ orderAt items p → BlockedFor n (spanOf items (orderAt items p)) (rowBefore items first answers p) notes
   pub past : NoEndsPast (countIn (spanFor items first (orderAt items p))) notes
-  pub noted : 0 < n → Noted (rowBefore items first answers p) notes
+  pub noted : 0 < n → Noted (rowBefore items first answers p) (orderAt items p - first) notes
   pub plain : n ≡ 0 → AllPlain (rowBefore items first answers p)
 
 -- What is then left behind, and the cell booked.
@@ -174,7 +186,7 @@ pub record Decided (items : List (List ℕ)) (p first : ℕ) (notes answers note
   pub long : length notes′ ≡ length notes
   pub noEnds : NoEnds notes′
   pub rows : rowNo notes′ ≤ rowNo notes + 1
-  pub noted : Noted (entryFor items first (orderAt items p) (levelAt items (rowBefore items first answers p) (orderAt items p)) ∷ rowBefore items first answers p) notes′
+  pub noted : Noted (entryFor items first (orderAt items p) (levelAt items (rowBefore items first answers p) (orderAt items p)) ∷ rowBefore items first answers p) (suc (orderAt items p) - first) notes′
   pub told : answers′ ≡ answerIf (ltb (orderAt items p) first) answers (orderAt items p - first) (held (levelAt items (rowBefore items first answers p) (orderAt items p)))
   pub within : first ≤ orderAt items p → (l : ℕ) → levelAt items (rowBefore items first answers p) (orderAt items p) ≡ at l → l < LEVELS_END
 
@@ -186,5 +198,6 @@ pub record TurnsFit (items : List (List ℕ)) (m first : ℕ) (notes answers : L
   pub rising : (p : ℕ) → suc p < m → begins items (suc p) ≡ false → orderAt items p < orderAt items (suc p)
   pub asks : (p : ℕ) → p < m → first ≤ orderAt items p → Askable items (orderAt items p)
   pub there : (p : ℕ) → p < m → first ≤ orderAt items p → orderAt items p - first < length answers
+  pub few : (p : ℕ) → p < m → first ≤ orderAt items p → orderAt items p - first < CLASSES
   pub notesLong : NOTES ≤ length notes
   pub fresh : (k : ℕ) → k < NOTES → getD notes k 0 ≡ 0

@@ -1,18 +1,13 @@
-// What is booked on a row before an item, read off the items and the answers, back from that item: the cells that block, the loads.
+// What is booked on a row before an item, read off the items and the answers, back from that item: the cells that block.
 use crate::blocked::block;
-use crate::blocked::first_level;
 use crate::book::Cell;
 use base::rows::WorkRow;
-use routes_levels::levels::STAGGER_STEP;
-use routes_levels::levels::levels_in;
 ghost use mathlib.Core.Path.{_≡_};
 ghost use Prim.Native.Nat.{ℕ, _<_, _≤_};
-ghost use lib.Dec.{eqb};
-ghost use lib.ListN.{length, getD};
-ghost use Rattle.routes_rows.specs.Blocked.{countIn, levelNo, Blocks};
-ghost use Rattle.routes_rows.specs.Booking.{cellOf, keyOf, orderAt, countAfter};
-ghost use Rattle.routes_rows.specs.Turning.{loadAt};
-ghost use Rattle.routes_rows.specs.Entries.{rowCell, levelIn, cornerBox, entryAt, rowBefore, followsRow, asksBefore, entriesMeet, TellsLoads, RowFits};
+ghost use lib.ListN.{length};
+ghost use Rattle.routes_rows.specs.Blocked.{countIn, Blocks};
+ghost use Rattle.routes_rows.specs.Booking.{cellOf, keyOf, orderAt};
+ghost use Rattle.routes_rows.specs.Entries.{rowCell, levelIn, cornerBox, entryAt, rowBefore, followsRow, entriesMeet, RowFits};
 
 // Where levels end: a corner is two wide, and ends within the numbers.
 pub const LEVELS_END: u32 = 4_294_967_294;
@@ -83,21 +78,6 @@ fn follows(items: &[WorkRow], k: usize, key: u32) -> bool
     items[i][6] == key
 }
 
-// Whether the item before the one that comes k-th is a question of the row with this key: the cells of a row come before its questions.
-fn asks_before(items: &[WorkRow], k: usize, first: usize, key: u32) -> bool
-    requires { ⌜ (k < length (now items)) × ((q : ℕ) → q ≤ k → orderAt (now items) q < length (now items)) ⌝ }
-    ensures { λ r. ⌜ r ≡ asksBefore (now (items .entry)) k first key ⌝ }
-{
-    if k == 0 {
-        return false;
-    }
-    let i = items[k - 1][7] as usize;
-    if i < first {
-        return false;
-    }
-    items[i][6] == key
-}
-
 // All that is booked on the row before the item that comes p-th blocks; the newest first.
 pub fn block_row(
     items: &[WorkRow],
@@ -115,44 +95,5 @@ pub fn block_row(
     while follows(items, k, key) {
         k -= 1;
         block(ends, span, booked_cell(items, k, first, answers));
-    }
-}
-
-// A corner is counted at its level, if that is one of the span.
-fn add_load(level: u32, span: Cell, loads: &mut [u32])
-    requires { ⌜ (countIn span ≤ length (now loads)) × ((k : ℕ) → k < countIn span → getD (now loads) k 0 < 4294967295) ⌝ }
-    ensures { λ _. ⌜ (length (now (loads .exit)) ≡ length (now (loads .entry))) × ((k : ℕ) → k < countIn span → getD (now (loads .exit)) k 0 ≡ countAfter (eqb level (levelNo span k)) (getD (now (loads .entry)) k 0)) ⌝ }
-{
-    let k = first_level(span.x0, level);
-    if levels_in(span.x0, span.x1) <= k {
-        return;
-    }
-    if span.x0 + STAGGER_STEP * k != level {
-        return;
-    }
-    loads[k as usize] += 1;
-}
-
-// How many corners of the sink stand at each level, on the row before the item that comes p-th. MISSING is no level of a span.
-pub fn count_loads(
-    items: &[WorkRow],
-    p: usize,
-    first: usize,
-    answers: &[u32],
-    span: Cell,
-    sink: u32,
-    loads: &mut [u32],
-)
-    requires { ⌜ RowFits (now items) p first (now answers) × (sink ≡ 4294967295 → ⊥) × (countIn span ≤ length (now loads)) × ((k : ℕ) → k < countIn span → getD (now loads) k 0 ≡ 0) ⌝ }
-    ensures { λ _. ⌜ TellsLoads span (loadAt (rowBefore (now (items .entry)) first (now (answers .entry)) p) sink) (now (loads .exit)) ⌝ }
-{
-    let key = key_at(items, p);
-    let mut k = p;
-    while asks_before(items, k, first, key) {
-        k -= 1;
-        let i = items[k][7] as usize;
-        if items[i][3] == sink {
-            add_load(answers[i - first], span, loads);
-        }
     }
 }

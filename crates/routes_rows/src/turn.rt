@@ -1,5 +1,4 @@
 // Corners, row by row: each question is answered by what is booked on its row before it. The cells that block stand in a lent slice.
-use crate::blocked::LEVELS_MOST;
 use crate::blocked::block_cells;
 use crate::blocked::clear;
 use crate::blocked::spread;
@@ -7,12 +6,13 @@ use crate::book::Cell;
 use crate::book::append;
 use crate::book::count_before;
 use crate::book::count_tested;
+use crate::loads::lay;
+use crate::loads::own_loads;
+use crate::notes::LOADS;
 use crate::notes::begin_row;
 use crate::notes::has_class;
-use crate::notes::lay;
 use crate::standing::block_row;
 use crate::standing::corner_cell;
-use crate::standing::count_loads;
 use crate::standing::row_cell;
 use base::numbers::MISSING;
 use base::rows::WorkRow;
@@ -21,6 +21,7 @@ use routes_levels::levels::STAGGER_STEP;
 use routes_levels::levels::is_within;
 use routes_levels::levels::levels_in;
 ghost use mathlib.Core.Path.{_≡_};
+ghost use mathlib.Core.List.{List};
 ghost use mathlib.Core.Bool.{Bool, false, _&&_};
 ghost use Prim.Native.Nat.{ℕ, _+_, _-_, _<_, _≤_};
 ghost use lib.Dec.{eqb, ltb, leb};
@@ -31,9 +32,9 @@ ghost use Rattle.routes.specs.Levels.{lowest, lightest};
 ghost use Rattle.routes_levels.specs.Laying.{levelAnswer};
 ghost use Rattle.routes_rows.specs.Blocked.{countIn, levelNo};
 ghost use Rattle.routes_rows.specs.Booking.{orderAt, unless, countAfter};
-ghost use Rattle.routes_rows.specs.Notes.{CLASSES, rowNo, Noted};
-ghost use Rattle.routes_rows.specs.Turning.{cornerY, clearAt, answersAfter};
-ghost use Rattle.routes_rows.specs.Entries.{inSlice, rowBefore, spanOf, spanFor, BlockedBy, BlockedFor, levelBy, TellsClear, TellsLoads, RowFits, Turnable, Weighed, Decidable, Decided, TurnsFit};
+ghost use Rattle.routes_rows.specs.Notes.{NOTES, CLASSES, rowNo, NotesFit};
+ghost use Rattle.routes_rows.specs.Turning.{Entry, cornerY, clearAt, loadAt, ofClass, answersAfter};
+ghost use Rattle.routes_rows.specs.Entries.{inSlice, rowBefore, spanOf, spanFor, BlockedBy, BlockedFor, levelBy, TellsClear, TellsLoads, RowFits, Sought, Turnable, Weighed, Decidable, Decided, TurnsFit};
 
 // As many cells of a row as the slice holds. A row with more is walked once more for each of its questions.
 const SLICE_MOST: usize = 20_480;
@@ -114,9 +115,9 @@ fn is_open(level: u32, end: u32, load: u32) -> bool
 }
 
 // K5: the lowest level that is unused and clear, or none.
-fn lowest_corner(span: Cell, ends: &[u32], loads: &[u32]) -> Found
-    requires { ⌜ (countIn span ≤ length (now ends)) × (countIn span ≤ length (now loads)) ⌝ }
-    ensures { λ r. ⌜ ((clear : ℕ → Bool) (load : ℕ → ℕ) → TellsClear span clear (now (ends .entry)) → TellsLoads span load (now (loads .entry))
+fn lowest_corner(span: Cell, notes: &[u32]) -> Found
+    requires { ⌜ (countIn span ≤ 1000) × (NOTES ≤ length (now notes)) ⌝ }
+    ensures { λ r. ⌜ ((clear : ℕ → Bool) (load : ℕ → ℕ) → TellsClear span clear (now (notes .entry)) → TellsLoads span load (now (notes .entry))
         → r ≡ levelAnswer (lowest (λ l. eqb (load l) 0 && clear l) (span .x0) (countIn span))) ⌝ }
 {
     let top = span.x1;
@@ -126,7 +127,7 @@ fn lowest_corner(span: Cell, ends: &[u32], loads: &[u32]) -> Found
         if !is_within(level, top) {
             break Found::None;
         }
-        if is_open(level, ends[k], loads[k]) {
+        if is_open(level, notes[k], notes[LOADS + k]) {
             break Found::At(level);
         }
         level += STAGGER_STEP;
@@ -136,9 +137,9 @@ fn lowest_corner(span: Cell, ends: &[u32], loads: &[u32]) -> Found
 }
 
 // K6: the least loaded level that is clear, or none. It goes from the highest down, so that the last one taken is the lowest.
-fn least_loaded_corner(span: Cell, ends: &[u32], loads: &[u32]) -> Found
-    requires { ⌜ (countIn span ≤ length (now ends)) × (countIn span ≤ length (now loads)) ⌝ }
-    ensures { λ r. ⌜ ((clear : ℕ → Bool) (load : ℕ → ℕ) → TellsClear span clear (now (ends .entry)) → TellsLoads span load (now (loads .entry))
+fn least_loaded_corner(span: Cell, notes: &[u32]) -> Found
+    requires { ⌜ (countIn span ≤ 1000) × (NOTES ≤ length (now notes)) ⌝ }
+    ensures { λ r. ⌜ ((clear : ℕ → Bool) (load : ℕ → ℕ) → TellsClear span clear (now (notes .entry)) → TellsLoads span load (now (notes .entry))
         → r ≡ levelAnswer (lightest clear load (span .x0) (countIn span))) ⌝ }
 {
     let base = span.x0;
@@ -148,8 +149,8 @@ fn least_loaded_corner(span: Cell, ends: &[u32], loads: &[u32]) -> Found
     while 0 < k {
         k -= 1;
         let level = base + STAGGER_STEP * k;
-        if ends[k as usize] <= level {
-            let load = loads[k as usize];
+        if notes[k as usize] <= level {
+            let load = notes[LOADS + k as usize];
             if load <= least {
                 best = Found::At(level);
                 least = load;
@@ -177,51 +178,31 @@ fn has_clear(span: Cell, ends: &[u32]) -> bool
     false
 }
 
-// K5, K6: the level of a corner whose row leaves one clear, or none (K7).
-fn seek_level(
-    items: &[WorkRow],
-    p: usize,
-    first: usize,
-    answers: &[u32],
-    span: Cell,
-    sink: u32,
-    class: u32,
-    notes: &[u32],
-) -> Found
-    requires { ⌜ RowFits (now items) p first (now answers) × (countIn span ≤ 1000) × Noted (rowBefore (now items) first (now answers) p) (now notes) ⌝ }
-    requires { ⌜ TellsClear span (clearAt (rowBefore (now items) first (now answers) p) (span .y0)) (now notes) × (sink ≡ 4294967295 → ⊥) × (class < CLASSES) ⌝ }
-    ensures { λ r. ⌜ r ≡ levelAnswer (levelBy (rowBefore (now (items .entry)) first (now (answers .entry)) p) span sink class) ⌝ }
+// K5, K6: the level of a corner by the ends and the loads, or none.
+fn seek_level(span: Cell, notes: &[u32]) -> Found
+    requires { ⌜ (countIn span ≤ 1000) × (NOTES ≤ length (now notes)) ⌝ }
+    ensures { λ r. ⌜ ((booked : List Entry) (sink class : ℕ) → TellsClear span (clearAt booked (span .y0)) (now (notes .entry)) → TellsLoads span (loadAt booked sink) (now (notes .entry))
+        → ofClass booked class ≡ false → r ≡ levelAnswer (levelBy booked span sink class)) ⌝ }
+{
+    if let Found::At(level) = lowest_corner(span, notes) {
+        return Found::At(level);
+    }
+    least_loaded_corner(span, notes)
+}
+
+// K5, K6: a corner's level, or none (K7), by what is noted of its row.
+fn corner_level(span: Cell, sink: u32, class: u32, notes: &mut [u32]) -> Found
+    requires { ⌜ (countIn span ≤ 1000) × NotesFit (now notes) × (sink ≡ 4294967295 → ⊥) × (class < CLASSES) ⌝ }
+    ensures { λ r. ⌜ Sought span sink class (now (notes .entry)) (now (notes .exit)) r ⌝ }
 {
     if has_class(notes, class) {
         return Found::None;
     }
-    let mut loads: [u32; 1000] = [0; LEVELS_MOST];
-    count_loads(items, p, first, answers, span, sink, &mut loads);
-    if let Found::At(level) = lowest_corner(span, notes, &loads) {
-        return Found::At(level);
-    }
-    least_loaded_corner(span, notes, &loads)
-}
-
-// K5, K6: a corner's level, or none (K7), by what is booked on the row before the item that comes p-th.
-fn corner_level(
-    items: &[WorkRow],
-    p: usize,
-    first: usize,
-    answers: &[u32],
-    span: Cell,
-    sink: u32,
-    class: u32,
-    notes: &[u32],
-) -> Found
-    requires { ⌜ RowFits (now items) p first (now answers) × (countIn span ≤ 1000) × Noted (rowBefore (now items) first (now answers) p) (now notes) ⌝ }
-    requires { ⌜ TellsClear span (clearAt (rowBefore (now items) first (now answers) p) (span .y0)) (now notes) × (sink ≡ 4294967295 → ⊥) × (class < CLASSES) ⌝ }
-    ensures { λ r. ⌜ r ≡ levelAnswer (levelBy (rowBefore (now (items .entry)) first (now (answers .entry)) p) span sink class) ⌝ }
-{
     if !has_clear(span, notes) {
         return Found::None;
     }
-    seek_level(items, p, first, answers, span, sink, class, notes)
+    own_loads(notes, sink, span.x0);
+    seek_level(span, notes)
 }
 
 // A level as an answer.
@@ -251,16 +232,7 @@ fn weigh(
     block_rest(items, p, first, answers, n, span, notes);
     let count = levels_in(span.x0, span.x1);
     spread(notes, count);
-    let found = corner_level(
-        items,
-        p,
-        first,
-        answers,
-        span,
-        items[i][3],
-        items[i][4],
-        notes,
-    );
+    let found = corner_level(span, items[i][3], items[i][4], notes);
     clear(notes, count);
     told(found)
 }

@@ -1,5 +1,6 @@
 -- One row more where none counts.
 use native.Mathlib.Omega.{arith}
+use lib.ListN.{length-set}
 use Rattle.routes_rows.proofs.NoteLaws.{begun-already, begun-anew}
 use borrow.Author.Needs.{needs}
 use Rattle.routes_rows.proofs.notes.begin_row.Statement.{statement}
@@ -13,6 +14,12 @@ add-notes c = search needs
 
 slice-write-notes : tie.Need-slice-write-notes
 slice-write-notes c = let h = c .before .before .pre .0 .long in omega (arith, h)
+
+slice-write-notes-2 : tie.Need-slice-write-notes-2
+slice-write-notes-2 c = let h = c .before .before .pre .0 .long in simp length-set (omega (arith, h))
+
+slice-write-notes-3 : tie.Need-slice-write-notes-3
+slice-write-notes-3 c = let h = c .before .before .pre .0 .long in simp length-set (omega (arith, h))
 
 same-length : tie.Need-same-length
 same-length c = search needs
@@ -30,6 +37,8 @@ begin-row-spec =
     slice-read-notes
     add-notes
     slice-write-notes
+    slice-write-notes-2
+    slice-write-notes-3
     same-length
     returns
     returns-2)

@@ -15,21 +15,21 @@ use Rattle.routes_rows.proofs.turn.lowest_corner.Statement.{statement}
 use Rattle.routes_rows.proofs.turn.lowest_corner.Tie as tie
 
 abbrev Inv-loop : tie.InvT-loop
-Inv-loop ends loads top level₀ k₀ level k =
+Inv-loop notes top level₀ k₀ level k =
     (level ≡ level₀ + STAGGER_STEP * k)
-    × ((clear : ℕ → Bool) (load : ℕ → ℕ) → TellsClear (across level₀ top) clear ends → TellsLoads (across level₀ top) load loads
+    × ((clear : ℕ → Bool) (load : ℕ → ℕ) → TellsClear (across level₀ top) clear notes → TellsLoads (across level₀ top) load notes
     → lowest (λ l. eqb (load l) 0 && clear l) level₀ (levelsIn level₀ top) ≡ lowest (λ l. eqb (load l) 0 && clear l) level (levelsIn level top))
 
 abbrev μ-loop : tie.MeasureT-loop
-μ-loop ends loads top level₀ k₀ level k = top - level
+μ-loop notes top level₀ k₀ level k = top - level
 
-within : (c : tie.Else1 Inv-loop μ-loop) → leb (c .before .before .loop .level + STAGGER_STEP) (c .before .before .before .before .before .args .span .x1) ≡ true
+within : (c : tie.Else1 Inv-loop μ-loop) → leb (c .before .before .loop .level + STAGGER_STEP) (c .before .before .before .before .args .span .x1) ≡ true
 within c = sym (c .before .is-within .ensures) ∙ not-false (c .before .is-within .result) (c .if1 .left)
 
-below : (c : tie.Else1 Inv-loop μ-loop) → c .before .before .loop .level + 2 ≤ c .before .before .before .before .before .args .span .x1
-below c = leb-true (c .before .before .loop .level + 2) (c .before .before .before .before .before .args .span .x1) (within c)
+below : (c : tie.Else1 Inv-loop μ-loop) → c .before .before .loop .level + 2 ≤ c .before .before .before .before .args .span .x1
+below c = leb-true (c .before .before .loop .level + 2) (c .before .before .before .before .args .span .x1) (within c)
 
-this : (c : tie.Else1 Inv-loop μ-loop) → c .before .before .loop .k < levelsIn (c .before .before .before .before .before .args .span .x0) (c .before .before .before .before .before .args .span .x1)
+this : (c : tie.Else1 Inv-loop μ-loop) → c .before .before .loop .k < levelsIn (c .before .before .before .before .args .span .x0) (c .before .before .before .before .args .span .x1)
 this c = omega (arith, below c, c .before .before .loop .inv .0)
 
 loop-holds : tie.Need-loop-holds Inv-loop μ-loop
@@ -39,51 +39,54 @@ is-within-requires : tie.Need-is-within-requires Inv-loop μ-loop
 is-within-requires c κs = search needs
 
 mul-is-open : tie.Need-mul-is-open Inv-loop μ-loop
-mul-is-open c = omega (arith, this c, c .before .before .before .before .before .pre .0, c .before .before .before .before .before .good)
+mul-is-open c = omega (arith, this c, c .before .before .before .before .pre .0, c .before .before .before .before .good)
 
 shared-slice-read-is-open : tie.Need-shared-slice-read-is-open Inv-loop μ-loop
-shared-slice-read-is-open c = omega (arith, this (c .before), c .before .before .before .before .before .before .pre .0)
+shared-slice-read-is-open c = omega (arith, this (c .before), c .before .before .before .before .before .pre .0, c .before .before .before .before .before .pre .1)
+
+add-is-open : tie.Need-add-is-open Inv-loop μ-loop
+add-is-open c = omega (arith, this (c .before), c .before .before .before .before .before .pre .0)
 
 mul-is-open-2 : tie.Need-mul-is-open-2 Inv-loop μ-loop
-mul-is-open-2 c = omega (arith, this (c .before), c .before .before .before .before .before .before .pre .0, c .before .before .before .before .before .before .good)
+mul-is-open-2 c = omega (arith, this (c .before), c .before .before .before .before .before .pre .0, c .before .before .before .before .before .good)
 
 shared-slice-read-is-open-2 : tie.Need-shared-slice-read-is-open-2 Inv-loop μ-loop
-shared-slice-read-is-open-2 c = omega (arith, this (c .before .before), c .before .before .before .before .before .before .before .pre .1)
+shared-slice-read-is-open-2 c = omega (arith, this (c .before .before), c .before .before .before .before .before .before .pre .0, c .before .before .before .before .before .before .pre .1)
 
 is-open-requires : tie.Need-is-open-requires Inv-loop μ-loop
 is-open-requires c κs = search needs
 
 add-level : tie.Need-add-level Inv-loop μ-loop
-add-level c = omega (arith, below (c .before .before .before .before), c .before .before .before .before .before .before .before .before .before .good)
+add-level c = omega (arith, below (c .before .before .before .before), c .before .before .before .before .before .before .before .before .good)
 
 add-k : tie.Need-add-k Inv-loop μ-loop
-add-k c = omega (arith, this (c .before .before .before .before), c .before .before .before .before .before .before .before .before .before .pre .0)
+add-k c = omega (arith, this (c .before .before .before .before), c .before .before .before .before .before .before .before .before .pre .0)
 
 loop-less : tie.Need-loop-less Inv-loop μ-loop
 loop-less c = omega (arith, below (c .before .before .before .before))
 
 loop-again : tie.Need-loop-again Inv-loop μ-loop
 loop-again c =
-    let a = c .before .before .before .before .before .before .before .before .before .args in
+    let a = c .before .before .before .before .before .before .before .before .args in
     let l = c .before .before .before .before .before .before .loop in (
       omega (arith, l .inv .0),
       λ clear load h g. l .inv .1 clear load h g ∙ lowest-next (λ x. eqb (load x) 0 && clear x) (l .level) (a .span .x1) (within (c .before .before .before .before))
-          (sym (open-at clear load (a .ends .now) (a .loads .now) (a .span .x0) (a .span .x1) (l .k) (l .level) (c .before .is-open .result) h g (l .inv .0) (this (c .before .before .before .before)) (c .before .is-open .ensures)) ∙ c .if2 .left),
+          (sym (open-at clear load (a .notes .now) (a .span .x0) (a .span .x1) (l .k) (l .level) (c .before .is-open .result) h g (l .inv .0) (this (c .before .before .before .before)) (c .before .is-open .ensures)) ∙ c .if2 .left),
     )
 
 returns : tie.Need-returns Inv-loop μ-loop
 returns c = λ clear load h g.
-    let a = c .before .before .before .before .before .args in
+    let a = c .before .before .before .before .args in
     let l = c .before .before .loop in
     let out = sym (c .before .is-within .ensures) ∙ not-true (c .before .is-within .result) (c .if1 .taken) in
     sym (ap levelAnswer (l .inv .1 clear load h g ∙ lowest-none (λ x. eqb (load x) 0 && clear x) (l .level) (a .span .x1) out))
 
 returns-2 : tie.Need-returns-2 Inv-loop μ-loop
 returns-2 c = λ clear load h g.
-    let a = c .before .before .before .before .before .before .before .before .before .args in
+    let a = c .before .before .before .before .before .before .before .before .args in
     let l = c .before .before .before .before .before .before .loop in
     sym (ap levelAnswer (l .inv .1 clear load h g ∙ lowest-here (λ x. eqb (load x) 0 && clear x) (l .level) (a .span .x1) (within (c .before .before .before .before))
-    (sym (open-at clear load (a .ends .now) (a .loads .now) (a .span .x0) (a .span .x1) (l .k) (l .level) (c .before .is-open .result) h g (l .inv .0) (this (c .before .before .before .before)) (c .before .is-open .ensures)) ∙ c .if2 .taken)))
+    (sym (open-at clear load (a .notes .now) (a .span .x0) (a .span .x1) (l .k) (l .level) (c .before .is-open .result) h g (l .inv .0) (this (c .before .before .before .before)) (c .before .is-open .ensures)) ∙ c .if2 .taken)))
 
 pub lowest-corner-spec : {M : Type 1} → statement M
 lowest-corner-spec =
@@ -95,6 +98,7 @@ lowest-corner-spec =
     is-within-requires
     mul-is-open
     shared-slice-read-is-open
+    add-is-open
     mul-is-open-2
     shared-slice-read-is-open-2
     is-open-requires

@@ -6,6 +6,7 @@ use lib.ListN.{length}
 use Rattle.routes_rows.specs.Booking.{orderAt}
 use Rattle.routes_rows.specs.Entries.{Askable}
 use Rattle.routes_rows.proofs.Deciding.{decided-corner}
+use Rattle.routes_rows.proofs.NoteLaws.{notes-fit}
 use borrow.Author.Needs.{needs}
 use Rattle.routes_rows.proofs.turn.turn.Statement.{statement}
 use Rattle.routes_rows.proofs.turn.turn.Tie as tie
@@ -62,7 +63,11 @@ index-2-lay-2 : tie.Need-index-2-lay-2
 index-2-lay-2 c = search needs
 
 lay-requires : tie.Need-lay-requires
-lay-requires c κs = (c .before .before .before .before .before .before .weigh .ensures .noted .low .long, asks-here (c .before .before .before .before .before .before .before .before .before .before .before) .classFew)
+lay-requires c κs =
+    let w = c .before .before .before .before .before .before .weigh .ensures .noted in
+    let most = c .before .before .before .before .before .before .before .before .before .before .before .pre .row .few (c .before .before .before .before .before .before .before .before .before .before .before .args .p) (omega arith) (c .before .before .before .before .before .before .before .before .before .before .before .pre .question) in
+    let f = w .few in
+    (notes-fit (omega (arith, most)) w, omega (arith, f, most), asks-here (c .before .before .before .before .before .before .before .before .before .before .before) .hasSink, asks-here (c .before .before .before .before .before .before .before .before .before .before .before) .classFew)
 
 mul-corner-cell : tie.Need-mul-corner-cell
 mul-corner-cell c = omega (arith, order-here (c .before .before .before .before .before .before .before .before .before .before .before .before .before .before), c .before .before .before .before .before .before .before .before .before .before .before .before .before .before .good)

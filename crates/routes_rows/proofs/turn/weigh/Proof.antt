@@ -6,10 +6,10 @@ use lib.ListN.{length}
 use Rattle.routes_rows.specs.Blocked.{countIn}
 use Rattle.routes_rows.specs.Booking.{orderAt}
 use Rattle.routes_rows.specs.Entries.{rowBefore, BlockedFor, Askable}
-use Rattle.routes_rows.specs.Notes.{SamePast}
+use Rattle.routes_rows.specs.Notes.{Noted, SamePast}
 use Rattle.routes_rows.specs.declared.book.Cell.{Cell}
 use Rattle.routes_rows.proofs.Deciding.{ends-tell, weighed-by}
-use Rattle.routes_rows.proofs.NoteLaws.{noted-same}
+use Rattle.routes_rows.proofs.NoteLaws.{noted-same, notes-fit}
 use borrow.Author.Needs.{needs}
 use Rattle.routes_rows.proofs.turn.weigh.Statement.{statement}
 use Rattle.routes_rows.proofs.turn.weigh.Tie as tie
@@ -78,26 +78,25 @@ index-1-corner-level-2 c = order-here (c .before .before .before .before .before
 index-2-corner-level-2 : tie.Need-index-2-corner-level-2
 index-2-corner-level-2 c = search needs
 
+noted-spread : (c : tie.After-spread) → Noted (rowBefore (c .before .before .before .before .before .before .before .before .before .before .before .args .items .now) (c .before .before .before .before .before .before .before .before .before .before .before .args .first) (c .before .before .before .before .before .before .before .before .before .before .before .args .answers .now) (c .before .before .before .before .before .before .before .before .before .before .before .args .p)) (orderAt (c .before .before .before .before .before .before .before .before .before .before .before .args .items .now) (c .before .before .before .before .before .before .before .before .before .before .before .args .p) - c .before .before .before .before .before .before .before .before .before .before .before .args .first) (c .spread .last .0)
+noted-spread c = noted-same (c .spread .ensures .long ∙ c .before .before .before .before .before .block-rest .ensures .0) (past-spread c) (c .before .before .before .before .before .before .before .before .before .before .before .pre .noted)
+
 corner-level-requires : tie.Need-corner-level-requires
 corner-level-requires c κs =
-    let a = c .before .before .before .before .before .before .before .before .before .before .before .before .before .before .before .before .args in
-    let s = c .before .before .before .before .before .before .before .before .before .before .before .before .span-at in
     let asks = asks-here (c .before .before .before .before .before .before .before .before .before .before .before .before .before .before .before .before) in
-    let high = ap (λ (s : Cell). s .y1) (s .ensures) ∙ sym (ap (λ (s : Cell). s .y0 + 2) (s .ensures)) in
-    let h = few (c .before .before .before .before .before .before .before .before .before .before .before .before) in (
-      (c .before .before .before .before .before .before .before .before .before .before .before .before .before .before .before .before .pre .row, h, noted-same (c .before .before .before .before .before .spread .ensures .long ∙ c .before .before .before .before .before .before .before .before .before .before .block-rest .ensures .0) (past-spread (c .before .before .before .before .before)) (c .before .before .before .before .before .before .before .before .before .before .before .before .before .before .before .before .pre .noted)),
-      (ends-tell (s .result) (rowBefore (a .items .now) (a .first) (a .answers .now) (a .p)) _ _ (c .before .before .before .before .before .before .before .levels-in .result) high (c .before .before .before .before .before .before .before .levels-in .ensures) (c .before .before .before .before .before .before .before .before .before .before .block-rest .ensures .1) (c .before .before .before .before .before .spread .ensures), asks .hasSink, asks .classFew),
-    )
+    let most = c .before .before .before .before .before .before .before .before .before .before .before .before .before .before .before .before .pre .row .few (c .before .before .before .before .before .before .before .before .before .before .before .before .before .before .before .before .args .p) (omega arith) (c .before .before .before .before .before .before .before .before .before .before .before .before .before .before .before .before .pre .question) in
+    (few (c .before .before .before .before .before .before .before .before .before .before .before .before), notes-fit (omega (arith, most)) (noted-spread (c .before .before .before .before .before)), asks .hasSink, asks .classFew)
 
 clear-requires : tie.Need-clear-requires
 clear-requires c κs =
-    let h = few (c .before .before .before .before .before .before .before .before .before .before .before .before .before .before) in
-    let l = c .before .before .before .before .before .before .before .before .before .before .before .before .before .before .before .before .before .before .pre .noted .low .long in
-    let e = c .before .before .before .before .before .before .before .before .before .levels-in .ensures in
-    let f = ap countIn (c .before .before .before .before .before .before .before .before .before .before .before .before .before .before .span-at .ensures) in
-    let s = c .before .before .before .before .before .before .before .spread .ensures in
-    let b = c .before .before .before .before .before .before .before .before .before .before .before .before .block-rest .ensures in
-    (omega (arith, h, e, s .long, b .0, l), λ k high low. s .rest k high ∙ b .2 k (omega (arith, e, high)) ∙ c .before .before .before .before .before .before .before .before .before .before .before .before .before .before .before .before .before .before .pre .past k (omega (arith, e, f, high)) low)
+    let h = few (c .before .before .before .before .before .before .before .before .before .before .before .before .before .before .before .before) in
+    let l = c .before .before .before .before .before .before .before .before .before .before .before .before .before .before .before .before .before .before .before .before .pre .noted .low .long in
+    let e = c .before .before .before .before .before .before .before .before .before .before .before .levels-in .ensures in
+    let f = ap countIn (c .before .before .before .before .before .before .before .before .before .before .before .before .before .before .before .before .span-at .ensures) in
+    let s = c .before .before .before .before .before .before .before .before .before .spread .ensures in
+    let b = c .before .before .before .before .before .before .before .before .before .before .before .before .before .before .block-rest .ensures in
+    let k = c .before .before .before .corner-level .ensures in
+    (omega (arith, h, e, k .long, s .long, b .0, l), λ i high low. k .ends i low ∙ s .rest i high ∙ b .2 i (omega (arith, e, high)) ∙ c .before .before .before .before .before .before .before .before .before .before .before .before .before .before .before .before .before .before .before .before .pre .past i (omega (arith, e, f, high)) low)
 
 told-requires : tie.Need-told-requires
 told-requires c κs = search needs
@@ -107,12 +106,20 @@ same-length c = search needs
 
 returns : tie.Need-returns
 returns c =
-    let a = c .before .before .before .before .before .before .before .before .before .before .before .before .before .before .before .before .before .before .before .before .before .before .args in
-    let s = c .before .before .before .before .before .before .before .before .before .before .before .before .before .before .before .before .before .before .span-at in
-    let h = few (c .before .before .before .before .before .before .before .before .before .before .before .before .before .before .before .before .before .before) in
-    weighed-by (a .items .now) (a .p) (a .first) (a .answers .now) (a .notes .now) _ (s .result) (c .before .before .before .before .before .corner-level .result) (c .told .result) (s .ensures) (omega (arith, s .ok)) (c .before .before .before .before .before .corner-level .ensures) (c .told .ensures)
-    (c .before .before .before .clear .ensures .0 ∙ c .before .before .before .before .before .before .before .before .before .before .before .spread .ensures .long ∙ c .before .before .before .before .before .before .before .before .before .before .before .before .before .before .before .before .block-rest .ensures .0) (c .before .before .before .clear .ensures .1)
-    (λ k high. c .before .before .before .clear .ensures .2 k (omega (arith, h, high, c .before .before .before .before .before .before .before .before .before .before .before .before .before .levels-in .ensures)) ∙ past-spread (c .before .before .before .before .before .before .before .before .before .before .before) k high) (c .before .before .before .before .before .before .before .before .before .before .before .before .before .before .before .before .before .before .before .before .before .before .pre .noted)
+    let a = c .before .before .before .before .before .before .before .before .before .before .before .before .before .before .before .before .before .before .before .before .before .before .before .before .args in
+    let s = c .before .before .before .before .before .before .before .before .before .before .before .before .before .before .before .before .before .before .before .before .span-at in
+    let h = few (c .before .before .before .before .before .before .before .before .before .before .before .before .before .before .before .before .before .before .before .before) in
+    let e = c .before .before .before .before .before .before .before .before .before .before .before .before .before .before .before .levels-in .ensures in
+    let k = c .before .before .before .before .before .before .before .corner-level .ensures in
+    let cleared = c .before .before .before .clear .ensures in
+    let booked = rowBefore (a .items .now) (a .first) (a .answers .now) (a .p) in
+    let most = orderAt (a .items .now) (a .p) - a .first in
+    let high = ap (λ (s : Cell). s .y1) (s .ensures) ∙ sym (ap (λ (s : Cell). s .y0 + 2) (s .ensures)) in
+    let clear = ends-tell (s .result) booked _ _ (c .before .before .before .before .before .before .before .before .before .before .before .before .before .before .before .levels-in .result) high e (c .before .before .before .before .before .before .before .before .before .before .before .before .before .before .before .before .before .before .block-rest .ensures .1) (c .before .before .before .before .before .before .before .before .before .before .before .before .before .spread .ensures) in
+    let noted = noted-spread (c .before .before .before .before .before .before .before .before .before .before .before .before .before) in
+    weighed-by (a .items .now) (a .p) (a .first) (a .answers .now) (a .notes .now) _ (s .result) (c .before .before .before .before .before .before .before .corner-level .result) (c .told .result) (s .ensures) (omega (arith, s .ok)) (k .tells booked most noted clear) (c .told .ensures)
+    (cleared .0 ∙ k .long ∙ c .before .before .before .before .before .before .before .before .before .before .before .before .before .spread .ensures .long ∙ c .before .before .before .before .before .before .before .before .before .before .before .before .before .before .before .before .before .before .block-rest .ensures .0) (cleared .1)
+    (cleared .2 9192 (omega (arith, h, e)) ∙ k .rows ∙ past-spread (c .before .before .before .before .before .before .before .before .before .before .before .before .before) 9192 (omega arith)) (noted-same (cleared .0) (λ i above. cleared .2 i (omega (arith, h, e, above))) (k .noted booked most noted))
 
 pub weigh-spec : {M : Type 1} → statement M
 weigh-spec =
