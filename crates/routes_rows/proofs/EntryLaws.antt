@@ -1,5 +1,5 @@
 -- What a row tells, read back from the item whose turn it is: cells that block. Assumes nothing.
-use Prim.Native.Nat.{ℕ, zero, suc, _+_, _-_, _*_, _/_, _≤_, _<_}
+use Prim.Native.Nat.{ℕ, zero, suc, _+_, _-_, _*_, _≤_, _<_}
 use mathlib.Core.Path.{_≡_, refl, ap, ap₂, sym, subst, _∙_}
 use mathlib.Core.Bool.{Bool, true, false, not, _&&_, _||_}
 use mathlib.Core.List.{List, [], _∷_}
@@ -7,19 +7,19 @@ use native.Mathlib.Omega.{arith}
 use native.Mathlib.Numerals.{add-one}
 use lib.Dec.{eqb, ltb, leb}
 use lib.ListN.{length, getD, set}
-use lib.Seq.{getD-set-same, getD-set-other}
-use borrow.Author.Tests.{eqb-true, eqb-false, eq-eqb, ne-eqb, ltb-false, lt-ltb, le-ltb, lt-leb, leb-true, leb-false}
+use lib.Seq.{getD-set-other}
+use borrow.Author.Tests.{eqb-true, eqb-false, ne-eqb, ltb-false, lt-ltb, le-ltb, lt-leb}
 use Rattle.sheet.specs.Table.{MISSING}
-use Rattle.base.specs.Lists.{Found, none, at, keep}
-use Rattle.base.proofs.Bools.{and-left, and-right, false-first, neither, either-left, clash, pick-true, pick-false}
+use Rattle.base.specs.Lists.{at, keep}
+use Rattle.base.proofs.Bools.{false-first, neither, clash, pick-true, pick-false}
 use Rattle.board.specs.Rows
 use Rattle.board.specs.Rows.{cellsOverlap}
 use Rattle.routes.specs.Levels.{levelsIn}
 use Rattle.routes_rows.specs.Booking.{cellOf, keyOf, orderAt, begins, countAfter}
-use Rattle.routes_rows.specs.Blocked.{countIn, levelNo, cornerCell, blocked, Blocks, cellMeets}
+use Rattle.routes_rows.specs.Blocked.{countIn, cornerCell, blocked, Blocks, cellMeets}
 use Rattle.routes_rows.specs.Notes.{loadNo, AllPlain}
-use Rattle.routes_rows.specs.Turning.{Entry, sinkIn, loadAt, ofClass, entriesOn}
-use Rattle.routes_rows.specs.Entries.{LEVELS_END, levelIn, cellEntry, ifFound, cornerEntry, entryAt, seen, rowBefore, followsRow, entriesMeet, BlockedBy, BlockedFor, TellsClear, TellsLoads, RowFits}
+use Rattle.routes_rows.specs.Turning.{Entry, loadAt, ofClass, entriesOn}
+use Rattle.routes_rows.specs.Entries.{levelIn, cellEntry, cornerEntry, entryAt, seen, rowBefore, followsRow, entriesMeet, BlockedBy, BlockedFor, TellsClear, TellsLoads, RowFits}
 use Rattle.routes_rows.specs.declared.book.Cell.{Cell}
 use Rattle.routes_rows.proofs.Blocking.{or-no, or-both, or-more}
 

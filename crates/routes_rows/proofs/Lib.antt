@@ -7,5 +7,6 @@ pub mod EntryLaws
 pub mod LoadLaws
 pub mod Local
 pub mod NoteLaws
+pub mod Standings
 pub mod Turns
 pub mod Typed

@@ -11,7 +11,7 @@ use borrow.Author.Tests.{eqb-true, eqb-false, eq-eqb, ne-eqb}
 use Rattle.sheet.specs.Table.{MISSING}
 use Rattle.base.proofs.Bools.{and-left, and-right, false-first}
 use Rattle.routes_rows.specs.Booking.{countAfter}
-use Rattle.routes_rows.specs.Notes.{NOTES, CLASSES, listed, ownerOf, ownerX, loadNo, pairSink, pairLevel, pairLoad, Owned, NotesFit, LoadsOnly, Added, Owns, Raised, Listed}
+use Rattle.routes_rows.specs.Notes.{NOTES, CLASSES, listed, ownerOf, ownerX, loadNo, pairSink, pairLevel, pairLoad, NotesFit, LoadsOnly, Added, Owns, Raised, Listed}
 
 -- ---- corners listed
 pub pair-few : (notes : List ℕ) (n sink level : ℕ) → pairLoad notes n sink level ≤ n

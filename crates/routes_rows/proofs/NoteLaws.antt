@@ -2,7 +2,7 @@
 use Prim.Native.Nat.{ℕ, zero, suc, _+_, _*_, _≤_, _<_}
 use mathlib.Core.Path.{_≡_, refl, ap, ap₂, sym, subst, _∙_}
 use mathlib.Core.Bool.{Bool, true, false, _&&_, _||_}
-use mathlib.Core.List.{List, [], _∷_}
+use mathlib.Core.List.{List, _∷_}
 use native.Mathlib.Omega.{arith}
 use native.Mathlib.Numerals.{add-one}
 use lib.Dec.{eqb, ltb}
@@ -14,9 +14,9 @@ use Rattle.base.specs.Lists.{Found, none, at}
 use Rattle.base.proofs.Bools.{either-left, false-first, pick-true, pick-false}
 use Rattle.routes_rows.specs.Blocked.{countIn, levelNo, beyond, blocked, NoEnds, NoEndsPast}
 use Rattle.routes_rows.specs.Booking.{countAfter}
-use Rattle.routes_rows.specs.Notes.{NOTES, CLASSES, stampOf, rowNo, listed, ownerOf, ownerX, loadNo, pairSink, pairLevel, pairLoad, Owned, Plain, AllPlain, NotesLow, Noted, NotesFit, SamePast, Begun, LoadsOnly, Owns, Raised, Listed}
+use Rattle.routes_rows.specs.Notes.{NOTES, CLASSES, stampOf, rowNo, listed, ownerOf, ownerX, loadNo, pairLoad, Owned, Plain, NotesLow, Noted, NotesFit, SamePast, Begun, Owns, Raised, Listed}
 use Rattle.routes_rows.specs.Turning.{Entry, loadAt, ofClass}
-use Rattle.routes_rows.specs.Entries.{LEVELS_END, levelIn, cornerFor, BlockedFor, TellsLoads, Laid}
+use Rattle.routes_rows.specs.Entries.{LEVELS_END, cornerFor, BlockedFor, TellsLoads, Laid}
 use Rattle.routes_rows.specs.declared.book.Cell.{Cell}
 use Rattle.routes_rows.proofs.EntryLaws.{plain-class, plain-load, load-more}
 use Rattle.routes_rows.proofs.LoadLaws.{pair-few, pair-same}

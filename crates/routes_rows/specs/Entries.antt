@@ -22,7 +22,7 @@ use Rattle.routes_rows.specs.declared.book.Cell.{Cell}
 
 -- As many cells as the slice holds; and of n cells, how many are in it.
 abbrev pub SLICE_MOST : ℕ
-SLICE_MOST = 20480
+SLICE_MOST = 12800
 
 abbrev pub inSlice : ℕ → ℕ
 inSlice n = elim (ltb n SLICE_MOST) [ true ↦ n | false ↦ SLICE_MOST ]

@@ -36,8 +36,8 @@ ghost use Rattle.routes_rows.specs.Notes.{NOTES, CLASSES, rowNo, NotesFi
 ghost use Rattle.routes_rows.specs.Turning.{Entry, cornerY, clearAt, loadAt, ofClass, answersAfter};
 ghost use Rattle.routes_rows.specs.Entries.{inSlice, rowBefore, spanOf, spanFor, BlockedBy, BlockedFor, levelBy, TellsClear, TellsLoads, RowFits, Sought, Turnable, Weighed, Decidable, Decided, TurnsFit};
 
-// As many cells of a row as the slice holds. A row with more is walked once more for each of its questions.
-const SLICE_MOST: usize = 20_480;
+// As many cells of a row as the slice holds: as many as a board has bricks, wires and sources. A row with more, by a bus handed in, is walked once more for each of its questions.
+const SLICE_MOST: usize = 12_800;
 
 // Of n cells of a row, how many are in the slice.
 fn slots(n: usize) -> usize

@@ -2,7 +2,6 @@
 use native.Mathlib.Omega.{arith}
 use lib.ListN.{length-set}
 use Rattle.routes_rows.proofs.NoteLaws.{laid-corner}
-use borrow.Author.Needs.{needs}
 use Rattle.routes_rows.proofs.loads.lay_corner.Statement.{statement}
 use Rattle.routes_rows.proofs.loads.lay_corner.Tie as tie
 

@@ -1,7 +1,7 @@
 -- None where the class stands, or no level is clear; else what is sought.
 use mathlib.Core.Path.{refl, sym, _∙_}
 use native.Mathlib.Omega.{arith}
-use borrow.Author.Tests.{not-true, not-false}
+use borrow.Author.Tests.{not-true}
 use Rattle.routes_rows.specs.Turning.{clearAt}
 use Rattle.routes_rows.proofs.Deciding.{level-taken, level-closed, clear-kept}
 use Rattle.routes_rows.proofs.NoteLaws.{noted-owns, tells-loads}

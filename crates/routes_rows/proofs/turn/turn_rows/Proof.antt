@@ -1,5 +1,5 @@
 -- `turn_rows` meets its contract: a walk of its MIR, by hand. It owns the array of cells. In a turn the array is lent as a slice to `block_cells` and as a `&mut` slice to `append`, each for a lifetime that is made for the call,
--- and the ends and the answers are lent again to `block_cells` and `decide`; the other calls read the items. What the calls say is put together by `Deciding`.
+-- and the ends and the answers are lent again to `block_cells` and `decide`; the other calls read the items. What the calls say is put together by `Standings`.
 -- Assumes nothing.
 use mathlib.Core.Path.{_≡_, refl, sym, _∙_, ap, subst}
 use Prim.Native.Nat.{ℕ, _+_, _-_, _<_, _≤_, _^_}
@@ -60,7 +60,7 @@ use Rattle.routes_rows.specs.Turning.{cornerY, answersAfter}
 use Rattle.routes_rows.specs.declared.book.Cell.{Cell}
 use Rattle.routes_rows.proofs.Again.{LentAgain, lends-again, comes-back}
 use Rattle.routes_rows.proofs.Blocking.{either}
-use Rattle.routes_rows.proofs.Deciding.{Standing, Turning, standing-start, before-few, counted-few, span-few, decidable, turned}
+use Rattle.routes_rows.proofs.Standings.{Standing, Turning, standing-start, before-few, counted-few, span-few, decidable, turned}
 use Rattle.routes_rows.proofs.Local.{big, roomy, typed-many, Cells, arr-in, arr-out}
 use Rattle.routes_rows.proofs.Typed.{R, cellTy, refTy, mutTy, mach, tells, Good, good, good-at, makes, seen, typed, typed-at}
 use Rattle.routes_rows.proofs.book.count_before as cb
