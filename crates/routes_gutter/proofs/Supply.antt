@@ -164,6 +164,7 @@ module _ {b : Board} {ps : List PageLanes} {pages nodes wires facts groups taps 
   taps-fit =
       record {
         room = let c = r .count in let w = r .wireRoom .2 in omega arith;
+        few = let c = r .count in let w = few-wires in omega arith;
         fits = λ k h.
             let mem : Mem (tapIn (getD taps k [])) (tapsOf b) = subst (Mem (tapIn (getD taps k []))) (r .taps-are) (view-mem tapIn taps m k h) in
             let g = group-in (tapIn (getD taps k [])) mem in

@@ -1,6 +1,7 @@
 pub mod EndLaws
 pub mod LayLaws
 pub mod LevelLaws
+pub mod NearLaws
 pub mod PageLaws
 pub mod Paging
 pub mod PickLaws

@@ -1,5 +1,5 @@
 -- How the code of stops and levels holds its taps and stops. No rule stands here.
-use Prim.Native.Nat.{ℕ, suc, _≤_, _<_}
+use Prim.Native.Nat.{ℕ, suc, _%_, _≤_, _<_}
 use mathlib.Core.Path.{_≡_}
 use mathlib.Core.Bool.{true, false}
 use mathlib.Core.List.{List, [], List·Memᴰ}
@@ -40,10 +40,19 @@ pub record GroupFits (nodes facts groups : List (List ℕ)) (g : ℕ) : Type 0 w
   pub wire : g < length facts
   pub source : field facts g 2 < length nodes
 
--- The first m rows of a table of taps name groups that fit.
+-- The first m rows of a table of taps name groups that fit. Each tap is of a wire of its own, so they are few (S12).
 pub record TapsFit (nodes facts groups taps : List (List ℕ)) (m : ℕ) : Type 0 where
   pub room : m ≤ length taps
+  pub few : m ≤ WIRES_MOST
   pub fits : (k : ℕ) → k < m → GroupFits nodes facts groups (field taps k 1)
+
+-- The row whose number stands behind a packed key.
+abbrev pub rowAt : List (List ℕ) → ℕ → List ℕ
+rowAt rows key = getD rows (key % WIRES_MOST) []
+
+-- Each of the first n keys has its own number behind it.
+abbrev pub Numbered : List ℕ → ℕ → Type 0
+Numbered keys n = (i : ℕ) → i < n → getD keys i 0 % WIRES_MOST ≡ i
 
 -- What the tables hold is the board's: its nodes, the anchors of its wires, and the lanes and x of the groups of its taps.
 pub record Tabled (b : Board) (ts : List Tap) (ps : List PageLanes) (nodes facts groups : List (List ℕ)) : Type 0 where

@@ -1,19 +1,21 @@
 // Stops: which groups are laid, and their taps in the order of laying.
+use base::keys::sort_keys;
 use base::numbers::MISSING;
 use base::rows::Record;
 use base::rows::WorkRow;
 ghost use mathlib.Core.Path.{_≡_};
 ghost use mathlib.Core.List.{List, List·Memᴰ, map};
-ghost use Prim.Native.Nat.{_≤_, min, max};
-ghost use lib.ListN.{length, take};
+ghost use Prim.Native.Nat.{ℕ, _%_, _≤_, _<_, min, max};
+ghost use lib.ListN.{length, getD, take};
 ghost use Rattle.base.specs.Lists.{keep};
+ghost use Rattle.base.specs.Sort.{sortedRows};
 ghost use Rattle.board.specs.Board.{Board};
 ghost use Rattle.board.specs.Groups.{Tap};
 ghost use Rattle.board.specs.Demands.{PageLanes};
 ghost use Rattle.base.specs.Views.{view};
 ghost use Rattle.board.specs.Tables.{tapIn, tapRow};
 ghost use Rattle.routes.specs.Stops.{longEnough, isLaid, laidTaps};
-ghost use Rattle.routes_levels.specs.Laying.{GroupFits, TapsFit, Tabled};
+ghost use Rattle.routes_levels.specs.Laying.{GroupFits, TapsFit, Tabled, WIRES_MOST, rowAt, Numbered};
 use base::sort::sort_rows;
 
 // A lane whose source and taps span less is already a short hop.
@@ -97,6 +99,55 @@ fn pick_laid(
     n
 }
 
+// A row's number stands behind its packed place.
+const NUMBERS: u64 = 8192;
+
+// Page, group and row of tap i in one number, 6, 13 and 12 bits, then i. The tap's row is the one with number i, whatever the bits in front of it say.
+fn pack_place(tap: [u32; 8], i: usize) -> u64
+    requires { ⌜ i < WIRES_MOST ⌝ }
+    ensures { λ r. ⌜ r % WIRES_MOST ≡ i ⌝ }
+{
+    let group = (tap[0] % 64) as u64 * 8_192 + (tap[1] % 8_192) as u64;
+    (group * 4_096 + (tap[2] % 4_096) as u64) * NUMBERS + i as u64
+}
+
+// The packed places of the first n rows.
+fn fill_keys(rows: &[WorkRow], n: usize, keys: &mut [u64])
+    requires { ⌜ (n ≤ length (now rows)) × (n ≤ length (now keys)) × (n ≤ WIRES_MOST) ⌝ }
+    ensures { λ _. ⌜ Numbered (now (keys .exit)) n ⌝ }
+{
+    let mut i: usize = 0;
+    while i < n {
+        keys[i] = pack_place(rows[i], i);
+        i += 1;
+    }
+}
+
+// Copies the rows whose numbers stand behind the keys.
+fn copy_along(keys: &[u64], n: usize, from: &[WorkRow], to: &mut [WorkRow])
+    requires { ⌜ (n ≤ length (now keys)) × (n ≤ length (now to)) ⌝ }
+    requires { ⌜ ((p : ℕ) → p < n → getD (now keys) p 0 % WIRES_MOST < length (now from)) ⌝ }
+    ensures { λ _. ⌜ take n (now (to .exit)) ≡ map (rowAt (now (from .entry))) (take n (now (keys .entry))) ⌝ }
+{
+    let mut p: usize = 0;
+    while p < n {
+        to[p] = from[(keys[p] % NUMBERS) as usize];
+        p += 1;
+    }
+}
+
+// Copies the first n rows nearly in the order of T2: by page, group and row. Sorting them all the way then hardly moves a row.
+fn bring_near(from: &[WorkRow], n: usize, to: &mut [WorkRow])
+    requires { ⌜ (n ≤ length (now from)) × (n ≤ length (now to)) × (n ≤ WIRES_MOST) ⌝ }
+    ensures { λ _. ⌜ sortedRows (take n (now (to .exit))) ≡ sortedRows (take n (now (from .entry))) ⌝ }
+{
+    let mut keys = [0u64; 8192];
+    let mut spare = [0u64; 8192];
+    fill_keys(from, n, &mut keys);
+    sort_keys(&mut keys[..n], &mut spare);
+    copy_along(&keys, n, from, to);
+}
+
 // The taps of the laid groups in the order of laying, in the first rows of `laid`: how many there are.
 pub fn lay_taps(
     nodes: &[Record],
@@ -114,7 +165,8 @@ pub fn lay_taps(
         → Tabled b (view tapIn (now (taps .entry)) m) ps (now (nodes .entry)) (now (facts .entry)) (now (groups .entry))
         → view tapIn (now (laid .exit)) n ≡ laidTaps b (view tapIn (now (taps .entry)) m) ps) ⌝ }
 {
-    let n = pick_laid(nodes, facts, groups, taps, m, laid);
+    let n = pick_laid(nodes, facts, groups, taps, m, spare);
+    bring_near(spare, n, laid);
     sort_rows(&mut laid[..n], spare);
     n
 }
