@@ -125,6 +125,12 @@ module _ (l cell : Cell) (first count : ℕ) (is : first ≡ (cell .x0 - l .x0) 
         rest = λ k high. let h = within-first e in getD-set-other ends first k (larger (getD ends first 0) (cell .x1)) 0 (λ z. omega (arith, z, h, high));
       }
 
+  pub cell-left : (ends : List ℕ) → cell .x1 ≤ l .x0 → Blocks l (cellMeets cell l) ends ends
+  unfolding cellsOverlap
+  cell-left ends h =
+      blocks-none l ends (cellMeets cell l)
+      (λ k low. ap (λ t. t && ltb (cell .x0) (levelNo l k + 2) && ltb (l .y0) (cell .y1) && ltb (cell .y0) (l .y1)) (le-ltb (levelNo l k) (cell .x1) (omega (arith, h))))
+
   pub cell-passed : (ends : List ℕ) → within ≡ false → Blocks l (cellMeets cell l) ends ends
   cell-passed ends e = blocks-none l ends (cellMeets cell l) (λ k low. meets k low ∙ ap (λ t. t && (ltb first (suc k) && ltb (levelNo l k) (cell .x1))) e)
 

@@ -29,17 +29,21 @@ pub fn first_level(x: u32, x0: u32) -> u32
     (x0 - x) / 2
 }
 
-// A cell blocks the levels that it overlaps: from the first one on, as far as its end. Most cells of a crowded row lie above or below, so y is asked first.
+// A cell blocks the levels that it overlaps: from the first one on, as far as its end. Most cells of a crowded row lie above or below, left or right of the span, so that is asked first.
 pub fn block(ends: &mut [u32], span: Cell, cell: Cell)
     requires { ⌜ countIn span ≤ length (now ends) ⌝ }
     ensures { λ _. ⌜ Blocks span (cellMeets cell span) (now (ends .entry)) (now (ends .exit)) ⌝ }
 {
     if span.y0 < cell.y1 {
         if cell.y0 < span.y1 {
-            let first = first_level(span.x0, cell.x0);
-            if first < levels_in(span.x0, span.x1) {
-                let k = first as usize;
-                ends[k] = larger(ends[k], cell.x1);
+            if span.x0 < cell.x1 {
+                if cell.x0 < span.x1 {
+                    let first = first_level(span.x0, cell.x0);
+                    if first < levels_in(span.x0, span.x1) {
+                        let k = first as usize;
+                        ends[k] = larger(ends[k], cell.x1);
+                    }
+                }
             }
         }
     }

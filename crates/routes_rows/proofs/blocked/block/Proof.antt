@@ -4,13 +4,13 @@ use mathlib.Core.Path.{refl, sym, subst}
 use native.Mathlib.Omega.{arith}
 use lib.ListN.{length, set}
 use Rattle.routes_rows.specs.Blocked.{countIn, Blocks, cellMeets}
-use Rattle.routes_rows.proofs.Blocking.{within-all, within-below, within-above, within-beside, cell-blocks, cell-passed}
+use Rattle.routes_rows.proofs.Blocking.{within-all, within-below, within-above, within-beside, cell-blocks, cell-left, cell-passed}
 use borrow.Author.Needs.{needs}
 use Rattle.routes_rows.proofs.blocked.block.Statement.{statement}
 use Rattle.routes_rows.proofs.blocked.block.Tie as tie
 
-first-inside : (c : tie.Then3) → c .before .before .first-level .result < length (c .before .before .before .before .before .before .before .before .before .before .args .ends .now)
-first-inside c = omega (arith, c .if3 .taken, c .before .levels-in .ensures, c .before .before .before .before .before .before .before .before .before .before .pre)
+first-inside : (c : tie.Then5) → c .before .before .first-level .result < length (c .before .before .before .before .before .before .before .before .before .before .before .before .before .before .before .before .args .ends .now)
+first-inside c = omega (arith, c .if5 .taken, c .before .levels-in .ensures, c .before .before .before .before .before .before .before .before .before .before .before .before .before .before .before .before .pre)
 
 first-level-requires : tie.Need-first-level-requires
 first-level-requires c κs = search needs
@@ -41,27 +41,39 @@ same-length c = search needs
 
 returns : tie.Need-returns
 returns c =
-    let a = c .before .before .before .before .before .before .before .before .before .before .before .before .args in
+    let a = c .before .before .before .before .before .before .before .before .before .before .before .before .before .before .before .before .before .before .args in
     let first = c .before .before .before .before .first-level in
     let count = c .before .before .before .levels-in in
     subst (λ (e : ℕ). Blocks (a .span) (cellMeets (a .cell) (a .span)) (a .ends .now) (set (a .ends .now) (first .result) e)) (sym (c .larger .ensures))
-    (cell-blocks (a .span) (a .cell) (first .result) (count .result) (first .ensures) (count .ensures) (a .ends .now) (within-all (a .span) (a .cell) (first .result) (count .result) (first .ensures) (count .ensures) (c .before .before .before .before .before .before .before .before .if1 .taken) (c .before .before .before .before .before .if2 .taken) (c .before .before .if3 .taken)) (first-inside (c .before .before)))
+    (cell-blocks (a .span) (a .cell) (first .result) (count .result) (first .ensures) (count .ensures) (a .ends .now) (within-all (a .span) (a .cell) (first .result) (count .result) (first .ensures) (count .ensures) (c .before .before .before .before .before .before .before .before .before .before .before .before .before .before .if1 .taken) (c .before .before .before .before .before .before .before .before .before .before .before .if2 .taken) (c .before .before .if5 .taken)) (first-inside (c .before .before)))
 
 returns-2 : tie.Need-returns-2
 returns-2 c =
-    let a = c .before .before .before .before .before .before .before .before .before .before .args in
+    let a = c .before .before .before .before .before .before .before .before .before .before .before .before .before .before .before .before .args in
     let first = c .before .before .first-level in
     let count = c .before .levels-in in
-    cell-passed (a .span) (a .cell) (first .result) (count .result) (first .ensures) (count .ensures) (a .ends .now) (within-beside (a .span) (a .cell) (first .result) (count .result) (first .ensures) (count .ensures) (c .if3 .left))
+    cell-passed (a .span) (a .cell) (first .result) (count .result) (first .ensures) (count .ensures) (a .ends .now) (within-beside (a .span) (a .cell) (first .result) (count .result) (first .ensures) (count .ensures) (c .if5 .left))
 
 returns-3 : tie.Need-returns-3
 returns-3 c =
+    let a = c .before .before .before .before .before .before .before .before .before .before .before .before .before .args in
+    let first = (a .cell .x0 - a .span .x0) / 2 in
+    cell-passed (a .span) (a .cell) first (countIn (a .span)) refl refl (a .ends .now) (within-beside (a .span) (a .cell) first (countIn (a .span)) refl refl (omega (arith, c .if4 .left)))
+
+returns-4 : tie.Need-returns-4
+returns-4 c =
+    let a = c .before .before .before .before .before .before .before .before .before .before .args in
+    let first = (a .cell .x0 - a .span .x0) / 2 in
+    cell-left (a .span) (a .cell) first (countIn (a .span)) refl refl (a .ends .now) (c .if3 .left)
+
+returns-5 : tie.Need-returns-5
+returns-5 c =
     let a = c .before .before .before .before .before .before .before .args in
     let first = (a .cell .x0 - a .span .x0) / 2 in
     cell-passed (a .span) (a .cell) first (countIn (a .span)) refl refl (a .ends .now) (within-above (a .span) (a .cell) first (countIn (a .span)) refl refl (c .if2 .left))
 
-returns-4 : tie.Need-returns-4
-returns-4 c =
+returns-6 : tie.Need-returns-6
+returns-6 c =
     let a = c .before .before .before .before .args in
     let first = (a .cell .x0 - a .span .x0) / 2 in
     cell-passed (a .span) (a .cell) first (countIn (a .span)) refl refl (a .ends .now) (within-below (a .span) (a .cell) first (countIn (a .span)) refl refl (c .if1 .left))
@@ -82,4 +94,6 @@ block-spec =
     returns
     returns-2
     returns-3
-    returns-4)
+    returns-4
+    returns-5
+    returns-6)
