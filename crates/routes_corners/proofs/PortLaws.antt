@@ -5,17 +5,17 @@ use mathlib.Core.Bool.{Bool, true, false, not, _||_}
 use mathlib.Core.List.{List}
 use native.Mathlib.Omega.{arith}
 use native.Mathlib.Decide.{decLt, ℕ-discrete}
-use lib.Dec.{eqb}
+use lib.Dec.{eqb, ltb}
 use lib.ListN.{length, getD, set, length-set}
 use lib.Seq.{getD-set-same, getD-set-other}
-use borrow.Author.Tests.{eq-eqb, ne-eqb, eqb-true, eqb-false}
-use Rattle.base.specs.Keys.{Risen, FirstNotBelow}
+use borrow.Author.Tests.{eq-eqb, ne-eqb, eqb-true, eqb-false, ltb-true, ltb-false}
+use Rattle.base.specs.Keys.{Rising, Risen, FirstNotBelow}
 use Rattle.base.proofs.Bools.{clash, both}
 use Rattle.base.proofs.Lists.{same-two}
 use Rattle.board.specs.Board.{field}
 use Rattle.routes.specs.Bus.{Port, samePort}
 use Rattle.routes_corners.specs.CornerTables.{portAt, Classed}
-use Rattle.routes_corners.specs.Ports.{portKey, wireKey, PortsLow, NUMBERS, wireAt, classAt, PortKeys, PortRoom, thePort, goesTo, FlaggedBy}
+use Rattle.routes_corners.specs.Ports.{BelowAt, portKey, wireKey, PortsLow, NUMBERS, wireAt, classAt, PortKeys, PortRoom, thePort, goesTo, FlaggedBy}
 use Rattle.routes_corners.proofs.CornerLaws.{flag-set}
 
 -- The keys of the wires, sorted.
@@ -207,6 +207,27 @@ module _ (wires : List (List ℕ)) (keys : List ℕ) (k : PortKeys wires keys) (
       go : (t : Bool) → goesTo wires (thePort node port) w ≡ t → t ≡ false
       go true e = let f = port-here w h e in clash (f .1) (no-one (f .0))
       go false e = refl
+
+pub un-not : (t : Bool) → not t ≡ false → t ≡ true
+un-not true e = refl
+un-not false e = clash (sym e) refl
+
+-- A key is looked for from a place on: what stands in front of it is below.
+pub below-here : (keys : List ℕ) (p n key : ℕ) → n ≤ p → BelowAt keys p n key false
+below-here keys p n key h = record { taken = λ e. clash e refl; left = λ e l. absurd (omega (arith, h, l)) }
+
+pub below-told : (keys : List ℕ) (p n key : ℕ) → p < n → BelowAt keys p n key (ltb (getD keys p 0) key)
+below-told keys p n key h = record { taken = λ e. (h, ltb-true (getD keys p 0) key e); left = λ e l. ltb-false (getD keys p 0) key e }
+
+pub all-below : (keys : List ℕ) (n from key : ℕ) → Rising keys n → from ≤ n → (0 < from → getD keys (from - 1) 0 < key) → (i : ℕ) → i < from → getD keys i 0 < key
+all-below keys n from key rising l last i h = let a = rising i (from - 1) (omega (arith, h)) (omega (arith, h, l)) in let b = last (omega (arith, h)) in omega (arith, a, b)
+
+pub below-more : (keys : List ℕ) (p key : ℕ) → ((i : ℕ) → i < p → getD keys i 0 < key) → getD keys p 0 < key → (i : ℕ) → i < p + 1 → getD keys i 0 < key
+below-more keys p key h k i l = go (eqb i p) refl
+  where
+    go : (t : Bool) → eqb i p ≡ t → getD keys i 0 < key
+    go true q = let z : i ≡ p = eqb-true i p q in subst (λ (j : ℕ). getD keys j 0 < key) (sym z) k
+    go false q = let other = eqb-false i p q in h i (omega (arith, l, other))
 
 -- The flags with one more port.
 module _ (wires : List (List ℕ)) (classes flags : List ℕ) (c : Classed wires classes (length wires)) (p : Port) (test : ℕ → Bool) (h : FlaggedBy test wires classes flags) where

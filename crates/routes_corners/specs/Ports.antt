@@ -47,6 +47,11 @@ pub record PortKeys (wires : List (List ℕ)) (keys : List ℕ) : Type 0 where
   pub comes : (p : ℕ) → p < length wires → (wireAt keys p < length wires) × (getD keys p 0 ≡ wireKey wires (wireAt keys p) * NUMBERS + wireAt keys p)
   pub reached : (w : ℕ) → w < length wires → (p : ℕ) × (p < length wires) × (getD keys p 0 ≡ wireKey wires w * NUMBERS + w)
 
+-- Whether there is a key at a place, and it is below another.
+pub record BelowAt (keys : List ℕ) (p n key : ℕ) (r : Bool) : Type 0 where
+  pub taken : r ≡ true → (p < n) × (getD keys p 0 < key)
+  pub left : r ≡ false → p < n → key ≤ getD keys p 0
+
 -- The wires have their classes, and their keys are sorted.
 pub record Ported (wires : List (List ℕ)) (classes keys : List ℕ) : Type 0 where
   pub keyed : PortKeys wires keys

@@ -1,15 +1,16 @@
 // Wires by target port: which share one, and which lead to a suppressed one. Their keys are packed and sorted: along them each wire takes the class of
-// the one before, if that leads to the same port, and a port that is handed in is found by halves.
+// the one before, if that leads to the same port, and a port that is handed in is found behind the one before it, or by halves.
 use base::keys::first_not_below;
 use base::keys::raise_keys;
 use base::rows::PortRow;
 use base::rows::Record;
 ghost use mathlib.Core.Path.{_≡_};
-ghost use mathlib.Core.Bool.{Bool, _||_};
-ghost use Prim.Native.Nat.{ℕ, _+_, _*_, _<_, _≤_};
+ghost use mathlib.Core.Bool.{Bool, true, _||_};
+ghost use Prim.Native.Nat.{ℕ, _+_, _-_, _*_, _<_, _≤_};
 ghost use lib.ListN.{length, getD};
+ghost use Rattle.base.specs.Keys.{Rising, FirstNotBelow};
 ghost use Rattle.routes_corners.specs.CornerTables.{Classed};
-ghost use Rattle.routes_corners.specs.Ports.{portKey, wireKey, PortsLow, wireAt, classAt, PortKeys, Ported, PortRoom, thePort, goesTo, FlaggedBy, amongPorts};
+ghost use Rattle.routes_corners.specs.Ports.{BelowAt, portKey, wireKey, PortsLow, wireAt, classAt, PortKeys, Ported, PortRoom, thePort, goesTo, FlaggedBy, amongPorts};
 
 // A wire's number stands behind the key of its target port.
 const NUMBERS: u64 = 8192;
@@ -89,29 +90,71 @@ fn goes_to(wires: &[Record], i: usize, node: u32, port: u32) -> bool
     (wires[i][3] == node) & (wires[i][4] == port)
 }
 
-// The flag of the class of a suppressed port, if a wire leads to it. Its numbers may be beyond the sheet's, so the wire's own are asked.
+// Whether the keys in front of a place are below the key, as the last of them is.
+fn is_behind(keys: &[u64], from: usize, key: u64) -> bool
+    requires { ⌜ from ≤ length (now keys) ⌝ }
+    ensures { λ r. ⌜ (r ≡ true → 0 < from → getD (now (keys .entry)) (from - 1) 0 < key) ⌝ }
+{
+    if from == 0 {
+        return true;
+    }
+    keys[from - 1] < key
+}
+
+// Whether there is a key at a place, and it is below the key.
+fn is_below(keys: &[u64], p: usize, n: usize, key: u64) -> bool
+    requires { ⌜ n ≤ length (now keys) ⌝ }
+    ensures { λ r. ⌜ BelowAt (now (keys .entry)) p n key r ⌝ }
+{
+    if n <= p {
+        return false;
+    }
+    keys[p] < key
+}
+
+// The first of n rising keys that is not below the key, or n: from a place on, if it is not in front of that, and else by halves. Ports that come in order are
+// found by one walk.
+fn seek_key(keys: &[u64], n: usize, from: usize, key: u64) -> usize
+    requires { ⌜ (n ≤ length (now keys)) × (from ≤ n) × Rising (now keys) n ⌝ }
+    ensures { λ r. ⌜ FirstNotBelow (now (keys .entry)) n key r ⌝ }
+{
+    if !is_behind(keys, from, key) {
+        return first_not_below(keys, n, key);
+    }
+    let mut p = from;
+    while is_below(keys, p, n, key) {
+        p += 1;
+    }
+    p
+}
+
+// The flag of the class of a suppressed port, if a wire leads to it. Its numbers may be beyond the sheet's, so the wire's own are asked. Its place among the keys,
+// looked for from the one before it on, comes back.
 fn flag_port(
     wires: &[Record],
     classes: &[u32],
     keys: &[u64],
+    from: usize,
     flags: &mut [u32],
     node: u32,
     port: u32,
-)
-    requires { ⌜ Ported (now wires) (now classes) (now keys) ⌝ }
+) -> usize
+    requires { ⌜ Ported (now wires) (now classes) (now keys) × (from ≤ length (now wires)) ⌝ }
     requires { ⌜ PortRoom (now wires) (now classes) (now flags) ⌝ }
+    ensures { λ r. ⌜ r ≤ length (now (wires .entry)) ⌝ }
     ensures { λ _. ⌜ ((test : ℕ → Bool) → FlaggedBy test (now (wires .entry)) (now (classes .entry)) (now (flags .entry))
         → FlaggedBy (λ w. goesTo (now (wires .entry)) (thePort node port) w || test w) (now (wires .entry)) (now (classes .entry)) (now (flags .exit))) ⌝ }
 {
     let n = wires.len();
-    let p = first_not_below(keys, n, pack_key(node, port, 0));
+    let p = seek_key(keys, n, from, pack_key(node, port, 0));
     if n <= p {
-        return;
+        return p;
     }
     let w = wire_at(keys, p);
     if goes_to(wires, w, node, port) {
         flags[classes[w] as usize] = 1;
     }
+    p
 }
 
 // The flags of the first u ports handed in, in whatever order, over flags that are all 0.
@@ -128,9 +171,10 @@ pub fn flag_ports(
     requires { ⌜ (u ≤ length (now ports)) × ((k : ℕ) → k < length (now wires) → getD (now flags) k 0 ≡ 0) ⌝ }
     ensures { λ _. ⌜ FlaggedBy (amongPorts (now (wires .entry)) (now (ports .entry)) u) (now (wires .entry)) (now (classes .entry)) (now (flags .exit)) ⌝ }
 {
+    let mut p: usize = 0;
     let mut j: usize = 0;
     while j < u {
-        flag_port(wires, classes, keys, flags, ports[j][0], ports[j][1]);
+        p = flag_port(wires, classes, keys, p, flags, ports[j][0], ports[j][1]);
         j += 1;
     }
 }

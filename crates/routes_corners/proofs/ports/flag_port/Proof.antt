@@ -12,17 +12,19 @@ use Rattle.routes_corners.proofs.ports.flag_port.Tie as tie
 pack-key-requires : tie.Need-pack-key-requires
 pack-key-requires c κs = search needs
 
-first-not-below-requires : tie.Need-first-not-below-requires
-first-not-below-requires c κs = search needs
+seek-key-requires : tie.Need-seek-key-requires
+seek-key-requires c κs = search needs
 
 returns : tie.Need-returns
 returns c =
     let f = c .before in
     let k = f .before in
     let s = k .before .before .before .before in
-    let a = s .args in
-    λ test h. flag-none (a .wires .now) (a .classes .now) (a .flags .now) (s .pre .0 .classed) (thePort (a .node) (a .port)) test h
-    (port-nowhere (a .wires .now) (a .keys .now) (s .pre .0 .keyed) (a .node) (a .port) (k .pack-key .result) (f .first-not-below .result) (k .pack-key .ensures) (f .first-not-below .ensures) (λ b. absurd (omega (arith, c .if1 .taken))))
+    let a = s .args in (
+      f .seek-key .ensures .within,
+      λ test h. flag-none (a .wires .now) (a .classes .now) (a .flags .now) (s .pre .0 .0 .classed) (thePort (a .node) (a .port)) test h
+          (port-nowhere (a .wires .now) (a .keys .now) (s .pre .0 .0 .keyed) (a .node) (a .port) (k .pack-key .result) (f .seek-key .result) (k .pack-key .ensures) (f .seek-key .ensures) (λ b. absurd (omega (arith, c .if1 .taken)))),
+    )
 
 wire-at-requires : tie.Need-wire-at-requires
 wire-at-requires c κs = search needs
@@ -31,7 +33,7 @@ wire-there : (c : tie.After-wire-at) → c .wire-at .result < length (c .before 
 wire-there c =
     let f = c .before .before in
     let s = f .before .before .before .before .before in
-    let at = s .pre .0 .keyed .comes (f .first-not-below .result) (c .before .if1 .left) .0 in
+    let at = s .pre .0 .0 .keyed .comes (f .seek-key .result) (c .before .if1 .left) .0 in
     omega (arith, c .wire-at .ensures)
 
 goes-to-requires : tie.Need-goes-to-requires
@@ -44,8 +46,8 @@ class-there : (c : tie.After-wire-at) → (getD (c .before .before .before .befo
 class-there c =
     let s = c .before .before .before .before .before .before .before in
     let b = wire-there c in
-    let low = s .pre .0 .classed .low (c .wire-at .result) b in
-    (omega arith, s .pre .0 .keyed .few)
+    let low = s .pre .0 .0 .classed .low (c .wire-at .result) b in
+    (omega arith, s .pre .0 .0 .keyed .few)
 
 shared-slice-read-flags : tie.Need-shared-slice-read-flags
 shared-slice-read-flags c = let w = c .before .before .before in let room = w .before .before .before .before .before .before .before .pre .1 .classRoom in omega (arith, wire-there w)
@@ -68,7 +70,7 @@ returns-2 c =
     let w = t .before .before in
     let s = w .before .before .before .before .before .before .before in
     let a = s .args in
-    λ test h. flag-found (a .wires .now) (a .classes .now) (a .flags .now) (s .pre .0 .classed) (thePort (a .node) (a .port)) test h (s .pre .1 .flagRoom) (w .wire-at .result) (wire-there w) (sym (t .before .goes-to .ensures) ∙ t .if2 .taken)
+    (w .before .before .seek-key .ensures .within, λ test h. flag-found (a .wires .now) (a .classes .now) (a .flags .now) (s .pre .0 .0 .classed) (thePort (a .node) (a .port)) test h (s .pre .1 .flagRoom) (w .wire-at .result) (wire-there w) (sym (t .before .goes-to .ensures) ∙ t .if2 .taken))
 
 returns-3 : tie.Need-returns-3
 returns-3 c =
@@ -77,17 +79,19 @@ returns-3 c =
     let f = w .before .before in
     let k = f .before in
     let s = k .before .before .before .before in
-    let a = s .args in
-    λ test h. flag-none (a .wires .now) (a .classes .now) (a .flags .now) (s .pre .0 .classed) (thePort (a .node) (a .port)) test h
-    (port-nowhere (a .wires .now) (a .keys .now) (s .pre .0 .keyed) (a .node) (a .port) (k .pack-key .result) (f .first-not-below .result) (k .pack-key .ensures) (f .first-not-below .ensures)
-    (λ b. ap (goesTo (a .wires .now) (thePort (a .node) (a .port))) (sym (w .wire-at .ensures)) ∙ (sym (g .goes-to .ensures) ∙ c .if2 .left)))
+    let a = s .args in (
+      f .seek-key .ensures .within,
+      λ test h. flag-none (a .wires .now) (a .classes .now) (a .flags .now) (s .pre .0 .0 .classed) (thePort (a .node) (a .port)) test h
+          (port-nowhere (a .wires .now) (a .keys .now) (s .pre .0 .0 .keyed) (a .node) (a .port) (k .pack-key .result) (f .seek-key .result) (k .pack-key .ensures) (f .seek-key .ensures)
+          (λ b. ap (goesTo (a .wires .now) (thePort (a .node) (a .port))) (sym (w .wire-at .ensures)) ∙ (sym (g .goes-to .ensures) ∙ c .if2 .left))),
+    )
 
 pub flag-port-spec : {M : Type 1} → statement M
 flag-port-spec =
     tie.close
     (tie.spec
     pack-key-requires
-    first-not-below-requires
+    seek-key-requires
     returns
     wire-at-requires
     goes-to-requires
