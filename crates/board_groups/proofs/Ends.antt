@@ -5,7 +5,9 @@ use mathlib.Core.Path.{_≡_, refl, sym, ap, _∙_}
 use mathlib.Core.Bool.{Bool, true, false, not}
 use mathlib.Core.List.{List}
 use lib.Dec.{eqb}
-use lib.ListN.{length, getD}
+use lib.ListN.{length, getD, set, replicate, getD-replicate}
+use lib.Seq.{getD-set-same, getD-set-other}
+use borrow.Author.Tests.{eqb-true, eqb-false}
 use mir.Val.{boolByte}
 use Rattle.sheet.specs.Table.{MISSING}
 use Rattle.base.specs.Lists.{Found, none, at, newest}
@@ -16,7 +18,7 @@ use Rattle.board.specs.Index.{Ids, entryOf, foundOf, link}
 use Rattle.board.specs.declared.ids.Found.{Found as FoundId}
 use Rattle.board.specs.declared.ids.Found.the-variants.{At, Nothing}
 use Rattle.board.specs.Tables.{held, flag}
-use Rattle.board_groups.specs.Collecting.{Indexes, innerAnchor, InnerAnchors}
+use Rattle.board_groups.specs.Collecting.{Indexes, innerAnchor, UNASKED, SomeAnchors}
 use Rattle.base.proofs.Bools.{never}
 use Rattle.board.proofs.Newest.{newest-same, link-below}
 
@@ -97,12 +99,23 @@ pub entry-below : (ids : List (List ℕ)) (n id i : ℕ) → entryOf ids n id �
 unfolding entryOf
 entry-below ids n id i e = found-below (λ j. eqb (field ids j 0) id) n i e
 
--- The anchor of an inner record, as `find_anchors` finds it.
+-- The anchor of an inner record, as `inner_anchor` finds it.
 pub anchor-found : (nodes chips inner bi : List (List ℕ)) → Ids bi (length nodes) (λ i. field nodes i 1) → (f top r : ℕ)
     → ((b : Board) → b .chips ≡ chips → top ≡ topChip b (length chips) (field inner f 2)) → r ≡ held (entryOf bi (length nodes) top)
     → (b : Board) → b .nodes ≡ nodes → b .chips ≡ chips → b .inner ≡ inner → r ≡ held (innerAnchor b f)
 anchor-found nodes chips inner bi known f top r t e b n c i =
     e ∙ ap held (body-entry nodes bi known top b n ∙ ap (bodyOf b) (t b c ∙ (λ z. topChip b (length (sym c z)) (field (sym i z) f 2))))
+
+-- A table of anchors: none asked for, one that is known, one more entered.
+pub none-asked : (b : Board) (n : ℕ) → length (b .inner) ≤ n → SomeAnchors b (replicate n UNASKED)
+none-asked b n h f l other = absurd (other (getD-replicate n f UNASKED 0 (omega (arith, h, l))))
+
+pub anchor-entered : (b : Board) (anchors : List ℕ) (f r : ℕ) → f < length anchors → SomeAnchors b anchors → r ≡ held (innerAnchor b f) → SomeAnchors b (set anchors f r)
+anchor-entered b anchors f r room some is k l other = go (eqb k f) refl
+  where
+    go : (t : Bool) → eqb k f ≡ t → getD (set anchors f r) k 0 ≡ held (innerAnchor b k)
+    go true q = let z : k ≡ f = eqb-true k f q in ap (λ (i : ℕ). getD (set anchors f r) i 0) z ∙ getD-set-same anchors f r 0 room ∙ is ∙ ap (λ (i : ℕ). held (innerAnchor b i)) (sym z)
+    go false q = let e : getD (set anchors f r) k 0 ≡ getD anchors k 0 = getD-set-other anchors f k r 0 (λ w. eqb-false k f q w) in e ∙ some k l (λ u. other (e ∙ u))
 
 -- The end at a node: what `find_end` finds of a board whose body nodes and nodes inside chips are indexed.
 module _ (nodes inner bi ii : List (List ℕ)) (known : Indexes nodes inner bi ii) (id i : ℕ) (is : i ≡ held (entryOf bi (length nodes) id))
@@ -125,12 +138,8 @@ module _ (nodes inner bi ii : List (List ℕ)) (known : Indexes nodes inner bi i
       at-inner : innerOf b id ≡ at j
       at-inner = sym (inner-entry inner ii (known .inside) id b f) ∙ entry-there inner ii (known .inside) id (known .fewInner) j (sym is-inner) k
 
-      pub end-inner : (anchors : List ℕ) → InnerAnchors b anchors → (getD anchors j 0 ≡ held (anchorOf b id)) × (not (eqb (field inner j 3) 2) ≡ isBussable b id)
-      end-inner anchors a =
-          let same : length (b .inner) ≡ length inner = ap length f in (
-            a j (omega arith) ∙ sym (ap held (anchor-inner b id no-body j at-inner)),
-            (λ z. not (eqb (field (sym f z) j 3) 2)) ∙ sym (bussable-inner b id no-body j at-inner),
-          )
+      pub end-inner : (r : ℕ) → r ≡ held (innerAnchor b j) → (r ≡ held (anchorOf b id)) × (not (eqb (field inner j 3) 2) ≡ isBussable b id)
+      end-inner r a = (a ∙ sym (ap held (anchor-inner b id no-body j at-inner)), (λ z. not (eqb (field (sym f z) j 3) 2)) ∙ sym (bussable-inner b id no-body j at-inner))
 
     pub end-none : length inner ≤ j → (MISSING ≡ held (anchorOf b id)) × (false ≡ isBussable b id)
     end-none k =

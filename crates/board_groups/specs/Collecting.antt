@@ -59,9 +59,12 @@ pub record Indexes (nodes inner bodyIds innerIds : List (List ℕ)) : Type 0 whe
 abbrev pub innerAnchor : Board → ℕ → Found
 innerAnchor b f = bodyOf b (topChip b (length (b .chips)) (innerChip b f))
 
--- The anchors of all inner records, entry by entry.
-abbrev pub InnerAnchors : Board → List ℕ → Type 0
-InnerAnchors b anchors = (f : ℕ) → f < length (b .inner) → getD anchors f 0 ≡ held (innerAnchor b f)
+-- A table of the anchors of inner records: each entry is one, or stands for one that was not asked for.
+abbrev pub UNASKED : ℕ
+UNASKED = 4294967294
+
+abbrev pub SomeAnchors : Board → List ℕ → Type 0
+SomeAnchors b anchors = (f : ℕ) → f < length (b .inner) → (getD anchors f 0 ≡ UNASKED → ⊥) → getD anchors f 0 ≡ held (innerAnchor b f)
 
 -- One more than the greatest number of 32 bits.
 abbrev pub WORD : ℕ

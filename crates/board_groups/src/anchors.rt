@@ -9,7 +9,7 @@ use board::ids::find_id;
 use board::ids::top_chip;
 ghost use mathlib.Core.Path.{_≡_};
 ghost use mathlib.Core.Bool.{not, _&&_};
-ghost use Prim.Native.Nat.{_≤_};
+ghost use Prim.Native.Nat.{_≤_, _<_};
 ghost use lib.Dec.{eqb};
 ghost use Rattle.sheet.specs.Table.{libraryMost};
 ghost use lib.ListN.{length, getD};
@@ -17,7 +17,7 @@ ghost use Rattle.board.specs.Board.{Board, field};
 ghost use Rattle.board.specs.Groups.{anchorOf, isBussable};
 ghost use Rattle.board.specs.Index.{Index, Ids, entryOf};
 ghost use Rattle.board.specs.Tables.{held, NodeFacts, WireFacts};
-ghost use Rattle.board_groups.specs.Collecting.{Indexes, InnerAnchors};
+ghost use Rattle.board_groups.specs.Collecting.{Indexes, innerAnchor, SomeAnchors};
 
 pub const CLASS_INLINE: u32 = 2;
 
@@ -41,40 +41,48 @@ pub struct End {
     pub open: bool,
 }
 
-// G2: the anchors of the nodes inside chips, found once for all wires: the brick of each one's top chip.
-fn find_anchors(
+// An anchor that was not asked for yet. MISSING is one that is not there.
+const UNKNOWN: u32 = 4_294_967_294;
+
+// G2: the anchor of the f-th node inside a chip: the brick of its top chip, which is looked for once.
+fn inner_anchor(
     nodes: &[Record],
     chips: &[Record],
     inner: &[Record],
     body_index: &[IdRow],
     anchors: &mut [u32],
-)
+    f: usize,
+) -> u32
     requires { ⌜ (length (now nodes) ≤ libraryMost .nodes) × Ids (now «body_index») (length (now nodes)) (λ i. field (now nodes) i 1) ⌝ }
-    requires { ⌜ length (now inner) ≤ length (now anchors) ⌝ }
-    ensures { λ _. ⌜ ((b : Board) → b .nodes ≡ now (nodes .entry) → b .chips ≡ now (chips .entry) → b .inner ≡ now (inner .entry) → InnerAnchors b (now (anchors .exit))) ⌝ }
+    requires { ⌜ (f < length (now inner)) × (length (now inner) ≤ length (now anchors)) ⌝ }
+    ensures { λ r. ⌜ ((b : Board) → b .nodes ≡ now (nodes .entry) → b .chips ≡ now (chips .entry) → b .inner ≡ now (inner .entry) → SomeAnchors b (now (anchors .entry))
+        → (r ≡ held (innerAnchor b f)) × SomeAnchors b (now (anchors .exit))) ⌝ }
 {
-    let mut f: usize = 0;
-    while f < inner.len() {
-        let record = inner[f];
-        let top = top_chip(chips, chips.len(), NodeId(record[2]));
-        anchors[f] = held_id(body_index, nodes.len(), top);
-        f += 1;
+    let known = anchors[f];
+    if known != UNKNOWN {
+        return known;
     }
+    let record = inner[f];
+    let top = top_chip(chips, chips.len(), NodeId(record[2]));
+    let anchor = held_id(body_index, nodes.len(), top);
+    anchors[f] = anchor;
+    anchor
 }
 
-// G2: the end at a node. A body node is its own anchor, a node inside a chip has the one found for it.
+// G2: the end at a node. A body node is its own anchor, a node inside a chip has the brick of its top chip.
 fn find_end(
     nodes: &[Record],
+    chips: &[Record],
     inner: &[Record],
-    anchors: &[u32],
+    anchors: &mut [u32],
     body_index: &[IdRow],
     inner_index: &[IdRow],
     id: NodeId,
 ) -> End
     requires { ⌜ Indexes (now nodes) (now inner) (now «body_index») (now «inner_index») ⌝ }
     requires { ⌜ length (now inner) ≤ length (now anchors) ⌝ }
-    ensures { λ r. ⌜ ((b : Board) → b .nodes ≡ now (nodes .entry) → b .inner ≡ now (inner .entry) → InnerAnchors b (now (anchors .entry))
-        → (r .anchor ≡ held (anchorOf b (id .0))) × (r .open ≡ isBussable b (id .0))) ⌝ }
+    ensures { λ r. ⌜ ((b : Board) → b .nodes ≡ now (nodes .entry) → b .chips ≡ now (chips .entry) → b .inner ≡ now (inner .entry) → SomeAnchors b (now (anchors .entry))
+        → ((r .anchor ≡ held (anchorOf b (id .0))) × (r .open ≡ isBussable b (id .0))) × SomeAnchors b (now (anchors .exit))) ⌝ }
 {
     let anchor = held_id(body_index, nodes.len(), id);
     let i = anchor as usize;
@@ -88,8 +96,9 @@ fn find_end(
     let f = held_id(inner_index, inner.len(), id) as usize;
     if f < inner.len() {
         let record = inner[f];
+        let anchor = inner_anchor(nodes, chips, inner, body_index, anchors, f);
         return End {
-            anchor: anchors[f],
+            anchor,
             open: record[3] != CLASS_INLINE,
         };
     }
@@ -118,16 +127,17 @@ fn wire_open(wire: [u32; 16], source_open: bool, target_open: bool) -> bool
 // Writes the ends of every wire: both anchors, and whether it passes the tests before any on them. What is known of the nodes stays.
 fn write_ends(
     nodes: &[Record],
+    chips: &[Record],
     inner: &[Record],
     wires: &[Record],
-    anchors: &[u32],
+    anchors: &mut [u32],
     body_index: &[IdRow],
     inner_index: &[IdRow],
     facts: &mut [WorkRow],
 )
     requires { ⌜ Indexes (now nodes) (now inner) (now «body_index») (now «inner_index») ⌝ }
     requires { ⌜ (length (now inner) ≤ length (now anchors)) × (length (now wires) ≤ length (now facts)) ⌝ }
-    ensures { λ _. ⌜ ((b : Board) → b .nodes ≡ now (nodes .entry) → b .inner ≡ now (inner .entry) → b .wires ≡ now (wires .entry) → InnerAnchors b (now (anchors .entry))
+    ensures { λ _. ⌜ ((b : Board) → b .nodes ≡ now (nodes .entry) → b .chips ≡ now (chips .entry) → b .inner ≡ now (inner .entry) → b .wires ≡ now (wires .entry) → SomeAnchors b (now (anchors .entry))
         → NodeFacts b (now (facts .entry)) → NodeFacts b (now (facts .exit)) × WireFacts b (now (facts .exit))) ⌝ }
 {
     let mut w: usize = 0;
@@ -135,6 +145,7 @@ fn write_ends(
         let wire = wires[w];
         let source = find_end(
             nodes,
+            chips,
             inner,
             anchors,
             body_index,
@@ -143,6 +154,7 @@ fn write_ends(
         );
         let target = find_end(
             nodes,
+            chips,
             inner,
             anchors,
             body_index,
@@ -165,7 +177,7 @@ fn write_ends(
     }
 }
 
-// Finds the ends of every wire. Nodes inside chips get their anchors first, so that a chip's parents are not walked again for each wire.
+// Finds the ends of every wire. The anchor of a node inside a chip is kept, so that a chip's parents are not walked again for each wire.
 pub fn find_ends(
     nodes: &[Record],
     chips: &[Record],
@@ -180,13 +192,13 @@ pub fn find_ends(
     ensures { λ _. ⌜ ((b : Board) → b .nodes ≡ now (nodes .entry) → b .chips ≡ now (chips .entry) → b .inner ≡ now (inner .entry) → b .wires ≡ now (wires .entry)
         → NodeFacts b (now (facts .entry)) → NodeFacts b (now (facts .exit)) × WireFacts b (now (facts .exit))) ⌝ }
 {
-    let mut anchors = [0u32; 4096];
-    find_anchors(nodes, chips, inner, body_index, &mut anchors);
+    let mut anchors = [UNKNOWN; 4096];
     write_ends(
         nodes,
+        chips,
         inner,
         wires,
-        &anchors,
+        &mut anchors,
         body_index,
         inner_index,
         facts,
