@@ -44,7 +44,7 @@ const SLOW: &str = "crowded-corners";
 /// original takes many seconds.
 const TOO_SLOW: [&str; 3] = ["one-sink", "two-sinks", "all-corners"];
 /// The one of them that takes the library longest.
-const WORST: &str = "all-corners";
+const WORST: &str = "two-sinks";
 /// Wires of the boards that grow, with their pages and rows.
 const GROWTH: [(usize, u32, u32); 5] = [
     (512, 1, 32),
