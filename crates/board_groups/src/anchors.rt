@@ -42,7 +42,7 @@ pub struct End {
 }
 
 // An anchor that was not asked for yet. MISSING is one that is not there.
-const UNKNOWN: u32 = 4_294_967_294;
+const UNASKED: u32 = 4_294_967_294;
 
 // G2: the anchor of the f-th node inside a chip: the brick of its top chip, which is looked for once.
 fn inner_anchor(
@@ -59,7 +59,7 @@ fn inner_anchor(
         → (r ≡ held (innerAnchor b f)) × SomeAnchors b (now (anchors .exit))) ⌝ }
 {
     let known = anchors[f];
-    if known != UNKNOWN {
+    if known != UNASKED {
         return known;
     }
     let record = inner[f];
@@ -192,7 +192,7 @@ pub fn find_ends(
     ensures { λ _. ⌜ ((b : Board) → b .nodes ≡ now (nodes .entry) → b .chips ≡ now (chips .entry) → b .inner ≡ now (inner .entry) → b .wires ≡ now (wires .entry)
         → NodeFacts b (now (facts .entry)) → NodeFacts b (now (facts .exit)) × WireFacts b (now (facts .exit))) ⌝ }
 {
-    let mut anchors = [UNKNOWN; 4096];
+    let mut anchors = [UNASKED; 4096];
     write_ends(
         nodes,
         chips,

@@ -37,7 +37,7 @@ pub fn begin_row(notes: &mut [u32], n: usize)
     }
 }
 
-// K7: whether a corner of the class stands on the row at hand.
+// K2: whether a corner of the class stands on the row at hand: then its port is suppressed.
 pub fn has_class(notes: &[u32], class: u32) -> bool
     requires { ⌜ (NOTES ≤ length (now notes)) × (class < CLASSES) ⌝ }
     ensures { λ r. ⌜ r ≡ eqb (stampOf (now (notes .entry)) class) (rowNo (now (notes .entry))) ⌝ }
