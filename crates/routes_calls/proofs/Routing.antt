@@ -1,36 +1,36 @@
 -- From the bus of the lanes to the finished plan.
-use Prim.Native.Nat.{ℕ, _+_, _*_, _≤_}
+use Prim.Native.Nat.{ℕ, _+_, _*_, _≤_, _<_}
 use native.Mathlib.Omega.{arith}
 use mathlib.Core.Path.{_≡_, refl, sym, ap, _∙_, subst}
 use mathlib.Core.List.{List, [], _∷_, _++_, map}
 use lib.ListN.{length, drop}
 use borrow.Author.Tests.{le-leb}
 use Rattle.sheet.specs.declared.Counts.{Counts}
-use Rattle.board.specs.Board.{Board}
+use Rattle.board.specs.Board.{Board, field}
 use Rattle.board.specs.Demands.{PageLanes}
 use Rattle.board.specs.Planning.{Planning, refused, lanesFor, planning, records, pageRow}
 use Rattle.board.specs.Walk.{WithinLibrary, countsIn}
 use Rattle.board_plan.specs.declared.Asked.{Asked}
 use Rattle.board_plan.specs.declared.Lent.{Lent}
-use Rattle.board_plan.specs.TextPlan.{LINE_MOST, hasRoom, fitsCounts, fitsLent, shortest, lentOf, askedFor}
+use Rattle.board_plan.specs.TextPlan.{LINE_MOST, hasRoom, fitsCounts, fitsLent, shortest, lentOf, askedFor, WorkLent}
 use Rattle.board_plan.proofs.Fitting.{fits-all}
-use Rattle.board_plan.proofs.Surveying.{facts-in}
-use Rattle.board.proofs.Accepting.{sheet-accepted}
 use Rattle.board.proofs.Planning.{lanes-from}
 use Rattle.board_plan.proofs.Planned.{planned-counts}
 use Rattle.board_plan.proofs.Surveying.{LanesTold}
 use Rattle.board_plan.proofs.Calling.{planning-same}
 use Rattle.sheet.specs.Table.{libraryMost}
+use Rattle.lanes.specs.Lanes.{laneMost}
 use Rattle.routes.specs.Plan.{busOf, finished, laidGroups}
 use Rattle.routes.specs.Route.{routedBy, fitsPlan, routed}
 use Rattle.routes_gutter.specs.Bus.{BusLent, BusStands}
+use Rattle.routes_gutter.proofs.Planned.{rows-ready}
 use Rattle.routes.specs.declared.bus.BusCounts.{BusCounts}
-use Rattle.routes_calls.specs.Finish.{CornersReady, PlanTexted}
+use Rattle.routes_calls.specs.Finish.{CornersReady, PlanReady, PlanTexted}
 use Rattle.routes_calls.specs.Route.{planFits, routeCall, PlanCalled, withoutCounts}
 use Rattle.routes_calls.specs.declared.route.BusText.{BusText}
 use Rattle.routes_calls.specs.declared.route.BusText.the-variants.{Refused, Laid}
 use Rattle.routes_gutter.specs.declared.bus.BusPlan.the-variants as plans
-use Rattle.routes_calls.proofs.Turning.{turn-ready}
+use Rattle.routes_calls.proofs.Turning.{board-fits}
 use Rattle.routes_calls.proofs.Finishing.{laid-few}
 
 -- What `route` finds lent: only the named lengths (S15) decide.
@@ -38,44 +38,73 @@ plan-fit : (r w p a work : ℕ) (b : Board) → length (b .wires) ≤ libraryMos
 unfolding fitsLent fitsCounts hasRoom fitsPlan records
 plan-fit r w p a work b h g = rw (le-leb (LINE_MOST * (length (b .pages) + 12 * length (b .wires) + 1)) 12591232 (omega arith)) refl
 
--- The lanes' bus of a planned text, standing in the buffers.
-module _ (most : Counts) (text : List ℕ) (lent : Lent) (low : WithinLibrary most) (rows facts taps groups : List (List ℕ)) (c : Counts) (m : ℕ)
-    (told : LanesTold rows facts taps groups (planning most (fitsLent lent) text) c m) (old oldWires oldPorts : List (List ℕ)) where
-  module _ (rerouters busWires ports : List (List ℕ)) (held : BusCounts) (stands : BusStands (busOf (told .onBoard) (told .lanes)) old oldWires oldPorts rerouters busWires ports held) where
-    pub corners-ready : (marks : List (List ℕ)) → BusLent lent marks rerouters busWires ports → lent .work ≤ length facts
-        → length rerouters ≡ length old → length busWires ≡ length oldWires → length ports ≡ length oldPorts
-        → CornersReady (told .onBoard) (told .lanes) old oldWires oldPorts rows c facts rerouters busWires ports held marks
-    unfolding records
-    corners-ready marks bus fs lr lw lp =
-        let b = told .onBoard in
-        let ps = told .lanes in
-        let from = lanes-from most text (fitsLent lent) b ps (told .is) in
-        let fit = fits-all lent b (from .fitting) in
-        let accepted = sheet-accepted most text b low (from .accepted) in
-        let few = laid-few b accepted ps (from .lanes) in
-        let f0 = few .0 in let f1 = few .1 in let f2 = few .2 in
-        let fr = fit .rerouters in let fb = fit .busWires in let fp = fit .ports in let fw = fit .work in
-        let ml = bus .marks-lent in let rl = bus .rerouters-lent in let bl = bus .wires-lent in let pl = bus .ports-lent in
-        let nb = stands .rerouterCount in let kb = stands .wires in let ub = stands .suppressed in
-        record {
-          accepted = accepted;
-          plan = from .lanes;
-          turning = turn-ready lent b accepted (from .fitting) rows facts (facts-in (told .tables)) c (told .counted) fs rerouters busWires ports marks bus held (omega arith) (omega arith) (omega arith);
-          stands = stands;
-          reroutersLent = omega arith;
-          wiresLent = omega arith;
-          portsLent = omega arith;
-        }
+-- What `finish_plan` needs on its way.
+module _ {b : Board} {ps : List PageLanes} {rows : List (List ℕ)} {c : Counts} {m : ℕ} {facts taps groups demands keys marks old oldWires oldPorts answers : List (List ℕ)}
+    (plan : PlanReady b ps rows c m facts taps groups demands keys marks old oldWires oldPorts answers) where
+  -- The bus of the lanes stands in the buffers: its corners can be turned.
+  pub corners-ready : (rerouters busWires ports : List (List ℕ)) (held : BusCounts) → BusStands (busOf b ps) old oldWires oldPorts rerouters busWires ports held
+      → length rerouters ≡ length old → length busWires ≡ length oldWires → length ports ≡ length oldPorts → (spare : List (List ℕ)) → length spare ≡ length marks
+      → CornersReady b ps old oldWires oldPorts rows c facts rerouters busWires ports held spare
+  corners-ready rerouters busWires ports held stands lr lw lp spare lm =
+      let t = plan .laying .ready in
+      let few = laid-few b (t .accepted) ps (t .plan) in
+      let f0 = few .0 in let f1 = few .1 in let f2 = few .2 in
+      let fr = t .busRoom .0 in let fb = t .busRoom .1 in let fp = plan .portRoom in let fm = plan .markRoom in
+      let nb = stands .rerouterCount in let kb = stands .wires in let ub = stands .suppressed in
+      record {
+        accepted = t .accepted;
+        plan = t .plan;
+        turning =
+            record {
+              sections = plan .laying .sections;
+              counted = plan .laying .counted;
+              accepted = t .accepted;
+              fits = board-fits b (t .accepted) facts (t .nodes-known) (t .nodeRoom) (t .wireRoom .0);
+              nodes-known = t .nodes-known;
+              wires-known = t .wires-known;
+              lent = record { reroutersThere = omega arith; wires = omega arith; muted = omega arith; rerouterRoom = omega arith; wireRoom = omega arith; markRoom = omega arith };
+            };
+        stands = stands;
+        reroutersLent = fr;
+        wiresLent = fb;
+        portsLent = fp;
+      }
 
-  pub plan-told : (rerouters busWires ports oldAnswers answers : List (List ℕ)) (held : BusCounts) (g : ℕ)
+  -- Every page has its lanes.
+  pub all-pages : length ps ≡ c .pages
+  all-pages = planned-counts b ps (plan .laying .ready .plan) .0 ∙ sym (ap (λ (d : Counts). d .pages) (plan .laying .counted))
+
+  -- The page answers can be written.
+  pub answers-ready : ((c .pages ≤ length facts) × (c .pages ≤ length answers)) × ((p : ℕ) → p < c .pages → field facts p 6 ≤ laneMost)
+  answers-ready =
+      let t = plan .laying .ready in
+      let counts = planned-counts b ps (t .plan) in
+      let pages : c .pages ≡ length (b .pages) = ap (λ (d : Counts). d .pages) (plan .laying .counted) in
+      let fa = plan .answerRoom in let ff = t .pageRoom in
+      ((omega arith, omega arith), λ p h. let inside : p < length ps = omega (arith, counts .0) in omega (arith, t .pages-known p inside, counts .1 p))
+
+-- What planning a text tells where its pages have lanes.
+module _ (most : Counts) (text : List ℕ) (lent : Lent) (low : WithinLibrary most) (rows facts taps groups : List (List ℕ)) (c : Counts) (m : ℕ)
+    (told : LanesTold rows facts taps groups (planning most (fitsLent lent) text) c m) (old oldWires oldPorts oldAnswers : List (List ℕ)) where
+  -- `finish_plan` can be called, with what is lent as long as is asked.
+  pub plan-ready : (n : ℕ) (demands keys marks : List (List ℕ)) → WorkLent (lent .work) n facts taps groups demands keys marks → BusLent lent marks old oldWires oldPorts → lent .answers ≤ length oldAnswers
+      → PlanReady (told .onBoard) (told .lanes) rows c m facts taps groups demands keys marks old oldWires oldPorts oldAnswers
+  unfolding records
+  plan-ready n demands keys marks work bus room =
+      let b = told .onBoard in
+      let from = lanes-from most text (fitsLent lent) b (told .lanes) (told .is) in
+      let fit = fits-all lent b (from .fitting) in
+      let ready = rows-ready most text lent low rows facts taps groups demands keys marks old oldWires oldPorts n work bus c m told in
+      let fw = fit .work in let fa = fit .answers in let ml = bus .marks-lent in
+      record { laying = ready .0; markRoom = omega arith; portRoom = ready .1; answerRoom = omega arith }
+
+  -- And its answer is the text's.
+  pub plan-told : (rerouters busWires ports answers : List (List ℕ)) (held : BusCounts) (g : ℕ)
       → BusStands (finished (told .onBoard) (told .lanes)) old oldWires oldPorts rerouters busWires ports held → g ≡ laidGroups (told .onBoard) (told .lanes)
-      → answers ≡ map pageRow (told .lanes) ++ drop (c .pages) oldAnswers
+      → answers ≡ map pageRow (told .lanes) ++ drop (length (told .lanes)) oldAnswers
       → PlanTexted (planning most (fitsLent lent) text) old oldWires oldPorts oldAnswers rerouters busWires ports answers (Laid c held g)
-  plan-told rerouters busWires ports oldAnswers answers held g stands laid written =
-      let from = lanes-from most text (fitsLent lent) (told .onBoard) (told .lanes) (told .is) in
-      let pages : c .pages ≡ length (told .lanes) = ap (λ (d : Counts). d .pages) (told .counted) ∙ sym (planned-counts (told .onBoard) (told .lanes) (from .lanes) .0) in
-      rw (told .is)
-      (held, ap (λ (d : Counts). Laid d held g) (told .counted) ∙ ap (Laid (countsIn (told .onBoard)) held) laid, stands, written ∙ ap (λ (j : ℕ). map pageRow (told .lanes) ++ drop j oldAnswers) pages)
+  plan-told rerouters busWires ports answers held g stands laid written =
+      rw (told .is) (held, ap (λ (d : Counts). Laid d held g) (told .counted) ∙ ap (Laid (countsIn (told .onBoard)) held) laid, stands, written)
 
 -- A refusal leaves all as it was.
 pub plan-refused : (p : Planning) (old oldWires oldPorts oldAnswers : List (List ℕ)) (n l : ℕ) → p ≡ refused n l

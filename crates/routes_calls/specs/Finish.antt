@@ -1,5 +1,5 @@
 -- From the bus that `lay_bus` leaves to the finished plan. No rule stands here.
-use Prim.Native.Nat.{ℕ, _*_, _≤_}
+use Prim.Native.Nat.{ℕ, _+_, _*_, _≤_}
 use mathlib.Core.Path.{_≡_}
 use mathlib.Core.List.{List, _++_, map}
 use lib.ListN.{length, drop}
@@ -11,10 +11,17 @@ use Rattle.board.specs.Planning.{Planning, refused, lanesFor, pageRow}
 use Rattle.board.specs.Walk.{countsIn}
 use Rattle.routes.specs.Plan.{busOf, finished, laidGroups}
 use Rattle.routes.specs.declared.bus.BusCounts.{BusCounts}
-use Rattle.routes_gutter.specs.Bus.{BusStands}
+use Rattle.routes_gutter.specs.Bus.{RowsReady, BusStands}
 use Rattle.routes_calls.specs.Turn.{TurnReady}
 use Rattle.routes_calls.specs.declared.route.BusText.{BusText}
 use Rattle.routes_calls.specs.declared.route.BusText.the-variants.{Refused, Laid}
+
+-- The tables hold a planned board whose records stand in rows, and what is lent is as long as named: its plan can be laid, turned and answered.
+pub record PlanReady (b : Board) (ps : List PageLanes) (rows : List (List ℕ)) (counts : Counts) (m : ℕ) (facts taps groups demands keys marks rerouters busWires ports answers : List (List ℕ)) : Type 0 where
+  pub laying : RowsReady b ps rows counts m facts taps groups demands keys marks rerouters busWires
+  pub markRoom : length (b .nodes) + 5 * length (b .wires) ≤ length marks
+  pub portRoom : length (b .wires) ≤ length ports
+  pub answerRoom : length (b .pages) ≤ length answers
 
 -- The bus of the lanes stands in the buffers, as long as named, and the corner pass can begin.
 pub record CornersReady (b : Board) (ps : List PageLanes) (old oldWires oldPorts rows : List (List ℕ)) (counts : Counts) (facts rerouters busWires ports : List (List ℕ)) (held : BusCounts) (marks : List (List ℕ)) : Type 0 where

@@ -15,21 +15,22 @@ use board_plan::write_pages;
 use routes::bus::BusCounts;
 use routes_corners::turn::Turned;
 use routes_gutter::bus::BusPlan;
+use routes_gutter::laying::BusLaid;
 use routes_gutter::laying::lay_and_settle;
 use routes_ports::settle::settle_ports;
 use sheet::Counts;
 ghost use mathlib.Core.Path.{_≡_};
-ghost use mathlib.Core.List.{List};
+ghost use mathlib.Core.List.{List, _++_, map};
 ghost use Prim.Native.Nat.{ℕ, _≤_};
-ghost use lib.ListN.{length};
+ghost use lib.ListN.{length, drop};
 ghost use Rattle.board.specs.Board.{Board};
 ghost use Rattle.board.specs.Demands.{PageLanes};
-ghost use Rattle.board.specs.Planning.{planning};
+ghost use Rattle.board.specs.Planning.{planning, pageRow};
 ghost use Rattle.board.specs.Walk.{WithinLibrary};
 ghost use Rattle.board_plan.specs.TextPlan.{fitsLent, workRows, WorkLent};
-ghost use Rattle.routes.specs.Plan.{finished};
+ghost use Rattle.routes.specs.Plan.{finished, laidGroups};
 ghost use Rattle.routes_gutter.specs.Bus.{BusLent, BusStands};
-ghost use Rattle.routes_calls.specs.Finish.{CornersReady, PlanTexted};
+ghost use Rattle.routes_calls.specs.Finish.{CornersReady, PlanReady, PlanTexted};
 ghost use Rattle.routes_calls.specs.Route.{planFits, routeCall, PlanCalled, withoutCounts};
 
 // A refusal and its place; or how many records of each section there are, what stands in the buffers, and how many groups were laid.
@@ -84,6 +85,59 @@ fn turn_and_settle(
     }
 }
 
+// The finished plan of a planned board whose records stand in rows, and its page answers: laid and settled, turned and settled.
+pub fn finish_plan(
+    records: &[Record],
+    counts: Counts,
+    m: usize,
+    facts: &[WorkRow],
+    taps: &mut [WorkRow],
+    groups: &[WorkRow],
+    demands: &mut [WorkRow],
+    keys: &mut [WorkRow],
+    marks: &mut [WorkRow],
+    rerouters: &mut [RerouterRow],
+    bus_wires: &mut [BusWireRow],
+    ports: &mut [PortRow],
+    answers: &mut [PageRow],
+) -> BusLaid
+    requires { ⌜ ((b : Board) × (ps : List PageLanes) × PlanReady b ps (now records) counts m (now facts) (now taps) (now groups) (now demands) (now keys) (now marks) (now rerouters) (now «bus_wires») (now ports) (now answers)) ⌝ }
+    ensures { λ r. ⌜ ((b : Board) (ps : List PageLanes) → PlanReady b ps (now (records .entry)) counts m (now (facts .entry)) (now (taps .entry)) (now (groups .entry)) (now (demands .entry)) (now (keys .entry)) (now (marks .entry)) (now (rerouters .entry)) (now («bus_wires» .entry)) (now (ports .entry)) (now (answers .entry))
+        → BusStands (finished b ps) (now (rerouters .entry)) (now («bus_wires» .entry)) (now (ports .entry)) (now (rerouters .exit)) (now («bus_wires» .exit)) (now (ports .exit)) (r .bus) × (r .groups ≡ laidGroups b ps)
+        × (now (answers .exit) ≡ map pageRow ps ++ drop (length ps) (now (answers .entry)))) ⌝ }
+{
+    let laid = lay_and_settle(
+        records,
+        counts,
+        m,
+        facts,
+        taps,
+        groups,
+        demands,
+        keys,
+        marks,
+        rerouters,
+        bus_wires,
+        ports,
+    );
+    let lanes = laid.bus;
+    let bus = turn_and_settle(
+        records,
+        counts,
+        facts,
+        rerouters,
+        bus_wires,
+        ports,
+        lanes,
+        marks,
+    );
+    write_pages(facts, counts.pages, answers);
+    BusLaid {
+        bus,
+        groups: laid.groups,
+    }
+}
+
 // The finished plan of a sheet's board and its page answers: every refusal first, so that nothing is written where there is one.
 pub fn route_within(
     text: &[u8],
@@ -118,7 +172,7 @@ pub fn route_within(
         TextPlan::Refused { number, place } => BusText::Refused { number, place },
         TextPlan::Crowded { counts: _, place } => BusText::Refused { number: 8, place },
         TextPlan::Laned { counts, taps: m } => {
-            let laid = lay_and_settle(
+            let laid = finish_plan(
                 records,
                 counts,
                 m,
@@ -131,19 +185,9 @@ pub fn route_within(
                 rerouters,
                 bus_wires,
                 ports,
+                answers,
             );
-            let lanes = laid.bus;
-            let bus = turn_and_settle(
-                records,
-                counts,
-                facts,
-                rerouters,
-                bus_wires,
-                ports,
-                lanes,
-                marks,
-            );
-            write_pages(facts, counts.pages, answers);
+            let bus = laid.bus;
             BusText::Laid {
                 counts,
                 bus,

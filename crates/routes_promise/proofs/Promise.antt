@@ -30,7 +30,7 @@ use Rattle.routes_promise.specs.Promise.{Promised, RoutePromised}
 use Rattle.routes_promise.proofs.ReadBack.{done-promised}
 
 -- Rows that a plan was written to, counted by the answer.
-rows-counted : {b : Board} (bus : Bus) (old oldWires oldPorts : List (List ℕ)) {rerouters busWires ports : List (List ℕ)} {n k u : ℕ} → rerouters ≡ writtenOver rerouterRow (bus .rerouters) old → busWires ≡ writtenOver wireRow (bus .wires) oldWires
+pub rows-counted : {b : Board} (bus : Bus) (old oldWires oldPorts : List (List ℕ)) {rerouters busWires ports : List (List ℕ)} {n k u : ℕ} → rerouters ≡ writtenOver rerouterRow (bus .rerouters) old → busWires ≡ writtenOver wireRow (bus .wires) oldWires
     → ports ≡ portsOver (bus .ports) oldPorts → n ≡ length (bus .rerouters) → k ≡ length (bus .wires) → u ≡ length (bus .ports)
     → Promised b (writtenOver rerouterRow (bus .rerouters) old) (length (bus .rerouters)) (writtenOver wireRow (bus .wires) oldWires) (length (bus .wires)) (portsOver (bus .ports) oldPorts) (length (bus .ports))
     → Promised b rerouters n busWires k ports u
