@@ -19,4 +19,5 @@ watched "$seed" 5 many-lanes
 watched "$seed" 1 full-typical
 watched "$seed" 300 lanes
 watched "$seed" 1000 handed
+watched "$seed" 500 boxed
 echo "valgrind: no access outside of what was lent"

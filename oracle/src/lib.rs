@@ -8,6 +8,7 @@ pub mod facts;
 pub mod r#gen;
 #[cfg(feature = "original")]
 pub mod harness;
+pub mod hits;
 #[cfg(feature = "original")]
 pub mod lanes;
 pub mod model;

@@ -1,7 +1,9 @@
 //! Buffers that are lent to the calls and used again from board to board.
 
-use crate::calls::{self, BusCounts, Counts, MARK_ROWS, Output, TABLES, Work};
+use crate::calls::{self, BusCounts, Counts, HIT_FIELDS, HIT_NUMBERS, MARK_ROWS, Output};
 use crate::calls::{BusWireRow, PageRow, PortRow, RecordRow, RerouterRow, TableRow};
+use crate::calls::{TABLES, Work};
+use crate::hits::{Hits, PageBox};
 use crate::plan::{BusView, PlanView, pages_of};
 use crate::refusal::{Reason, Refusal};
 use crate::types::PageBus;
@@ -90,6 +92,7 @@ pub struct Buffers {
     bus_wires: Box<[BusWireRow]>,
     ports: Box<[PortRow]>,
     pages: Box<[PageRow]>,
+    hits: Box<[u32]>,
     records: Box<[RecordRow]>,
     /// The tables of work space, the marks last.
     tables: [Box<[TableRow]>; TABLES],
@@ -114,7 +117,7 @@ fn rows<const N: usize>(length: usize) -> Box<[[u32; N]]> {
 const MARKS: usize = TABLES - 1;
 
 impl Buffers {
-    /// Enough for every board within limits: for the library's 10.4 MiB.
+    /// Enough for every board within limits: for the library's 11.0 MiB.
     pub fn for_limits(limits: &Limits) -> Self {
         Self::for_counts(limits.pages, limits.wires, limits.records())
     }
@@ -133,6 +136,7 @@ impl Buffers {
             bus_wires: rows(6 * wires),
             ports: rows(wires),
             pages: rows(pages),
+            hits: vec![0; HIT_NUMBERS * wires].into_boxed_slice(),
             records: rows(records),
             tables: std::array::from_fn(|k| match k {
                 MARKS => rows(MARK_ROWS * records),
@@ -142,7 +146,7 @@ impl Buffers {
         }
     }
 
-    fn lent(&mut self) -> (Output<'_>, &mut [PageRow], Work<'_>) {
+    fn lent(&mut self) -> (Output<'_>, &mut [PageRow], &mut [u32], Work<'_>) {
         let out = Output {
             rerouters: &mut self.rerouters,
             bus_wires: &mut self.bus_wires,
@@ -150,7 +154,7 @@ impl Buffers {
         };
         let tables = self.tables.each_mut().map(|table| &mut table[..]);
         let work = Work::new(&mut self.records, tables);
-        (out, &mut self.pages, work)
+        (out, &mut self.pages, &mut self.hits, work)
     }
 
     /// Lanes and band of every page of a sheet's board.
@@ -158,7 +162,7 @@ impl Buffers {
         &mut self,
         sheet: &[u8],
     ) -> Result<impl ExactSizeIterator<Item = PageBus> + Clone + '_, Refusal> {
-        let (_, pages, work) = self.lent();
+        let (_, pages, _, work) = self.lent();
         let told = calls::plan_bus(sheet, pages, work);
         accepted(told.refusal, told.place)?;
         self.held.pages = told.pages;
@@ -169,7 +173,7 @@ impl Buffers {
     /// The gutter's lanes laid as rerouters and bus wires, in place of the bus
     /// that the buffers hold.
     pub fn lay_bus(&mut self, sheet: &[u8]) -> Result<BusView<'_>, Refusal> {
-        let (out, _, work) = self.lent();
+        let (out, _, _, work) = self.lent();
         let told = calls::lay_bus(sheet, out, work);
         accepted(told.refusal, told.place)?;
         self.hold(sheet, told.rerouters, told.bus_wires, told.ports);
@@ -186,7 +190,7 @@ impl Buffers {
     /// [`clear`]: Self::clear
     pub fn lay_mini_bus(&mut self, sheet: &[u8]) -> Result<BusView<'_>, Refusal> {
         let held = self.held.bus;
-        let (out, _, work) = self.lent();
+        let (out, _, _, work) = self.lent();
         let told = calls::lay_mini_bus(sheet, held, out, work);
         accepted(told.refusal, told.place)?;
         let counts = told.counts;
@@ -196,7 +200,7 @@ impl Buffers {
 
     /// The three calls in order, over one reading of the sheet.
     pub fn route(&mut self, sheet: &[u8]) -> Result<PlanView<'_>, Refusal> {
-        let (out, pages, work) = self.lent();
+        let (out, pages, _, work) = self.lent();
         let told = calls::route(sheet, out, pages, work);
         accepted(told.refusal, told.place)?;
         self.hold(sheet, told.rerouters, told.bus_wires, told.ports);
@@ -205,13 +209,33 @@ impl Buffers {
         Ok(self.plan())
     }
 
+    /// What of a board's plan is inside a box: a member's click on its page. The
+    /// buffers hold the plan afterwards, as [`route`](Self::route) leaves it.
+    ///
+    /// A box on a page that the board lacks, or with a range that ends under its
+    /// start, is refused with [`Reason::BadBox`] and line 0, after all else.
+    pub fn hits(&mut self, sheet: &[u8], page_box: &PageBox) -> Result<Hits<'_>, Refusal> {
+        let (out, pages, hits, work) = self.lent();
+        let told = calls::find_hits(sheet, page_box.numbers(), hits, out, pages, work);
+        accepted(told.refusal, told.place)?;
+        self.hold(sheet, told.rerouters, told.bus_wires, told.ports);
+        self.held.laid = told.groups;
+        self.held.pages = pages_of_sheet(sheet);
+        let (rerouters, behind) = self.hits.split_at(HIT_FIELDS * told.hit_rerouters);
+        Ok(Hits {
+            rerouters,
+            wires: &behind[..told.hit_wires],
+            plan: self.plan(),
+        })
+    }
+
     /// The plan sheet of a sheet's board, or the E line that turns it away, in
     /// front of `said`, as the library itself writes it; `None` where not even
     /// an E line fits. [`answer_room`](Self::answer_room) bytes are enough. The
     /// buffers hold no plan afterwards.
     pub fn answer<'s>(&mut self, sheet: &[u8], said: &'s mut [u8]) -> Option<&'s [u8]> {
         self.clear();
-        let (out, pages, work) = self.lent();
+        let (out, pages, _, work) = self.lent();
         let count = calls::answer(sheet, said, out, pages, work);
         (count > 0).then(|| &said[..count])
     }
@@ -342,6 +366,7 @@ mod tests {
         assert_eq!(buffers.bus_wires.len(), 49_152);
         assert_eq!(buffers.ports.len(), 8_192);
         assert_eq!(buffers.pages.len(), 64);
+        assert_eq!(buffers.hits.len(), 172_032);
         let work =
             16 * buffers.records.len() + 8 * buffers.tables.iter().map(|t| t.len()).sum::<usize>();
         assert_eq!(work, 96 * 20_800);

@@ -81,6 +81,32 @@ pub struct MiniNumbers {
     pub counts: BusCounts,
 }
 
+/// A page, and on it a range of x and one of y, in two's complement.
+#[repr(C)]
+#[derive(Clone, Copy, Debug, Default, PartialEq, Eq)]
+pub struct PageBox {
+    pub page: u32,
+    pub x0: u32,
+    pub x1: u32,
+    pub y0: u32,
+    pub y1: u32,
+}
+
+/// The answer of `find_hits`: the refusal's number, 0 for none, its place, how
+/// many rerouters and bus wires are hit, and what `route` answers of the plan.
+#[repr(C)]
+#[derive(Clone, Copy, Debug, Default, PartialEq, Eq)]
+pub struct HitsNumbers {
+    pub refusal: usize,
+    pub place: usize,
+    pub hit_rerouters: usize,
+    pub hit_wires: usize,
+    pub rerouters: usize,
+    pub bus_wires: usize,
+    pub ports: usize,
+    pub groups: usize,
+}
+
 /// How many records of each section: P, N, C, F, X, W.
 #[repr(C)]
 #[derive(Clone, Copy, Debug, Default, PartialEq, Eq)]
@@ -104,6 +130,12 @@ pub struct Output<'a> {
     pub bus_wires: &'a mut [BusWireRow],
     pub ports: &'a mut [PortRow],
 }
+
+/// So many numbers of the hit buffer are lent for a wire.
+pub const HIT_NUMBERS: usize = 21;
+
+/// A rerouter hit is so many of them: number, part and lane.
+pub const HIT_FIELDS: usize = 3;
 
 /// How many tables of work space there are beside the records.
 pub const TABLES: usize = 6;
@@ -171,6 +203,10 @@ declare! {
         &u8, &mut RerouterRow, &mut BusWireRow, &mut PortRow, &mut PageRow, &mut RecordRow, &mut TableRow,
         &mut TableRow, &mut TableRow, &mut TableRow, &mut TableRow, &mut TableRow
     ) -> PlanNumbers;
+    fn pz_find_hits(
+        &u8, @PageBox, &mut u32, &mut RerouterRow, &mut BusWireRow, &mut PortRow, &mut PageRow, &mut RecordRow,
+        &mut TableRow, &mut TableRow, &mut TableRow, &mut TableRow, &mut TableRow, &mut TableRow
+    ) -> HitsNumbers;
     fn pz_answer(
         &u8, &mut u8, &mut RerouterRow, &mut BusWireRow, &mut PortRow, &mut PageRow, &mut RecordRow, &mut TableRow,
         &mut TableRow, &mut TableRow, &mut TableRow, &mut TableRow, &mut TableRow
@@ -241,6 +277,24 @@ pub fn lay_mini_bus(text: &[u8], held: BusCounts, out: Output, work: Work) -> Mi
 pub fn route(text: &[u8], out: Output, pages: &mut [PageRow], work: Work) -> PlanNumbers {
     let o = out;
     call_with!(work; pz_route(text, &mut o.rerouters, &mut o.bus_wires, &mut o.ports, &mut pages))
+}
+
+/// `route`, and what of its plan is inside a box: in front of `hits` number,
+/// part and lane of each rerouter, [`MISSING`] for no lane, by rising number;
+/// behind them the numbers of the bus wires, rising. The named length of `hits`
+/// is [`HIT_NUMBERS`] a wire.
+pub fn find_hits(
+    text: &[u8],
+    page_box: PageBox,
+    hits: &mut [u32],
+    out: Output,
+    pages: &mut [PageRow],
+    work: Work,
+) -> HitsNumbers {
+    let o = out;
+    call_with!(work; pz_find_hits(
+        text, @page_box, &mut hits, &mut o.rerouters, &mut o.bus_wires, &mut o.ports, &mut pages
+    ))
 }
 
 /// `route`, and its plan sheet or the E line in front of `said`: how many bytes

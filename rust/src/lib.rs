@@ -3,10 +3,11 @@
 //!
 //! A [`Board`] is written as a sheet, a call reads the sheet and leaves a plan
 //! in [`Buffers`], and the plan is walked where it stands. The calls are the
-//! original's (`plan_bus`, `lay_bus`, `lay_mini_bus`, `allocate_lanes`) and
-//! `route`, which is the first three in order. What they answer is proved equal
-//! to the rules for every text and every length of every buffer; the crate
-//! around them passes slices and turns numbers into types.
+//! original's (`plan_bus`, `lay_bus`, `lay_mini_bus`, `allocate_lanes`),
+//! `route`, which is the first three in order, and `hits`, which is `route` and
+//! what of the plan is inside a box. What they answer is proved equal to the
+//! rules for every text and every length of every buffer; the crate around them
+//! passes slices and turns numbers into types.
 //!
 //! # A board and its plan
 //!
@@ -95,6 +96,34 @@
 //! }
 //! ```
 //!
+//! # A click
+//!
+//! A member clicks a rectangle on a page of the first board.
+//!
+//! ```
+//! use panzhyqur::*;
+//!
+//! # let sheet = "P 0 10;N 1 0 1 0 2 2 0 20 0 0 0 -;N 2 0 0 0 2 2 0 10 8 0 10 -;\
+//! #     N 3 0 0 0 2 2 0 0 8 0 20 -;W 1 5 2 1;W 1 5 3 1;";
+//! # let sheet = sheet.replace(' ', "\t").replace(';', "\n").into_bytes();
+//! # let mut buffers = Buffers::for_limits(&Limits::LIBRARY);
+//! let page_box = PageBox { page: 0, x: (11, 22), y: (-8, -3) };
+//! let hits = buffers.hits(&sheet, &page_box)?;
+//! for hit in hits.rerouters() { /* hit.number, hit.part, hit.lane */ }
+//! for number in hits.wires() { /* a place among hits.plan().wires() */ }
+//!
+//! let source = RerouterHit { number: 0, part: Part::Source, lane: None };
+//! assert_eq!(hits.rerouters().next(), Some(source));
+//! assert_eq!(hits.rerouters().len(), 4);
+//! assert!(hits.wires().eq([1, 2, 3, 6]));
+//! assert_eq!(hits.plan().nodes().len(), 8);
+//!
+//! let nowhere = PageBox { page: 1, ..page_box };
+//! let refusal = buffers.hits(&sheet, &nowhere).err();
+//! assert_eq!(refusal.map(|r| r.reason), Some(Reason::BadBox));
+//! # Ok::<(), Refusal>(())
+//! ```
+//!
 //! # The stack
 //!
 //! The calls keep tables of local numbers on the stack: [`stack::NEED`] bytes,
@@ -108,6 +137,7 @@ pub mod stack;
 
 mod board;
 mod buffers;
+mod hits;
 mod lanes;
 mod plan;
 mod refusal;
@@ -120,6 +150,7 @@ pub mod beside;
 
 pub use board::{Board, Chip, Exec, Inner, Node, Page, Record, Wire};
 pub use buffers::{Buffers, Limits, check_sheet};
+pub use hits::{Hits, PageBox, RerouterHit};
 pub use lanes::{BusDemand, LaneBuffers, allocate_lanes};
 pub use plan::{BusView, Plan, PlanView, Totals, UnreadablePlan};
 pub use refusal::{LaneRefusal, Reason, Refusal};

@@ -19,11 +19,11 @@ pub struct BusView<'a> {
 
 /// A number of a row as a case of its enum. The library is proved to write no
 /// other; should one stand there, this stops.
-fn case<T: TryFrom<u32, Error = UnknownNumber>>(number: u32) -> T {
+pub(crate) fn case<T: TryFrom<u32, Error = UnknownNumber>>(number: u32) -> T {
     T::try_from(number).unwrap_or_else(|e| panic!("in a row of the library's: {e}"))
 }
 
-fn maybe(number: u32) -> Option<usize> {
+pub(crate) fn maybe(number: u32) -> Option<usize> {
     (number != MISSING).then_some(number as usize)
 }
 
@@ -211,7 +211,7 @@ impl Plan {
 }
 
 /// A field that may be missing.
-struct OrDash<T>(Option<T>);
+pub(crate) struct OrDash<T>(pub(crate) Option<T>);
 
 impl<T: fmt::Display> fmt::Display for OrDash<T> {
     fn fmt(&self, f: &mut fmt::Formatter<'_>) -> fmt::Result {

@@ -5,7 +5,8 @@ use std::error::Error;
 use std::fmt;
 
 numbered! {
-    /// What turns a board away, E1 to E8 of `docs/RULES.md`, in the order tried.
+    /// What turns a board away, E1 to E8 of `docs/RULES.md`, or a box on it, in
+    /// the order tried.
     Reason {
         /// E1: a line can't be read, or comes after one of a later section.
         Unreadable = 1,
@@ -23,6 +24,9 @@ numbered! {
         TooShort = 7,
         /// E8: a page needs more than 512 lanes.
         TooManyLanes = 8,
+        /// A box whose page the board lacks, or with a range that ends under
+        /// its start. Of [`hits`](crate::Buffers::hits) alone.
+        BadBox = 9,
     }
 }
 
@@ -42,11 +46,14 @@ impl Reason {
             Self::RowUnplaced => "the node has a row and no placement",
             Self::TooShort => "a lent buffer is too short",
             Self::TooManyLanes => "the page opens a 513th lane",
+            Self::BadBox => {
+                "the box's page is not on the board, or a range of it ends under its start"
+            }
         }
     }
 }
 
-/// Why a board is turned away. The output buffers are as they were.
+/// Why a board, or a box on it, is turned away. The output buffers are as they were.
 #[derive(Clone, Copy, Debug, PartialEq, Eq, Hash)]
 pub struct Refusal {
     pub reason: Reason,
@@ -153,13 +160,16 @@ mod tests {
         let mut messages: Vec<&str> = Reason::ALL.iter().map(|r| r.message()).collect();
         messages.sort_unstable();
         messages.dedup();
-        assert_eq!(messages.len(), 8);
+        assert_eq!(messages.len(), 9);
+        let told = "refused: the box's page is not on the board, or a range of it ends under its start (refusal 9)";
+        let bad_box = Refusal::of(9, 0).expect("a refusal");
+        assert_eq!(bad_box.to_string(), told);
     }
 
     #[test]
-    #[should_panic(expected = "refusal 9")]
+    #[should_panic(expected = "refusal 10")]
     fn an_unknown_number() {
-        let _ = Refusal::of(9, 1);
+        let _ = Refusal::of(10, 1);
     }
 
     #[test]

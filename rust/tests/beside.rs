@@ -6,7 +6,7 @@ use panzhyqur::beside::differ::{Difference, Memory, run};
 use panzhyqur::route_sheet;
 use panzhyqur::{Part, Plan};
 
-fn quick(seed: u64, count: u64, size: &str, memory: Memory) -> [usize; 9] {
+fn quick(seed: u64, count: u64, size: &str, memory: Memory) -> [usize; 10] {
     let mut tell = |d: &Difference| panic!("{size} {}: {}\n{}", d.item, d.told, d.small);
     let tally = run(seed, count, size, memory, &mut tell).expect("the size is known");
     assert_eq!(tally.different, 0);
@@ -58,6 +58,24 @@ fn buses_handed_in() {
     assert!(handed.causes.iter().all(|n| *n > 100) && handed.by_a_row > 100);
     assert!(handed.crowded_too > 10 && handed.tight > 100 && handed.cornered > 100);
     quick(11, 200, "handed", Memory::Anew);
+}
+
+/// Boxes on boards of every size: hits, touching, edges, hit buffers that are
+/// too short, and boxes at fault.
+#[test]
+fn boxes_clicked() {
+    let mut tell = |d: &Difference| panic!("boxed {}: {}\n{}", d.item, d.told, d.small);
+    let tally = run(11, 600, "boxed", Memory::Reused, &mut tell).expect("the size is known");
+    assert_eq!(tally.different, 0);
+    for number in [0, 1, 7, 8, 9] {
+        assert!(tally.outcomes[number] > 10, "few get {number}");
+    }
+    let clicks = &tally.clicks;
+    assert!(clicks.lists > 300 && clicks.empty > 300);
+    assert!(clicks.rerouters > 1_000 && clicks.wires > 1_000);
+    assert!(clicks.touched > 300 && clicks.in_empty > 100 && clicks.at_edge > 300);
+    assert!(clicks.short > 300 && clicks.no_page > 50 && clicks.no_range > 50);
+    quick(11, 100, "boxed", Memory::Anew);
 }
 
 #[test]

@@ -102,6 +102,56 @@ fn a_folder() {
     assert_eq!(said(&route(&[&one], "").stdout), EMPTY);
 }
 
+/// Document 01's example (a).
+const EXAMPLE: &str = "P\t0\t10\nN\t1\t0\t1\t0\t2\t2\t0\t20\t0\t0\t0\t-\n\
+    N\t2\t0\t0\t0\t2\t2\t0\t10\t8\t0\t10\t-\nN\t3\t0\t0\t0\t2\t2\t0\t0\t8\t0\t20\t-\n\
+    W\t1\t5\t2\t1\nW\t1\t5\t3\t1\n";
+
+#[test]
+fn a_box() {
+    let inside = |word: &str| said(&route(&["--box", word], EXAMPLE).stdout);
+    let list = "R\t0\t1\t-\nR\t1\t2\t0\nR\t2\t3\t0\nR\t3\t4\t0\nB\t1\nB\t2\nB\t3\nB\t6\n";
+    assert_eq!(inside("0,11,22,-8,-3"), list);
+    assert_eq!(inside("0,20,20,-5,-5"), "B\t1\n");
+    assert_eq!(inside("0,21,21,-4,-4"), "R\t0\t1\t-\n");
+    assert_eq!(inside("0,30,40,-2147483648,2147483647"), "");
+    let refused = "E\t9\t0\n";
+    for word in ["1,0,9,0,9", "4294967295,0,0,0,0", "0,1,0,0,9", "0,0,9,0,-1"] {
+        assert_eq!(inside(word), refused, "{word}");
+    }
+    // Refusals of the sheet come first, and many sheets have an answer each.
+    let many = format!("P\t07\t0\n%%\n{EXAMPLE}%%\n%%\n{EXAMPLE}");
+    let out = route(&["--check", "--box", "0,20,20,-5,-5"], &many);
+    let due = format!("E\t1\t1\n%%\nB\t1\n%%\n{refused}%%\nB\t1\n");
+    assert_eq!(said(&out.stdout), due);
+    assert_eq!(
+        (said(&out.stderr).as_str(), out.status.code()),
+        ("", Some(0))
+    );
+    let nine = "P\t0\t0\n".repeat(9);
+    let out = route(&["--program", "--box", "9,0,0,0,0"], &nine);
+    assert_eq!(said(&out.stdout), "E\t2\t9\n");
+    let wrong = [
+        "",
+        "0",
+        "0,1,2,3",
+        "0,1,2,3,4,5",
+        "-1,1,2,3,4",
+        "0,1,2,3,x",
+        "4294967296,1,2,3,4",
+        "0,2147483648,2,3,4",
+        "0, 1,2,3,4",
+    ];
+    for word in wrong {
+        let out = route(&["--box", word], EXAMPLE);
+        assert_eq!(out.status.code(), Some(2), "{word}");
+        assert!(said(&out.stderr).starts_with("--box asks for PAGE,X0,X1,Y0,Y1"));
+        assert!(out.stdout.is_empty());
+    }
+    let out = route(&["--box"], EXAMPLE);
+    assert_eq!(out.status.code(), Some(2));
+}
+
 #[test]
 fn what_is_wrong_is_told() {
     let out = route(&["--chek"], "");
@@ -114,5 +164,5 @@ fn what_is_wrong_is_told() {
     assert!(said(&out.stderr).starts_with("no/such/folder can't be read: "));
     let out = route(&["--help"], "");
     assert_eq!(out.status.code(), Some(0));
-    assert!(said(&out.stdout).starts_with("route [--program] [--check]"));
+    assert!(said(&out.stdout).starts_with("route [--program] [--check] [--box"));
 }

@@ -1,6 +1,7 @@
-//! A server's save allocates nothing once its buffers are made.
+//! A server's save, or a member's click, allocates nothing once its buffers are
+//! made.
 
-use panzhyqur::{Board, Buffers, Class, Limits, Node, NodeId, Page, Wire, WirePort};
+use panzhyqur::{Board, Buffers, Class, Limits, Node, NodeId, Page, PageBox, Wire, WirePort};
 use std::alloc::{GlobalAlloc, Layout, System};
 use std::cell::Cell;
 
@@ -90,6 +91,19 @@ fn save(buffers: &mut Buffers, sheet: &mut Vec<u8>, board: &Board) -> i64 {
     sum
 }
 
+/// One click: what is inside a box walked, and the plan beside it.
+fn click(buffers: &mut Buffers, sheet: &[u8], page_box: &PageBox) -> i64 {
+    match buffers.hits(sheet, page_box) {
+        Ok(hits) => {
+            let lanes = hits.rerouters().filter(|hit| hit.lane.is_some()).count();
+            let numbers: usize = hits.rerouters().map(|hit| hit.number).sum();
+            let wires: usize = hits.wires().sum();
+            (lanes + numbers + wires + hits.plan().nodes().len()) as i64
+        }
+        Err(refusal) => i64::from(refusal.number()),
+    }
+}
+
 #[test]
 fn a_running_server_allocates_nothing() {
     let saves: Vec<Board> = [300, 1, 0, 900, 12].map(board).into();
@@ -97,12 +111,19 @@ fn a_running_server_allocates_nothing() {
     damaged.nodes[2].half = (0, 0);
     let mut buffers = Buffers::for_limits(&Limits::LIBRARY);
     let mut sheet = Vec::with_capacity(1 << 20);
+    let all = (i32::MIN, i32::MAX);
+    let boxes = [(0, all, all), (0, (0, 20), (-9, 9)), (1, all, all)];
+    let boxes = boxes.map(|(page, x, y)| PageBox { page, x, y });
     let before = COUNT.with(Cell::get);
     let mut sum = 0;
     for _ in 0..3 {
         for board in &saves {
-            sum += save(&mut buffers, &mut sheet, board);
-            sum += save(&mut buffers, &mut sheet, &damaged);
+            for board in [board, &damaged] {
+                sum += save(&mut buffers, &mut sheet, board);
+                for page_box in &boxes {
+                    sum += click(&mut buffers, &sheet, page_box);
+                }
+            }
         }
     }
     let counted = COUNT.with(Cell::get) - before;

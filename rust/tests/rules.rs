@@ -1,7 +1,7 @@
 //! The blocks of docs/RULES.md and the boards under examples/, each with its
 //! answer, byte for byte; and what the documents name is there.
 
-use panzhyqur::{Buffers, Limits, calls, check_sheet};
+use panzhyqur::{Buffers, Limits, PageBox, calls, check_sheet};
 use std::collections::BTreeSet;
 use std::fs;
 use std::path::{Path, PathBuf};
@@ -89,6 +89,29 @@ fn sheets_of_the_rules() {
     }
 }
 
+/// The boxes, asked of the first board.
+#[test]
+fn boxes_of_the_rules() {
+    let sheet = pairs("sheet", "plan").remove(0).0.replace(' ', "\t");
+    let mut buffers = Buffers::for_limits(&Limits::PROGRAM);
+    let pairs = pairs("box", "hits");
+    assert_eq!(pairs.len(), 1);
+    for (asked, told) in pairs {
+        let numbers: Vec<i32> = (asked.split_whitespace())
+            .map(|n| n.parse().expect("a number"))
+            .collect();
+        let page_box = PageBox {
+            page: numbers[0] as u32,
+            x: (numbers[1], numbers[2]),
+            y: (numbers[3], numbers[4]),
+        };
+        let hits = buffers
+            .hits(sheet.as_bytes(), &page_box)
+            .expect("the board is accepted");
+        assert_eq!(hits.to_string(), told.replace(' ', "\t"));
+    }
+}
+
 /// One list of demands through the lane call.
 fn lanes(list: &str) -> String {
     let numbers = list
@@ -150,7 +173,7 @@ fn boards_of_the_examples() {
 /// The rules' numbers that a text names: one of their letters, then digits.
 fn numbers(text: &str) -> BTreeSet<String> {
     let is_number = |word: &&str| {
-        let digits = word.strip_prefix(|c| "SECLGDTVRKWP".contains(c));
+        let digits = word.strip_prefix(|c| "SECLGDTVRKWPH".contains(c));
         digits.is_some_and(|d| !d.is_empty() && d.bytes().all(|b| b.is_ascii_digit()))
     };
     let words = text.split(|c: char| !c.is_ascii_alphanumeric() && c != '_');

@@ -3,15 +3,20 @@
 
 use oracle::r#gen;
 use panzhyqur::stack::NEED;
-use panzhyqur::{Buffers, Limits};
+use panzhyqur::{Buffers, Limits, PageBox};
 use std::process::Command;
 
-/// How many of some sheets are accepted on a thread with so much stack.
+/// How many of some sheets are accepted, by `route` and by `hits`, on a thread
+/// with so much stack.
 fn accepted(stack: usize, sheets: Vec<Vec<u8>>) -> usize {
     let mut buffers = Buffers::for_limits(&Limits::LIBRARY);
     let thread = std::thread::Builder::new().stack_size(stack);
     let routing = thread.spawn(move || {
-        let routed = |sheet: &Vec<u8>| usize::from(buffers.route(sheet).is_ok());
+        let page_box = PageBox::default();
+        let routed = |sheet: &Vec<u8>| {
+            let routed = buffers.route(sheet).is_ok();
+            usize::from(buffers.hits(sheet, &page_box).is_ok() && routed)
+        };
         sheets.iter().map(routed).sum()
     });
     let routing = routing.expect("a thread can be started");

@@ -48,7 +48,7 @@ fn board(rng: &mut Rng, size: &str) -> Board {
 }
 
 /// A page more, on which an Input's ports open a lane each on one row.
-fn with_lanes(mut board: Board, lanes: u16) -> Board {
+pub(super) fn with_lanes(mut board: Board, lanes: u16) -> Board {
     let page = board.pages.len();
     board.pages.push(Page {
         min_y: Some(0),

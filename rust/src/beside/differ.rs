@@ -1,11 +1,14 @@
 //! Many sheets, or demand lists, of a seed and size through both sides.
 
 use super::both::Both;
+use super::boxes;
 use super::buses::{self, Case};
+use super::clicks::{self, ClickTally};
 use super::handed::{self, Cause, Due};
 use super::room::{Lending, Reports, Room, Way};
 use super::truth::Truth;
 use super::{lists, reading, sheets, typed};
+use crate::Buffers;
 use oracle::plan::Plan;
 use oracle::rng::Rng;
 use oracle::{Limits, r#gen, lanes, shrink};
@@ -17,8 +20,8 @@ const TOLD: usize = 3;
 /// What came of the sheets of one size.
 #[derive(Clone, Debug, Default)]
 pub struct Tally {
-    /// How many were accepted, and refused by 1 to 8, with the lengths lent.
-    pub outcomes: [usize; 9],
+    /// How many were accepted, and refused by 1 to 9, with the lengths lent.
+    pub outcomes: [usize; 10],
     /// Plans with a rerouter, and with a corner.
     laid: usize,
     cornered: usize,
@@ -30,6 +33,7 @@ pub struct Tally {
     /// How often each of the three calls was refused.
     refused: [usize; 3],
     pub handed: HandedTally,
+    pub clicks: ClickTally,
     pub different: usize,
 }
 
@@ -79,10 +83,12 @@ pub fn run(
     let mut tally = Tally::default();
     let mut both = both_of(memory);
     let mut room = room_of(memory);
+    let mut rooms = rooms_of(memory);
     for item in 0..count {
         let difference = match size {
             "lanes" => one_list(&mut tally, seed, item),
             "handed" => one_bus(&mut tally, &mut room, seed, item, memory),
+            "boxed" => one_clicked(&mut tally, &mut rooms, seed, item, memory),
             _ => one_sheet(&mut tally, &mut both, seed, item, size, memory)?,
         };
         if let Some(difference) = difference {
@@ -96,6 +102,13 @@ fn room_of(memory: Memory) -> Room {
     match memory {
         Memory::Reused => Room::default(),
         Memory::Anew => Room::anew(),
+    }
+}
+
+fn rooms_of(memory: Memory) -> clicks::Rooms {
+    match memory {
+        Memory::Reused => clicks::Rooms::default(),
+        Memory::Anew => clicks::Rooms::anew(),
     }
 }
 
@@ -222,6 +235,60 @@ fn one_bus(
     })
 }
 
+/// The boxes on one board. The sheet counts once as different, and the box on
+/// which it first is stays while the sheet is shrunk.
+fn one_clicked(
+    tally: &mut Tally,
+    rooms: &mut clicks::Rooms,
+    seed: u64,
+    item: u64,
+    memory: Memory,
+) -> Option<Difference> {
+    let faults = |rooms: &mut clicks::Rooms, sheet: &[u8], truth: &Truth, click: &boxes::Click| {
+        let due = clicks::Due::of(truth, click);
+        rooms.faults(sheet, truth, click, &due)
+    };
+    let sheet = boxes::sheet(seed, item).into_boxed_slice();
+    let truth = Truth::of(&sheet);
+    let mut buffers = Buffers::for_sheet(&sheet);
+    let mut first = None;
+    for click in boxes::clicks(&truth, seed, item) {
+        tally.add_click(&truth, &click);
+        let mut found = faults(rooms, &sheet, &truth, &click);
+        let page_box = &click.page_box;
+        found.extend(clicks::typed_faults(&mut buffers, &sheet, &truth, page_box));
+        if !found.is_empty() {
+            first = first.or(Some((click, found)));
+        }
+    }
+    let (click, found) = first?;
+    tally.different += 1;
+    if tally.different > TOLD {
+        return None;
+    }
+    let again = |s: &[u8]| {
+        let truth = Truth::of(s);
+        let mut found = faults(&mut rooms_of(memory), s, &truth, &click);
+        let mut buffers = Buffers::for_sheet(s);
+        let typed = clicks::typed_faults(&mut buffers, s, &truth, &click.page_box);
+        found.extend(typed);
+        found
+    };
+    let small = shrink::sheet(&sheet, |s| !again(s).is_empty());
+    let truth = Truth::of(&small);
+    let told = format!(
+        "{found:?}\nshrunk, {click:?}: {:?}\ndue: {:?}\noriginal: {}",
+        again(&small),
+        clicks::Due::of(&truth, &click),
+        answer(&truth)
+    );
+    Some(Difference {
+        item,
+        small: String::from_utf8_lossy(&small).into_owned(),
+        told,
+    })
+}
+
 fn one_list(tally: &mut Tally, seed: u64, item: u64) -> Option<Difference> {
     let rng = &mut Rng::for_item(seed, item);
     let list = r#gen::lanes::list(rng);
@@ -260,6 +327,12 @@ impl Tally {
         if let (Ok(plan), 0) = (&truth.plan, refusal) {
             self.add_plan(plan);
         }
+    }
+
+    fn add_click(&mut self, truth: &Truth, click: &boxes::Click) {
+        let due = clicks::Due::of(truth, click);
+        self.outcomes[due.report.refusal] += 1;
+        self.clicks.add(truth, click, &due);
     }
 
     fn add_handed(&mut self, due: &Due) {
@@ -311,6 +384,9 @@ impl fmt::Display for Tally {
         }
         if self.handed.causes != [0; 3] || self.handed.corners > 0 {
             write!(f, "\n{}", self.handed)?;
+        }
+        if self.clicks.clicks > 0 {
+            write!(f, "\n{}", self.clicks)?;
         }
         if self.totals == [0; 5] {
             return Ok(());

@@ -2,7 +2,9 @@
 //! length and poison in every buffer.
 
 pub mod both;
+pub mod boxes;
 pub mod buses;
+pub mod clicks;
 pub mod differ;
 pub mod handed;
 pub mod lists;

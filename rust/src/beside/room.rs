@@ -2,9 +2,9 @@
 //! the library with them.
 
 use crate::buffers::lines_of;
-use crate::calls::{self, BusCounts, MARK_ROWS, MISSING, Output, TABLES, Work};
+use crate::calls::{self, BusCounts, HIT_NUMBERS, MARK_ROWS, MISSING, Output, TABLES, Work};
 use crate::calls::{BusWireRow, PageRow, PortRow, RerouterRow};
-use crate::calls::{MiniNumbers, PagesNumbers, PlanNumbers};
+use crate::calls::{HitsNumbers, MiniNumbers, PageBox, PagesNumbers, PlanNumbers};
 use crate::plan::{BusView, PlanView};
 
 /// Stands in a row after the end of each slice that is lent.
@@ -213,9 +213,21 @@ pub struct Room {
     bus_wires: Buffer<6>,
     ports: Buffer<2>,
     answers: Buffer<2>,
+    hits: Buffer<1>,
     records: Buffer<16>,
     tables: [Buffer<8>; TABLES],
     anew: bool,
+}
+
+/// What `find_hits` reports and leaves in the buffers.
+#[derive(Clone, Debug)]
+pub struct Clicked {
+    pub answer: HitsNumbers,
+    /// All but the hits, as `route` would report and leave it.
+    pub found: Found,
+    /// The hit buffer before the call and after it, whole.
+    pub before: Vec<u32>,
+    pub after: Vec<u32>,
 }
 
 /// What the calls report and leave in the buffers.
@@ -265,15 +277,42 @@ impl Room {
     /// A sheet through `route`, or through the three calls.
     pub fn call(&mut self, sheet: &[u8], lending: &Lending, way: Way) -> Found {
         let lines = Lines::of(sheet);
-        let lengths = lines.lengths(&lending.rows);
-        let [rerouters, wires, ports, answers, ..] = lengths;
-        let (output, anew) = (lending.output, self.anew);
-        self.rerouters.lend_output(rerouters, output, anew);
-        self.bus_wires.lend_output(wires, output, anew);
-        self.ports.lend_output(ports, output, anew);
-        self.answers.lend_output(answers, output, anew);
-        self.lend_work(&lengths, lending.work);
+        self.lend_all(&lines.lengths(&lending.rows), lending);
         self.run(sheet, &lines, way)
+    }
+
+    /// A sheet and a box through `find_hits`, with so many numbers more or
+    /// fewer in the hit buffer than named.
+    pub fn click(
+        &mut self,
+        sheet: &[u8],
+        lending: &Lending,
+        page_box: PageBox,
+        more: isize,
+    ) -> Clicked {
+        let lines = Lines::of(sheet);
+        self.lend_all(&lines.lengths(&lending.rows), lending);
+        let length = (HIT_NUMBERS * lines.wires).saturating_add_signed(more);
+        self.hits.lend_output(length, lending.output, self.anew);
+        let mut hits = std::mem::take(&mut self.hits);
+        let list = hits.slice().as_flattened_mut();
+        let (out, pages, work) = self.lent();
+        let answer = calls::find_hits(sheet, page_box, list, out, pages, work);
+        self.hits = hits;
+        let numbers = PlanNumbers {
+            refusal: answer.refusal,
+            place: answer.place,
+            rerouters: answer.rerouters,
+            bus_wires: answer.bus_wires,
+            ports: answer.ports,
+            groups: answer.groups,
+        };
+        Clicked {
+            answer,
+            found: self.found(&lines, Reports::Route(numbers), Faults::default()),
+            before: self.hits.before.as_flattened().to_vec(),
+            after: self.hits.whole().as_flattened().to_vec(),
+        }
     }
 
     /// The same with output buffers of the length and content that another
@@ -312,6 +351,16 @@ impl Room {
             ports: self.ports.whole().to_vec(),
         };
         (turned, after, self.is_guarded())
+    }
+
+    fn lend_all(&mut self, lengths: &[usize; SLICES], lending: &Lending) {
+        let [rerouters, wires, ports, answers, ..] = *lengths;
+        let (output, anew) = (lending.output, self.anew);
+        self.rerouters.lend_output(rerouters, output, anew);
+        self.bus_wires.lend_output(wires, output, anew);
+        self.ports.lend_output(ports, output, anew);
+        self.answers.lend_output(answers, output, anew);
+        self.lend_work(lengths, lending.work);
     }
 
     fn lend_work(&mut self, lengths: &[usize; SLICES], fill: Option<u32>) {
@@ -402,6 +451,7 @@ impl Room {
             && self.bus_wires.is_guarded()
             && self.ports.is_guarded()
             && self.answers.is_guarded()
+            && self.hits.is_guarded()
             && self.records.is_guarded()
             && self.tables.iter().all(Buffer::is_guarded)
     }

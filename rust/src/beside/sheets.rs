@@ -5,7 +5,14 @@ use oracle::rng::Rng;
 use oracle::{Limits, r#gen};
 
 /// The sizes that `differ` takes besides the generator's boards.
-pub const OTHERS: [&str; 5] = ["damaged", "scratched", "to-the-most", "lanes", "handed"];
+pub const OTHERS: [&str; 6] = [
+    "damaged",
+    "scratched",
+    "to-the-most",
+    "lanes",
+    "handed",
+    "boxed",
+];
 
 /// Sheet `i` of a seed and size, or `None` where the word names no size and no
 /// file.
@@ -46,7 +53,7 @@ pub fn rows(rng: &mut Rng) -> Rows {
 }
 
 /// A few bytes of a sheet changed, left out, put in or doubled.
-fn scratched(rng: &mut Rng, mut text: Vec<u8>) -> Vec<u8> {
+pub(super) fn scratched(rng: &mut Rng, mut text: Vec<u8>) -> Vec<u8> {
     const BYTES: &[u8] = b"0123456789--\t\t\n\nPNCFXW +\r\x00\xff";
     for _ in 0..1 + rng.below(3) {
         let at = rng.below(text.len() + 1);
@@ -61,7 +68,7 @@ fn scratched(rng: &mut Rng, mut text: Vec<u8>) -> Vec<u8> {
 }
 
 /// A small sheet with one section filled to the library's most, or one over.
-fn to_the_most(rng: &mut Rng) -> Vec<u8> {
+pub(super) fn to_the_most(rng: &mut Rng) -> Vec<u8> {
     let sheet = r#gen::sheet(rng.number(), 0, "tiny").expect("a size of the generator");
     let mut lines: Vec<String> = (String::from_utf8_lossy(&sheet).lines())
         .map(str::to_string)

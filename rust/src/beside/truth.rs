@@ -15,7 +15,7 @@ use std::collections::BTreeSet;
 pub struct Truth {
     pub board: Result<Board, Refusal>,
     pub plan: Result<Plan, Refusal>,
-    lines: Lines,
+    pub(super) lines: Lines,
     plan_sheet: String,
 }
 
@@ -41,7 +41,7 @@ impl Truth {
 
     /// The refusal that is due from a call which is lent page answers, or the
     /// buffers of a bus, or both: 1 to 8.
-    fn refusal(&self, rows: &Rows, pages: bool, bus: bool) -> Option<Refusal> {
+    pub(super) fn refusal(&self, rows: &Rows, pages: bool, bus: bool) -> Option<Refusal> {
         let short = match &self.board {
             Ok(board) => too_short(board, &self.lines, rows, pages, bus),
             Err(refusal) => Some(*refusal),
@@ -225,7 +225,7 @@ fn refused(refusal: usize, place: usize) -> PlanNumbers {
     }
 }
 
-fn numbers(plan: &Plan) -> PlanNumbers {
+pub(super) fn numbers(plan: &Plan) -> PlanNumbers {
     PlanNumbers {
         rerouters: plan.rerouters.len(),
         bus_wires: plan.bus_wires.len(),

@@ -56,7 +56,7 @@ pub fn board_of(board: &theirs::Board) -> Board {
     }
 }
 
-fn as_theirs(refusal: refusal::Refusal) -> theirs::Refusal {
+pub(super) fn as_theirs(refusal: refusal::Refusal) -> theirs::Refusal {
     theirs::Refusal::new(refusal.number(), refusal.line)
 }
 

@@ -8,7 +8,7 @@ use panzhyqur::beside::truth::Truth;
 use panzhyqur::beside::{plain, plot, typed};
 use panzhyqur::calls::{self, Counts};
 use panzhyqur::stack::with_stack;
-use panzhyqur::{self as ours, Buffers};
+use panzhyqur::{self as ours, Buffers, PageBox};
 use std::fmt::Write;
 use std::hint::black_box;
 use std::process::ExitCode;
@@ -19,10 +19,10 @@ bench [--quick] [--seed N] [--into FILE] [--plot FILE]: the library and the orig
 
 Times both on the same full boards in one run, the reading of text apart and
 together, then the boards that are drawn against the library's own steps, then
-boards of 512 to 8,192 wires, typical ones and the worst one, then the reading of a
-sheet, the three calls one by one and the lane call alone. The calls are timed in
-turn, so that what else runs slows all alike; the shortest run counts. The plans of
-the boards are compared too.
+boards of 512 to 8,192 wires, typical ones and the worst one, then a click, the
+reading of a sheet, the three calls one by one and the lane call alone. The calls
+are timed in turn, so that what else runs slows all alike; the shortest run counts.
+The plans of the boards are compared too.
 
 --quick      fewer runs, and without crowded corners, which take the original more
              than a minute (it has one run there, and no comparison: `differ 1 1
@@ -257,6 +257,7 @@ fn tables(seed: u64, quick: bool) -> (String, Vec<plot::Line>) {
     worst_boards(&mut out, typical, effort);
     let mut lines = growth(&mut out, seed, effort);
     lines.push(growth_of_worst(&mut out, effort));
+    a_click(&mut out, seed, effort);
     reading(&mut out, seed, effort);
     three_calls(&mut out, seed, effort);
     lane_call(&mut out, seed, effort);
@@ -483,6 +484,69 @@ fn growth_of_worst(out: &mut String, effort: Effort) -> plot::Line {
     plot::Line {
         name: format!("route, {WORST}"),
         points,
+    }
+}
+
+/// `hits` beside `route`, with a box of the whole page that has most rerouters,
+/// and with a small one about the middle one of these.
+fn a_click(out: &mut String, seed: u64, effort: Effort) {
+    out.push_str(
+        "
+**A click**: `hits` with a box of the whole page that has most rerouters, and with a small one on it
+
+| Board | `route` | Page | Whole page: rerouters, bus wires hit | `hits` | to `route` | Small box: rerouters, bus wires hit | `hits` | to `route` |
+|---|---|---|---|---|---|---|---|---|
+",
+    );
+    for (size, name) in &BOARDS[..2] {
+        eprintln!("a click, {name}");
+        let sheet = r#gen::sheet(seed, 0, size).expect("a size of the generator");
+        let [mut one, mut two, mut three] =
+            [(); 3].map(|()| Buffers::for_limits(&ours::Limits::LIBRARY));
+        let plan = one.route(&sheet).expect("the board is accepted");
+        let on_page = |page: usize| plan.nodes().filter(move |r| r.page == page);
+        let pages = 0..plan.pages().len();
+        let page = pages.rev().max_by_key(|page| on_page(*page).count());
+        let page = page.expect("the board has a page");
+        let middle = on_page(page).nth(on_page(page).count() / 2);
+        let (x, y) = middle.map_or((0, 0), |r| (r.x, r.y));
+        let on = |x, y| PageBox {
+            page: page as u32,
+            x,
+            y,
+        };
+        let all = (i32::MIN, i32::MAX);
+        let whole = on(all, all);
+        let small = on((x - 3, x + 5), (y - 3, y + 5));
+        let [route, of_page, of_few] = in_turn(
+            effort,
+            [
+                &mut || {
+                    black_box(one.route(black_box(&sheet)).is_ok());
+                },
+                &mut || {
+                    black_box(two.hits(black_box(&sheet), black_box(&whole)).is_ok());
+                },
+                &mut || {
+                    black_box(three.hits(black_box(&sheet), black_box(&small)).is_ok());
+                },
+            ],
+        );
+        let mut counts = |page_box: &PageBox| {
+            let hits = one.hits(&sheet, page_box).expect("the box is on the board");
+            format!("{}, {}", hits.rerouters().len(), hits.wires().len())
+        };
+        let _ = writeln!(
+            out,
+            "| {name} | {} | {page} | {} | {} | {:.2} | {} | {} | {:.2} |",
+            ms(route),
+            counts(&whole),
+            ms(of_page),
+            of_page / route,
+            counts(&small),
+            ms(of_few),
+            of_few / route
+        );
     }
 }
 

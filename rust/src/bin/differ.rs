@@ -33,18 +33,23 @@ SIZE    tiny program medium full many-lanes
         handed  `lay_mini_bus` on buffers with any content and counts that fit,
                 just fit or are at fault, some with a 513th lane besides: its
                 refusals by a model of the rule, its corners by the original
-        all     COUNT each of tiny, damaged, scratched, lanes and handed, a tenth
-                of that program, a hundredth to-the-most, a 400th each of full
-                and many-lanes
+        boxed   `find_hits` on boards of every size, most of them tiny, each with
+                some boxes about the edges of what its plan has: the hits by the
+                oracle's reading of the original's plan, the plan's buffers by
+                `route` from the same poison, hit buffers short, exact and long
+        all     COUNT each of tiny, damaged, scratched, lanes and handed, a
+                quarter of that boxed, a tenth program, a hundredth to-the-most,
+                a 400th each of full and many-lanes
 --anew  makes the buffers of each sheet anew with just their length";
 
 /// Sizes of `all`, with what COUNT is divided by.
-const ALL: [(&str, u64); 9] = [
+const ALL: [(&str, u64); 10] = [
     ("tiny", 1),
     ("damaged", 1),
     ("scratched", 1),
     ("lanes", 1),
     ("handed", 1),
+    ("boxed", 4),
     ("program", 10),
     ("to-the-most", 100),
     ("full", 400),

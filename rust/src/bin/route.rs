@@ -2,7 +2,7 @@
 
 use oracle::{board, check3, text};
 use panzhyqur::stack::with_stack;
-use panzhyqur::{Buffers, Limits, Refusal, check_sheet};
+use panzhyqur::{Buffers, Limits, PageBox, Refusal, check_sheet};
 use std::fs;
 use std::io::{self, IsTerminal, Read, Write};
 use std::path::{Path, PathBuf};
@@ -10,7 +10,8 @@ use std::process::ExitCode;
 use std::time::{Duration, Instant};
 
 const USAGE: &str = "\
-route [--program] [--check] [FILE | FOLDER]...: the plans of board sheets
+route [--program] [--check] [--box PAGE,X0,X1,Y0,Y1] [FILE | FOLDER]...: the
+plans of board sheets
 
 Reads board sheets from standard input, or from files, or from every file of a
 folder by name; many in one stream are parted by a line %%. Writes for each the
@@ -22,6 +23,12 @@ A marker line %%! says that the byte 10 before it is not part of the sheet.
            library's (64, 4,096, 256, 4,096, 4,096, 8,192)
 --check    tests each clause of demand 3 on each plan; what is broken goes to
            standard error
+--box PAGE,X0,X1,Y0,Y1
+           writes in place of a plan what of it is inside a box, x from X0 to X1
+           and y from Y0 to Y1 of a page, a line each: `R`, number, part and lane
+           or `-` of the rerouters that overlap it, then `B` and number of the bus
+           wires between rerouters whose run meets it, edges included. A page that
+           is not there, or a range that ends under its start, is refusal 9
 --help     prints this
 
 Status 0, 1 where a plan breaks a clause, 2 for what can't be read.";
@@ -30,21 +37,43 @@ Status 0, 1 where a plan breaks a clause, 2 for what can't be read.";
 struct Asked {
     limits: Limits,
     check: bool,
+    page_box: Option<PageBox>,
     paths: Vec<PathBuf>,
 }
 
+/// A box as its word has it: five numbers.
+fn page_box(word: &str) -> Option<PageBox> {
+    let (page, ranges) = word.split_once(',')?;
+    let ranges: Option<Vec<i32>> = ranges.split(',').map(|n| n.parse().ok()).collect();
+    let [x0, x1, y0, y1] = ranges?[..] else {
+        return None;
+    };
+    Some(PageBox {
+        page: page.parse().ok()?,
+        x: (x0, x1),
+        y: (y0, y1),
+    })
+}
+
 /// The words as asked for; `None` for `--help`.
-fn asked(words: impl Iterator<Item = std::ffi::OsString>) -> Result<Option<Asked>, String> {
+fn asked(mut words: impl Iterator<Item = std::ffi::OsString>) -> Result<Option<Asked>, String> {
     let mut asked = Asked {
         limits: Limits::LIBRARY,
         check: false,
+        page_box: None,
         paths: Vec::new(),
     };
-    for word in words {
+    while let Some(word) = words.next() {
         match word.to_str() {
             Some("--help" | "-h") => return Ok(None),
             Some("--program") => asked.limits = Limits::PROGRAM,
             Some("--check") => asked.check = true,
+            Some("--box") => {
+                let given = words.next().unwrap_or_default();
+                let read = given.to_str().and_then(page_box);
+                let wrong = "--box asks for PAGE,X0,X1,Y0,Y1: five numbers of 32 bits";
+                asked.page_box = Some(read.ok_or(wrong)?);
+            }
             Some(other) if other.starts_with('-') => return Err(format!("no such word: {other}")),
             _ => asked.paths.push(PathBuf::from(word)),
         }
@@ -155,11 +184,11 @@ impl Router<'_> {
             }
             self.sheets += 1;
             let answer = self.answer(&sheet);
-            if let (Ok(plan), true) = (&answer, self.asked.check) {
-                self.check(name, &sheet, plan);
+            if answer.is_ok() && self.asked.check {
+                self.check(name, &sheet);
             }
             let answer = match answer {
-                Ok(plan) => plan,
+                Ok(answer) => answer,
                 Err(refusal) => {
                     self.refused += 1;
                     refusal.sheet()
@@ -171,14 +200,19 @@ impl Router<'_> {
         Ok(())
     }
 
-    /// The plan sheet, or the refusal.
+    /// The plan sheet, or what of it is inside the box, or the refusal.
     fn answer(&mut self, sheet: &[u8]) -> Result<String, Refusal> {
         check_sheet(sheet, &self.asked.limits)?;
-        self.buffers.route(sheet).map(|plan| plan.to_string())
+        match &self.asked.page_box {
+            Some(page_box) => (self.buffers.hits(sheet, page_box)).map(|hits| hits.to_string()),
+            None => self.buffers.route(sheet).map(|plan| plan.to_string()),
+        }
     }
 
-    /// Demand 3 on a plan, as the oracle's own reader reads the board.
-    fn check(&mut self, name: &Path, sheet: &[u8], plan: &str) {
+    /// Demand 3 on the plan in the buffers, as the oracle's own reader reads the
+    /// board.
+    fn check(&mut self, name: &Path, sheet: &[u8]) {
+        let plan = self.buffers.plan().to_string();
         let faults = match board::parse(sheet, &oracle::Limits::LIBRARY) {
             Ok(board) => check3::check_sheet(&board, plan.as_bytes()),
             Err(refusal) => {

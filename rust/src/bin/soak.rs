@@ -2,6 +2,8 @@
 
 use oracle::rng::Rng;
 use oracle::shrink;
+use panzhyqur::beside::boxes;
+use panzhyqur::beside::clicks::{Due, Rooms};
 use panzhyqur::beside::room::{Found, Lending, Room, SLICES, Way};
 use panzhyqur::beside::sheets;
 use panzhyqur::beside::truth::Truth;
@@ -16,12 +18,17 @@ Boards as a server gets them, 200 a minute where nothing else is said, for as
 many minutes as asked (1): small ones, damaged ones, full ones. Each goes through
 the library with every slice of its named length, then with each slice a row
 short, then with each a row long, and every fourth board through the three calls
-apart as well. The buffers are used again from save to save and poisoned between
+apart as well; then three boxes through `find_hits`, each with its hit buffer a
+number short, exact and a number long. The buffers are used again from save to save and poisoned between
 saves. A plan must be the original's byte for byte, what stands behind its counts
 and behind every slice must be the poison; after a refusal all of it must be.
 
 A line a minute, then a summary. The first three boards that differ are shrunk
 and printed, and the status is then 1.";
+
+/// Boxes of a board, each clicked with hit buffers of these lengths.
+const BOXES: usize = 3;
+const HIT_BUFFERS: [isize; 3] = [0, -1, 1];
 
 /// Boards that differ and are shrunk and printed.
 const TOLD: usize = 3;
@@ -78,6 +85,7 @@ fn main() -> ExitCode {
 fn run(minutes: u64, per_minute: u64, seed: u64) -> ExitCode {
     println!("{minutes} minutes, {per_minute} boards a minute, seed {seed}");
     let mut room = Room::default();
+    let mut rooms = Rooms::default();
     let mut whole = Tally::default();
     let start = Instant::now();
     let pause = Duration::from_secs(60).div_f64(per_minute as f64);
@@ -93,7 +101,11 @@ fn run(minutes: u64, per_minute: u64, seed: u64) -> ExitCode {
             let size = size_of(seed, i);
             let sheet = sheets::sheet(seed, i, size).expect("a size of the generator");
             let rng = &mut Rng::for_item(!seed, i);
+            let before = tally.different;
             save(&mut tally, &mut room, &sheet, rng, whole.different);
+            if tally.different == before {
+                click(&mut tally, &mut rooms, &sheet, rng, whole.different);
+            }
         }
         println!("minute {}: {}", minute + 1, tally.line());
         whole.join(&tally);
@@ -167,6 +179,42 @@ fn save(tally: &mut Tally, room: &mut Room, sheet: &[u8], rng: &mut Rng, before:
             }
         }
     }
+}
+
+/// Boxes on one board; `before` differed in the minutes before.
+fn click(tally: &mut Tally, rooms: &mut Rooms, sheet: &[u8], rng: &mut Rng, before: usize) {
+    let truth = Truth::of(sheet);
+    for _ in 0..BOXES {
+        let mut click = boxes::click(rng, &truth);
+        click.lending.rows = [0; SLICES];
+        for more in HIT_BUFFERS {
+            click.more = more;
+            let due = Due::of(&truth, &click);
+            let faults = rooms.faults(sheet, &truth, &click, &due);
+            tally.calls += 1;
+            if faults.is_empty() {
+                continue;
+            }
+            tally.different += 1;
+            if before + tally.different <= TOLD {
+                tell_click(sheet, &click, &faults);
+            }
+            return;
+        }
+    }
+}
+
+fn tell_click(sheet: &[u8], click: &boxes::Click, faults: &[String]) {
+    let again = |s: &[u8]| {
+        let truth = Truth::of(s);
+        Rooms::default().faults(s, &truth, click, &Due::of(&truth, click))
+    };
+    let small = shrink::sheet(sheet, |s| !again(s).is_empty());
+    println!(
+        "differs: {faults:?}\nshrunk, {click:?}: {:?}",
+        again(&small)
+    );
+    println!("{}", String::from_utf8_lossy(&small));
 }
 
 /// What a whole plan breaks of demand 3.
