@@ -40,7 +40,7 @@ use Rattle.routes_hits.specs.declared.find.BoxPlan.{BoxPlan}
 use Rattle.routes_hits.specs.declared.find.BoxPlan.the-variants.{Refused, Laned}
 use Rattle.routes_hits.specs.Hits.{onBoard, hits, reroutersUnder, wiresUnder}
 use Rattle.routes_hits.specs.Listing.{Listed}
-use Rattle.routes_hits.specs.Finding.{boxed, hitsFit, hitsCall, HitsCalled}
+use Rattle.routes_hits.specs.Finding.{HITS_A_WIRE, boxed, hitsFit, hitsCall, HitsCalled}
 use Rattle.routes_hits.specs.Boxing.{boxPlan}
 
 -- A planned board has the box, or has not.
@@ -51,13 +51,13 @@ pub box-no : (q : PageBox) (c : Counts) (m : ℕ) → onBoard q (c .pages) ≡ f
 box-no q c m h = rw (h, boxPlan)
 
 -- 21 numbers a wire are lent where the ports told to planning are no more than the hit buffer has room for.
-enough : (h p w : ℕ) → leb w (min p (h / 21)) ≡ (leb (21 * w) h && leb w p)
-enough h p w = go (leb (21 * w) h) (leb w p) refl refl
+enough : (h p w : ℕ) → leb w (min p (h / HITS_A_WIRE)) ≡ (leb (HITS_A_WIRE * w) h && leb w p)
+enough h p w = go (leb (HITS_A_WIRE * w) h) (leb w p) refl refl
   where
-    go : (s t : Bool) → leb (21 * w) h ≡ s → leb w p ≡ t → leb w (min p (h / 21)) ≡ (s && t)
-    go true true d e = let x = leb-true (21 * w) h d in let y = leb-true w p e in le-leb w (min p (h / 21)) (omega arith)
-    go true false d e = let y = leb-false w p e in lt-leb w (min p (h / 21)) (omega arith)
-    go false t d e = let x = leb-false (21 * w) h d in lt-leb w (min p (h / 21)) (omega arith)
+    go : (s t : Bool) → leb (HITS_A_WIRE * w) h ≡ s → leb w p ≡ t → leb w (min p (h / HITS_A_WIRE)) ≡ (s && t)
+    go true true d e = let x = leb-true (HITS_A_WIRE * w) h d in let y = leb-true w p e in le-leb w (min p (h / HITS_A_WIRE)) (omega arith)
+    go true false d e = let y = leb-false w p e in lt-leb w (min p (h / HITS_A_WIRE)) (omega arith)
+    go false t d e = let x = leb-false (HITS_A_WIRE * w) h d in lt-leb w (min p (h / HITS_A_WIRE)) (omega arith)
 
 -- One test taken out of a row of them.
 taken-out : (a b c d e : Bool) → (a && (b && ((c && d) && e))) ≡ (c && (a && (b && (d && e))))
@@ -65,16 +65,16 @@ taken-out a b true d e = refl
 taken-out a b false d e = rw (and-false b, and-false a)
 
 hits-fit : (h r w p a work : ℕ) (b : Board) → length (b .wires) ≤ libraryMost .wires → length (b .pages) ≤ libraryMost .pages
-    → fitsLent (lentOf r w (min p (h / 21)) a work) b ≡ (leb (21 * length (b .wires)) h && fitsPlan r w p a work b)
+    → fitsLent (lentOf r w (min p (h / HITS_A_WIRE)) a work) b ≡ (leb (HITS_A_WIRE * length (b .wires)) h && fitsPlan r w p a work b)
 unfolding fitsLent fitsCounts hasRoom fitsPlan records
 hits-fit h r w p a work b few pages =
     let W : ℕ = length (b .wires) in
     let P : ℕ = length (b .pages) in
     let R : ℕ = P + length (b .nodes) + length (b .chips) + length (b .inner) + length (b .execs) + W in
     rw (le-leb (LINE_MOST * (P + 12 * W + 1)) 12591232 (omega arith), enough h p W)
-    (taken-out (leb (5 * W) r) (leb (6 * W) w) (leb (21 * W) h) (leb W p) (leb P a && leb R work))
+    (taken-out (leb (5 * W) r) (leb (6 * W) w) (leb (HITS_A_WIRE * W) h) (leb W p) (leb P a && leb R work))
 
-module _ (q : PageBox) (text : List ℕ) (asked : Asked) (h r w p a : ℕ) (lengths : List ℕ) (is : asked ≡ askedFor (r ∷ w ∷ min p (h / 21) ∷ a ∷ []) lengths) where
+module _ (q : PageBox) (text : List ℕ) (asked : Asked) (h r w p a : ℕ) (lengths : List ℕ) (is : asked ≡ askedFor (r ∷ w ∷ min p (h / HITS_A_WIRE) ∷ a ∷ []) lengths) where
   abbrev asks : Planning
   asks = planning (asked .most) (fitsLent (asked .lent)) text
 
@@ -84,7 +84,7 @@ module _ (q : PageBox) (text : List ℕ) (asked : Asked) (h r w p a : ℕ) (leng
   call-is =
       let same : asks ≡ planning libraryMost (hitsFit h r w p a lengths) text =
       ap (λ (z : Asked). planning (z .most) (fitsLent (z .lent)) text) is
-      ∙ planning-same text (fitsLent (lentOf r w (min p (h / 21)) a (shortest lengths))) (hitsFit h r w p a lengths) (hits-fit h r w p a (shortest lengths)) in
+      ∙ planning-same text (fitsLent (lentOf r w (min p (h / HITS_A_WIRE)) a (shortest lengths))) (hitsFit h r w p a lengths) (hits-fit h r w p a (shortest lengths)) in
       ap (λ (z : Planning). boxed q (routedBy finished z)) (sym same)
 
   module _ (rows facts taps groups : List (List ℕ)) (t : TextPlan) (told : TextPlanned (fitting (asked .most) (fitsLent (asked .lent)) text) rows facts taps groups t) where
@@ -140,12 +140,12 @@ module _ (q : PageBox) (text : List ℕ) (asked : Asked) (h r w p a : ℕ) (leng
         call-is ∙ rw (k .is, there, boxed) refl
 
     -- The hit buffer holds the list.
-    pub box-room : (c : Counts) (m : ℕ) (e : boxPlan q t ≡ Laned c m) → 21 * length (box-told c m e .onBoard .wires) ≤ h
+    pub box-room : (c : Counts) (m : ℕ) (e : boxPlan q t ≡ Laned c m) → HITS_A_WIRE * length (box-told c m e .onBoard .wires) ≤ h
     box-room c m e =
         let k = box-told c m e in
         let from = lanes-from (asked .most) text (fitsLent (asked .lent)) (k .onBoard) (k .lanes) (k .is) in
         let fits = fits-all (asked .lent) (k .onBoard) (from .fitting) in
-        let ports : asked .lent .ports ≡ min p (h / 21) = ap (λ (z : Asked). z .lent .ports) is in
+        let ports : asked .lent .ports ≡ min p (h / HITS_A_WIRE) = ap (λ (z : Asked). z .lent .ports) is in
         let enough = fits .ports in
         omega arith
 
@@ -166,7 +166,7 @@ module _ {b : Board} {ps : List PageLanes} {rows : List (List ℕ)} {c : Counts}
   few = let t = ready .laying .ready in done-few b (t .accepted) ps (t .plan)
 
   -- Its hits can be listed.
-  pub list-ready : (room : ℕ) → 21 * length (b .wires) ≤ room → length rerouters ≡ length old → length busWires ≡ length oldWires
+  pub list-ready : (room : ℕ) → HITS_A_WIRE * length (b .wires) ≤ room → length rerouters ≡ length old → length busWires ≡ length oldWires
       → (held .rerouters ≤ length rerouters) × (held .«bus_wires» ≤ length busWires) × (held .rerouters ≤ 4294967296) × (held .«bus_wires» ≤ 4294967296)
       × (3 * held .rerouters + held .«bus_wires» ≤ room)
   list-ready room fits lr lw =

@@ -33,7 +33,7 @@ use Rattle.routes_hits.specs.declared.list.HitCounts.{HitCounts}
 use Rattle.routes_hits.specs.declared.find.HitsFound.{HitsFound}
 use Rattle.routes_hits.specs.declared.find.HitsFound.the-variants.{Refused, Found}
 use Rattle.routes_hits.specs.Hits.{onBoard, reroutersHit, wiresHit, hits, reroutersUnder, wiresUnder}
-use Rattle.routes_hits.specs.Finding.{boxed, hitsFit, hitsCall, HitsCalled}
+use Rattle.routes_hits.specs.Finding.{HITS_A_WIRE, boxed, hitsFit, hitsCall, HitsCalled}
 use Rattle.routes_hits.specs.Promise.{ReroutersListed, WiresListed, HitsPromised}
 use Rattle.routes_hits.proofs.Listing.{rerouters-length, under-few, wires-few}
 use Rattle.routes_hits.proofs.Exact.{rerouters-listed, wires-listed}
@@ -73,7 +73,7 @@ module _ (q : PageBox) (text : List ℕ) (work : List ℕ) (oldHits : List ℕ) 
       let done : Bus = finished b ps in
       let W : ℕ = length (b .wires) in
       let rest : Bool = leb W (length oldPorts) && (leb (length (b .pages)) (length oldAnswers) && leb (records b) (shortest work)) in
-      let room = and-right (leb (21 * W) (length oldHits)) (leb (5 * W) (length old) && (leb (6 * W) (length oldWires) && rest)) (from .fitting) in
+      let room = and-right (leb (HITS_A_WIRE * W) (length oldHits)) (leb (5 * W) (length old) && (leb (6 * W) (length oldWires) && rest)) (from .fitting) in
       let one = and-right (leb (5 * W) (length old)) (leb (6 * W) (length oldWires) && rest) room in
       let two = and-right (leb (6 * W) (length oldWires)) rest one in
       let long = leb-true (5 * W) (length old) (and-left (leb (5 * W) (length old)) (leb (6 * W) (length oldWires) && rest) room) in

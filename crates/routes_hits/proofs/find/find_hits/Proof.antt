@@ -17,6 +17,7 @@ use Rattle.routes_calls.specs.Finish.{PlanReady}
 use Rattle.routes_calls.proofs.Routing.{plan-ready}
 use Rattle.routes_hits.specs.declared.find.BoxPlan.the-variants.{Laned}
 use Rattle.routes_hits.specs.Boxing.{boxPlan}
+use Rattle.routes_hits.specs.Finding.{HITS_A_WIRE}
 use Rattle.routes_hits.proofs.Calling.{box-refused, box-told, box-call, box-room, nothing-found, list-ready, hits-found}
 use borrow.Author.Needs.{needs}
 use Rattle.routes_hits.proofs.find.find_hits.Statement.{statement}
@@ -34,7 +35,7 @@ abbrev start : tie.After-ask → tie.Start
 start k = k .before .before .before .before
 
 -- What is asked: of the ports no more than the hit buffer has room for.
-asked-is : (k : tie.After-ask) → k .ask .result ≡ askedFor (length (start k .args .rerouters .now) ∷ length (start k .args .bus-wires .now) ∷ min (length (start k .args .ports .now)) (length (start k .args .hits .now) / 21) ∷ length (start k .args .answers .now) ∷ [])
+asked-is : (k : tie.After-ask) → k .ask .result ≡ askedFor (length (start k .args .rerouters .now) ∷ length (start k .args .bus-wires .now) ∷ min (length (start k .args .ports .now)) (length (start k .args .hits .now) / HITS_A_WIRE) ∷ length (start k .args .answers .now) ∷ [])
     (workRows (start k .args .records .now) (start k .args .facts .now) (start k .args .taps .now) (start k .args .groups .now) (start k .args .demands .now) (start k .args .keys .now) (start k .args .marks .now))
 asked-is k =
     let a = start k .args in
