@@ -5,8 +5,8 @@ use std::error::Error;
 use std::fmt;
 
 numbered! {
-    /// What turns a board away, E1 to E8 of `docs/RULES.md`, or a box on it, in
-    /// the order tried.
+    /// What turns a board away, E1 to E8 of `docs/RULES.md`, or a box on it, H6,
+    /// in the order tried.
     Reason {
         /// E1: a line can't be read, or comes after one of a later section.
         Unreadable = 1,
