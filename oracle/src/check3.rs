@@ -1,19 +1,13 @@
-//! Demand 3, checked clause by clause on a board and a finished plan. It knows
-//! nothing of how plans are made: only document 01's words of demand 3, and
-//! which wires make a group.
+//! Demand 3, checked clause by clause on a board and a finished plan, and the
+//! depths of request 2. It knows nothing of how plans are made: only document
+//! 01's words of demand 3, and which wires make a group.
 
 use crate::board::{Board, Port};
+use crate::depths::{self, Fault, arrivals, way_back};
 use crate::facts::{Facts, Group};
 use crate::plan::*;
 use crate::plan_read;
 use std::collections::HashMap;
-
-/// A clause that does not hold, and where.
-#[derive(Clone, Debug, PartialEq, Eq)]
-pub struct Fault {
-    pub clause: &'static str,
-    pub what: String,
-}
 
 struct Case<'a> {
     board: &'a Board,
@@ -28,7 +22,7 @@ struct Case<'a> {
 
 type Clause = fn(&Case) -> Option<String>;
 
-/// Each clause by its name.
+/// Each clause of demand 3 by its name.
 pub const CLAUSES: [&str; 11] = [
     "ends", "feeder", "names", "target", "source", "twice", "sum", "distance", "corner", "bound",
     "overlap",
@@ -37,7 +31,7 @@ const CHECKS: [Clause; 11] = [
     ends, feeder, names, target, source, twice, sum, distance, corner, bound, overlap,
 ];
 
-/// The clauses of demand 3 that a plan sheet breaks on a board.
+/// The clauses that a plan sheet breaks on a board: of demand 3, and of depths.
 pub fn check_sheet(board: &Board, plan: &[u8]) -> Vec<Fault> {
     match plan_read::read(plan) {
         Ok(plan) => check(board, &plan),
@@ -48,7 +42,7 @@ pub fn check_sheet(board: &Board, plan: &[u8]) -> Vec<Fault> {
     }
 }
 
-/// The clauses of demand 3 that a plan breaks on a board.
+/// The clauses that a plan breaks on a board: of demand 3, and of depths.
 pub fn check(board: &Board, plan: &Plan) -> Vec<Fault> {
     let facts = Facts::new(board);
     let groups = facts.groups();
@@ -56,25 +50,20 @@ pub fn check(board: &Board, plan: &Plan) -> Vec<Fault> {
     for (i, g) in groups.iter().enumerate() {
         group_of.extend(g.taps.iter().map(|t| (t.wire, i)));
     }
-    let mut arrivals = vec![Vec::new(); plan.rerouters.len()];
-    for b in &plan.bus_wires {
-        if let End::Bus(to) = b.to
-            && to < arrivals.len()
-        {
-            arrivals[to].push(b.from);
-        }
-    }
     let case = Case {
         board,
         plan,
         facts,
         groups,
         group_of,
-        arrivals,
+        arrivals: arrivals(plan.rerouters.len(), &plan.bus_wires),
     };
     let broken =
         |(clause, check): (&'static str, Clause)| check(&case).map(|what| Fault { clause, what });
-    CLAUSES.into_iter().zip(CHECKS).filter_map(broken).collect()
+    let mut faults: Vec<Fault> = CLAUSES.into_iter().zip(CHECKS).filter_map(broken).collect();
+    let depths: Vec<usize> = plan.rerouters.iter().map(|r| r.depth).collect();
+    faults.extend(depths::check(&depths, &plan.bus_wires));
+    faults
 }
 
 impl Case<'_> {
@@ -85,19 +74,6 @@ impl Case<'_> {
             End::Port(p) => Some((i, b, p)),
             End::Bus(_) => None,
         })
-    }
-
-    /// The way back from where a delivery leaves: its port and the rerouters
-    /// on it. `None` where it comes to no port.
-    fn way_back(&self, from: End) -> Option<(Port, usize)> {
-        let mut at = from;
-        for distance in 0..=self.plan.rerouters.len() {
-            match at {
-                End::Port(p) => return Some((p, distance)),
-                End::Bus(r) => at = *self.arrivals.get(r)?.first()?,
-            }
-        }
-        None
     }
 
     fn part(&self, end: End) -> Option<u8> {
@@ -170,7 +146,7 @@ fn target(case: &Case) -> Option<String> {
 fn source(case: &Case) -> Option<String> {
     let bad = |(i, b, _): (usize, &BusWire, Port)| {
         let wire = case.board.wires.get(b.delivery?.0)?;
-        let back = case.way_back(b.from).map(|(port, _)| port);
+        let back = way_back(&case.arrivals, b.from).map(|(port, _)| port);
         (back != Some(wire.source)).then_some(i)
     };
     let i = case.deliveries().find_map(bad)?;
@@ -204,7 +180,7 @@ fn sum(case: &Case) -> Option<String> {
 fn distance(case: &Case) -> Option<String> {
     let bad = |(i, b, _): (usize, &BusWire, Port)| {
         let (_, stored) = b.delivery?;
-        let counted = case.way_back(b.from).map(|(_, d)| d);
+        let counted = way_back(&case.arrivals, b.from).map(|(_, d)| d);
         (counted != Some(stored)).then(|| format!("bus wire {i}: {counted:?}, not {stored}"))
     };
     case.deliveries().find_map(bad)

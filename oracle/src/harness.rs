@@ -231,15 +231,16 @@ pub fn turn(board: &Board, handed: &Handed) -> Vec<Corner> {
     bus.suppressed
         .extend(suppressed.map(|p| (p.node_id, p.port)));
     code::turn(&body, &mut bus);
+    let feeders = feeders(&bus);
     (0..bus.nodes.len())
-        .map(|id| corner_of(board, &bus, id))
+        .map(|id| corner_of(board, &bus, id, &feeders))
         .collect()
 }
 
 /// Corner `id`, whose two bus wires stand at its place. Of equal wires the
 /// first turns: its port is suppressed then, and where it finds no level they
 /// find none.
-fn corner_of(board: &Board, bus: &BusLayout, id: usize) -> Corner {
+fn corner_of(board: &Board, bus: &BusLayout, id: usize, feeders: &[Option<BusEnd>]) -> Corner {
     let n = &bus.nodes[id];
     let page = n.z as usize;
     let ends = [&bus.wires[2 * id], &bus.wires[2 * id + 1]].map(|w| (w.source, w.target));
@@ -259,6 +260,7 @@ fn corner_of(board: &Board, bus: &BusLayout, id: usize) -> Corner {
             colour: n.color_of.map_or(0, |c| c.0),
             page,
             lane: None,
+            depth: way_back(feeders, here).1,
         },
         // No such wire would be a fault of the original: let it show.
         wire: board.wires.iter().position(turns).unwrap_or(usize::MAX),
@@ -337,6 +339,7 @@ fn plan_of(board: &Board, body: &LaidBody, pages: Vec<PageAnswer>, routed: Route
             colour: n.color_of.map_or(0, |c| c.0),
             page,
             lane,
+            depth: way_back(&feeders, BusEnd::Bus(id)).1,
         });
     }
     plan.bus_wires = bus_wires_of(board, bus, &feeders);
@@ -393,7 +396,8 @@ fn bus_wires_of(board: &Board, bus: &BusLayout, feeders: &[Option<BusEnd>]) -> V
     out
 }
 
-/// The port at the end of the way back, and the rerouters passed.
+/// The port at the end of the way back, and the rerouters passed: a delivery's
+/// distance, and from a rerouter its depth.
 fn way_back(feeders: &[Option<BusEnd>], from: BusEnd) -> (Port, usize) {
     let mut at = from;
     let mut distance = 0;

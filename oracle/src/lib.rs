@@ -4,6 +4,7 @@
 
 pub mod board;
 pub mod check3;
+pub mod depths;
 pub mod facts;
 pub mod r#gen;
 #[cfg(feature = "original")]
@@ -18,6 +19,8 @@ pub mod plan_read;
 pub mod records;
 pub mod rng;
 pub mod sheet;
+#[cfg(feature = "original")]
+pub mod shown;
 pub mod shrink;
 #[cfg(feature = "original")]
 pub mod soak;

@@ -27,6 +27,9 @@ pub struct Rerouter {
     pub colour: u32,
     pub page: usize,
     pub lane: Option<i32>,
+    /// 1 where a port feeds it, else one more than that of the rerouter that
+    /// does.
+    pub depth: usize,
 }
 
 #[derive(Clone, Copy, Debug, PartialEq, Eq)]
@@ -100,9 +103,10 @@ impl Plan {
                 r.x, r.y, r.z, r.rotation, r.role, r.part, r.colour, r.page
             );
             let _ = match r.lane {
-                Some(lane) => writeln!(s, "{lane}"),
-                None => writeln!(s, "-"),
+                Some(lane) => write!(s, "{lane}"),
+                None => write!(s, "-"),
             };
+            let _ = writeln!(s, "\t{}", r.depth);
         }
         for b in &self.bus_wires {
             s.push('B');
@@ -120,4 +124,14 @@ impl Plan {
         let _ = writeln!(s, "T\t{r}\t{b}\t{d}\t{direct}\t{laid}");
         s
     }
+}
+
+/// A plan sheet without the last field of its R lines, the depth: what the
+/// original has.
+pub fn older_fields(sheet: &str) -> String {
+    let older = |line: &str| match line.rsplit_once('\t') {
+        Some((older, _)) if line.starts_with("R\t") => format!("{older}\n"),
+        _ => line.to_string(),
+    };
+    sheet.split_inclusive('\n').map(older).collect()
 }

@@ -32,7 +32,7 @@ fn record(plan: &mut Plan, fields: &[&str]) -> Option<()> {
             let band = number(fields[3])?;
             plan.pages.push(PageAnswer { lanes, band });
         }
-        ("R", 11) => {
+        ("R", 12) => {
             (number::<usize>(fields[1])? == plan.rerouters.len()).then_some(())?;
             plan.rerouters.push(rerouter(fields)?);
         }
@@ -69,6 +69,7 @@ fn rerouter(f: &[&str]) -> Option<Rerouter> {
             "-" => None,
             lane => Some(number(lane)?),
         },
+        depth: number(f[11])?,
     })
 }
 

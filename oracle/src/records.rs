@@ -1,8 +1,11 @@
-//! The sample of boards, damaged sheets and demand lists kept as records.
+//! The sample of boards, damaged sheets and demand lists kept as records, and
+//! all else in the repository that holds a plan.
 
 use crate::model::branch::{BRANCHES, Branch, Counts};
 use crate::rng::Rng;
-use crate::{Limits, answer, board, r#gen, lanes, model, text};
+use crate::{Limits, board, r#gen, lanes, model, shown, text};
+use std::path::{Path, PathBuf};
+use std::{fs, io};
 
 pub const BOARD_SEED: u64 = 1;
 pub const DAMAGED_SEED: u64 = 2;
@@ -152,13 +155,11 @@ pub fn lists() -> Vec<Vec<u32>> {
     lists
 }
 
-/// Cases as one stream: sheet, `%%plan`, answer, `%%`.
-pub fn cases(sheets: &[Vec<u8>]) -> Vec<u8> {
-    cases_by(sheets, answer)
-}
+/// Who answers: the original or the second model.
+pub type Answer = fn(&[u8], &Limits) -> String;
 
-/// The same with answers of one's choice.
-pub fn cases_by(sheets: &[Vec<u8>], answer: fn(&[u8], &Limits) -> String) -> Vec<u8> {
+/// Cases as one stream: sheet, `%%plan`, answer, `%%`.
+fn cases(sheets: &[Vec<u8>], answer: Answer) -> Vec<u8> {
     let mut stream = Vec::new();
     for sheet in sheets {
         text::add(&mut stream, sheet, "%%plan");
@@ -169,13 +170,13 @@ pub fn cases_by(sheets: &[Vec<u8>], answer: fn(&[u8], &Limits) -> String) -> Vec
 }
 
 /// A list, ` % `, its answer, a line each.
-pub fn list_cases(lists: &[Vec<u32>]) -> String {
+fn list_cases(lists: &[Vec<u32>]) -> String {
     let case = |l: &Vec<u32>| format!("{} % {}\n", lanes::line_of(l), lanes::answer(l));
     lists.iter().map(case).collect()
 }
 
 /// How often the boards meet each branch and the damaged sheets each refusal.
-pub fn tallies(boards: &Sample, damaged: &[Vec<u8>]) -> String {
+fn tallies(boards: &Sample, damaged: &[Vec<u8>]) -> String {
     let mut out = String::new();
     for (branch, words) in BRANCHES {
         out += &format!("{}\t{words}\n", boards.counts.of(*branch));
@@ -194,4 +195,52 @@ pub fn tallies(boards: &Sample, damaged: &[Vec<u8>]) -> String {
         out += &format!("{n}\trefused with {number}\n");
     }
     out + &format!("{by_size}\trefused with 2 by size\n")
+}
+
+/// A file, and what it has to hold.
+pub type Made = (PathBuf, Vec<u8>);
+
+/// Every file of the repository at `root` that holds an answer: the sample of
+/// records, the plan beside each example, what the program prints, and the
+/// documents and tests that show lines of a plan.
+pub fn files(root: &Path, answer: Answer) -> io::Result<Vec<Made>> {
+    let mut made = sample(&root.join("records"), answer);
+    for folder in ["examples", "examples/readings"] {
+        for entry in fs::read_dir(root.join(folder))? {
+            let sheet = entry?.path();
+            if sheet.extension().is_some_and(|e| e == "sheet") {
+                made.push(answered(&sheet, sheet.with_extension("plan"), answer)?);
+            }
+        }
+    }
+    let program = root.join("crates/program");
+    made.push(answered(
+        &program.join("stdin"),
+        program.join("stdout"),
+        answer,
+    )?);
+    for (name, text) in shown::TEXTS {
+        let path = root.join(name);
+        let shown = shown::anew(&fs::read_to_string(&path)?, *text, answer);
+        made.push((path, shown.into_bytes()));
+    }
+    Ok(made)
+}
+
+/// The answer to a file's sheet, and the file that it belongs into.
+fn answered(sheet: &Path, into: PathBuf, answer: Answer) -> io::Result<Made> {
+    let answer = answer(&fs::read(sheet)?, &Limits::PROGRAM);
+    Ok((into, answer.into_bytes()))
+}
+
+/// The files of the sample.
+fn sample(folder: &Path, answer: Answer) -> Vec<Made> {
+    let (boards, damaged) = (boards(), damaged());
+    let tallies = tallies(&boards, &damaged).into_bytes();
+    vec![
+        (folder.join("boards.txt"), cases(&boards.sheets, answer)),
+        (folder.join("damaged.txt"), cases(&damaged, answer)),
+        (folder.join("lanes.txt"), list_cases(&lists()).into_bytes()),
+        (folder.join("branches.txt"), tallies),
+    ]
 }

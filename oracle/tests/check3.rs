@@ -1,10 +1,10 @@
-//! Damaged plans: the checker catches each clause of demand 3.
+//! Damaged plans: the checker catches each clause of demand 3, and wrong depths.
 
 mod common;
 
 use common::{EXAMPLE_A, PLAN_A, board_of, says, tabs};
 use oracle::check3::{CLAUSES, check_sheet};
-use oracle::{Limits, r#gen, run_plan};
+use oracle::{Limits, depths, r#gen, run_plan};
 
 /// A source above and to the right of a turned sink: one corner.
 const CORNER: &str = "\
@@ -29,7 +29,7 @@ fn edited(from: &str, to: &str) -> Vec<&'static str> {
 fn sound_plans_pass() {
     assert!(broken(EXAMPLE_A, PLAN_A).is_empty());
     let corner = says(CORNER, &Limits::LIBRARY) + "\n";
-    assert!(corner.contains("\nR 0 0 30 0 2 1 6 1 0 -\n"), "{corner}");
+    assert!(corner.contains("\nR 0 0 30 0 2 1 6 1 0 - 1\n"), "{corner}");
     assert!(broken(CORNER, &corner).is_empty());
 }
 
@@ -50,18 +50,86 @@ fn each_clause_is_caught() {
     assert_eq!(edited("B p 1 5 b 0 - - -", "B p 1 6 b 0 - - -"), ["source"]);
     assert!(edited("p 3 1 1 6", "p 2 1 0 6").contains(&"twice"));
     assert!(edited("B b 6 - b 7 - - -\n", "").contains(&"sum"));
-    assert_eq!(edited("0 5\n", "0 4\n"), ["distance"]);
+    assert!(edited("p 2 1 0 5", "p 2 1 0 4").contains(&"distance"));
     assert_eq!(edited("R 6 0 -8", "R 6 1 -8"), ["overlap"]);
     assert_eq!(edited("R 2 12 -8", "R 2 11 -9"), ["overlap"]);
     assert_eq!(edited("T 8 10", "T 08 10"), ["sheet"]);
     assert_eq!(edited("R 4", "R 5"), ["sheet"]);
 }
 
+/// The depths of plan (a).
+const DEPTHS: [usize; 8] = [1, 2, 3, 4, 5, 4, 5, 6];
+
+/// What such a plan breaks with other depths.
+fn with_depths(plan: &str, depths: [usize; 8]) -> Vec<&'static str> {
+    let mut depths = depths.iter();
+    let line = |line: &str| match line.rsplit_once(' ') {
+        Some((older, _)) if line.starts_with('R') => {
+            let depth = depths.next().expect("a depth for each rerouter");
+            format!("{older} {depth}\n")
+        }
+        _ => format!("{line}\n"),
+    };
+    broken(EXAMPLE_A, &plan.lines().map(line).collect::<String>())
+}
+
+/// One wrong depth: one too few or too many, none, that of another rerouter.
+#[test]
+fn wrong_depths_are_caught() {
+    assert!(with_depths(PLAN_A, DEPTHS).is_empty());
+    for (r, depth) in DEPTHS.into_iter().enumerate() {
+        let wrong = [depth - 1, depth + 1, 0, usize::MAX];
+        for wrong in wrong.into_iter().chain(DEPTHS) {
+            let mut depths = DEPTHS;
+            depths[r] = wrong;
+            // Deliveries leave rerouters 4 and 7.
+            let due: &[&str] = match (wrong == depth, r) {
+                (true, _) => &[],
+                (false, 4 | 7) => &["depth", "step", "leaves"],
+                _ => &["depth", "step"],
+            };
+            assert_eq!(with_depths(PLAN_A, depths), due, "{wrong} at rerouter {r}");
+        }
+    }
+}
+
+/// Each of the three clauses on depths says something of its own.
+#[test]
+fn each_clause_on_depths_is_caught() {
+    // All one too few, and the distances with them.
+    let nearer = PLAN_A.replace("p 2 1 0 5", "p 2 1 0 4");
+    let nearer = nearer.replace("p 3 1 1 6", "p 3 1 1 5");
+    let found = with_depths(&nearer, DEPTHS.map(|depth| depth - 1));
+    assert_eq!(found, ["distance", "depth", "step"]);
+    // A distance that is not the depth, which is the right one.
+    let found = edited("p 2 1 0 5", "p 2 1 0 4");
+    assert_eq!(found, ["distance", "leaves"]);
+    // The second run fed from the first one's end, with its old depths.
+    let found = edited("B b 2 - b 5 - - -", "B b 4 - b 5 - - -");
+    assert_eq!(found, ["distance", "depth", "step"]);
+    // Rerouters that feed each other lead back to no port; one is not fed.
+    let found = edited("B p 1 5 b 0 - - -", "B b 1 - b 0 - - -");
+    assert!(found.contains(&"depth"), "{found:?}");
+    assert!(edited("B b 6 - b 7 - - -\n", "").contains(&"step"));
+}
+
+/// The field itself: a number written just so, and the last one.
+#[test]
+fn a_depth_is_read_as_it_is_written() {
+    for depth in ["", " -", " 01", " -1", " +1", " 1 1", " 1 "] {
+        let line = format!("R 0 20 -5 10 2 2 1 1 0 -{depth}\n");
+        let broken = edited("R 0 20 -5 10 2 2 1 1 0 - 1\n", &line);
+        assert_eq!(broken, ["sheet"], "{line}");
+    }
+}
+
 #[test]
 fn a_corner_is_one_away() {
     let plan = says(CORNER, &Limits::LIBRARY) + "\n";
     let longer = plan.replace("p 2 1 0 1", "p 2 1 0 2");
-    assert_eq!(broken(CORNER, &longer), ["distance", "corner"]);
+    assert_eq!(broken(CORNER, &longer), ["distance", "corner", "leaves"]);
+    let deeper = plan.replace("6 1 0 - 1", "6 1 0 - 2");
+    assert_eq!(broken(CORNER, &deeper), ["depth", "step", "leaves"]);
 }
 
 /// One row and one column: 5 at most. A chain of six is true to its count and
@@ -72,7 +140,7 @@ fn the_bound_is_caught() {
     let chain = |length: usize| {
         let mut plan = String::from("L 0 1 8\n");
         for i in 0..length {
-            plan += &format!("R {i} {} -8 0 1 0 3 1 0 0\n", 4 * i);
+            plan += &format!("R {i} {} -8 0 1 0 3 1 0 0 {}\n", 4 * i, i + 1);
         }
         plan += "B p 1 1 b 0 - - -\n";
         for i in 1..length {
@@ -89,7 +157,7 @@ fn the_bound_is_caught() {
 fn a_wire_without_a_group_needs_a_corner() {
     // Kept direct by rule: exec input, plain source.
     let board = "P 0 0\nN 1 0 0 0 1 1 0 9 0 0 0 -\nN 2 0 0 0 1 1 0 0 9 0 1 -\nX 2 1\nW 1 1 2 1\n";
-    let plan = "L 0 1 8\nR 0 0 -8 0 0 0 4 1 0 0\nB p 1 1 b 0 - - -\nB b 0 - p 2 1 0 1\nU 2 1\nT 1 2 1 0 1\n";
+    let plan = "L 0 1 8\nR 0 0 -8 0 0 0 4 1 0 0 1\nB p 1 1 b 0 - - -\nB b 0 - p 2 1 0 1\nU 2 1\nT 1 2 1 0 1\n";
     assert_eq!(broken(board, plan), ["bound"]);
 }
 
@@ -113,7 +181,7 @@ fn every_clause_is_met_by_edits() {
             );
         }
     }
-    for clause in CLAUSES {
+    for clause in CLAUSES.into_iter().chain(depths::CLAUSES) {
         assert!(met.contains(&clause), "{clause} is never met");
     }
 }

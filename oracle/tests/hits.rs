@@ -20,6 +20,7 @@ fn at(page: usize, x: i32, y: i32) -> Rerouter {
         colour: 1,
         page,
         lane: Some(0),
+        depth: 1,
     }
 }
 

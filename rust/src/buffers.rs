@@ -117,7 +117,7 @@ fn rows<const N: usize>(length: usize) -> Box<[[u32; N]]> {
 const MARKS: usize = TABLES - 1;
 
 impl Buffers {
-    /// Enough for every board within limits: for the library's 11.0 MiB.
+    /// Enough for every board within limits: for the library's 11.2 MiB.
     pub fn for_limits(limits: &Limits) -> Self {
         Self::for_counts(limits.pages, limits.wires, limits.records())
     }

@@ -12,8 +12,8 @@
 //! Rattle source (`crates/panzhyqur/src/`): keep
 //! them beside it.
 
-/// x, y, z, rotation, role, part, colour, page, lane, row.
-pub type RerouterRow = [u32; 10];
+/// x, y, z, rotation, role, part, colour, page, lane, row, depth.
+pub type RerouterRow = [u32; 11];
 /// From, its port, to, its port, a delivery's wire and distance.
 pub type BusWireRow = [u32; 6];
 /// Node and port.
@@ -267,7 +267,8 @@ pub fn lay_bus(text: &[u8], out: Output, work: Work) -> PlanNumbers {
     call_with!(work; pz_lay_bus(text, &mut o.rerouters, &mut o.bus_wires, &mut o.ports))
 }
 
-/// Corners on top of what the slices hold.
+/// Corners on top of what the slices hold: rows handed in stay as they are,
+/// their depths too, whatever these are.
 pub fn lay_mini_bus(text: &[u8], held: BusCounts, out: Output, work: Work) -> MiniNumbers {
     let o = out;
     call_with!(work; pz_lay_mini_bus(text, @held, &mut o.rerouters, &mut o.bus_wires, &mut o.ports))

@@ -28,7 +28,7 @@ pub(crate) fn maybe(number: u32) -> Option<usize> {
 }
 
 fn rerouter(row: &RerouterRow) -> Rerouter {
-    let [x, y, z, rotation, role, part, colour, page, lane, _] = *row;
+    let [x, y, z, rotation, role, part, colour, page, lane, _, depth] = *row;
     Rerouter {
         x: x as i32,
         y: y as i32,
@@ -39,6 +39,7 @@ fn rerouter(row: &RerouterRow) -> Rerouter {
         part: case(part),
         page: page as usize,
         lane: maybe(lane),
+        depth,
     }
 }
 
@@ -247,12 +248,19 @@ fn write_sheet(
         writeln!(f, "L\t{i}\t{}\t{}", p.lanes_used, p.band_width)?;
     }
     for (i, r) in nodes.enumerate() {
-        let Rerouter { x, y, z, page, .. } = r;
+        let Rerouter {
+            x,
+            y,
+            z,
+            page,
+            depth,
+            ..
+        } = r;
         let [rotation, role, part] = [r.rotation.number(), r.role.number(), r.part.number()];
         let (colour, lane) = (OrDash(r.color_of.map(|id| id.0)), OrDash(r.lane));
         writeln!(
             f,
-            "R\t{i}\t{x}\t{y}\t{z}\t{rotation}\t{role}\t{part}\t{colour}\t{page}\t{lane}"
+            "R\t{i}\t{x}\t{y}\t{z}\t{rotation}\t{role}\t{part}\t{colour}\t{page}\t{lane}\t{depth}"
         )?;
     }
     for w in wires {
@@ -400,6 +408,7 @@ fn read_rerouter<'a>(f: &mut impl Iterator<Item = &'a str>) -> Option<Rerouter> 
         color_of: number_or_dash(f)?.map(NodeId),
         page: number(f)?,
         lane: number_or_dash(f)?,
+        depth: number(f)?,
     })
 }
 
@@ -455,7 +464,7 @@ fn written<T: FromStr>(text: &str) -> Option<T> {
 mod tests {
     use super::*;
 
-    const SHEET: &str = "L 0 1 8;L 1 0 0;R 0 20 -5 10 2 2 1 1 0 -;R 1 20 -8 10 1 0 2 1 0 0;\
+    const SHEET: &str = "L 0 1 8;L 1 0 0;R 0 20 -5 10 2 2 1 1 0 - 1;R 1 20 -8 10 1 0 2 1 0 0 2;\
         B p 1 5 b 0 - - -;B b 0 - b 1 - - -;B b 1 - p 3 1 7 2;U 3 1;U 3 2;T 2 3 1 9 1;";
 
     fn sheet(short: &str) -> String {
@@ -469,6 +478,7 @@ mod tests {
         assert_eq!(plan.nodes[1].part, Part::Head);
         assert_eq!(plan.nodes[1].color_of, Some(NodeId(1)));
         assert_eq!(plan.nodes[1].lane, Some(0));
+        assert_eq!(plan.nodes[1].depth, 2);
         let delivery = Some(Delivery {
             wire: 7,
             distance: 2,
@@ -497,6 +507,12 @@ mod tests {
             ("R 0 20 -5 10 2 2 1 1 0 -", "R 0 20 -5 10 2 3 1 1 0 -", 3),
             ("R 0 20 -5 10 2 2 1 1 0 -", "R 0 20 -5 10 2 2 0 1 0 -", 3),
             ("R 0 20 -5 10 2 2 1 1 0 -", "R 0 20 -05 10 2 2 1 1 0 -", 3),
+            ("2 1 0 0 2;", "2 1 0 0;", 4),
+            ("2 1 0 0 2;", "2 1 0 0 -;", 4),
+            ("2 1 0 0 2;", "2 1 0 0 02;", 4),
+            ("2 1 0 0 2;", "2 1 0 0 -2;", 4),
+            ("2 1 0 0 2;", "2 1 0 0 4294967296;", 4),
+            ("2 1 0 0 2;", "2 1 0 0 2 2;", 4),
             ("b 0 - - -", "b 0 - 1 -", 5),
             ("b 0 - - -", "b 0 1 - -", 5),
             ("p 1 5", "q 1 5", 5),
@@ -521,7 +537,7 @@ mod tests {
     #[test]
     #[should_panic(expected = "9 is no number of Rotation")]
     fn an_unknown_number_stops() {
-        let row = [[0, 0, 0, 9, 0, 1, 0, 0, 0, 0]];
+        let row = [[0, 0, 0, 9, 0, 1, 0, 0, 0, 0, 1]];
         let bus = BusView {
             rerouters: &row,
             bus_wires: &[],

@@ -157,6 +157,9 @@ pub struct Rerouter {
     pub page: usize,
     /// The lane of a head, link or tap.
     pub lane: Option<usize>,
+    /// How far it is from its port: 1 where the port feeds it, else one more
+    /// than the depth of the rerouter that feeds it.
+    pub depth: u32,
 }
 
 /// One end of a bus wire: a rerouter or a real port; `BusEnd` of the original.
@@ -167,7 +170,7 @@ pub enum End {
 }
 
 /// The board's wire that a bus wire delivers, and how many rerouters it
-/// passed on the way from its port.
+/// passed on the way from its port: the depth of the one that it leaves.
 #[derive(Clone, Copy, Debug, PartialEq, Eq, Hash)]
 pub struct Delivery {
     pub wire: usize,

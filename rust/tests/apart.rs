@@ -35,7 +35,7 @@ fn short(text: &str) -> Vec<u8> {
 /// The four output buffers.
 #[derive(Clone, Debug, PartialEq, Eq)]
 struct Out {
-    rerouters: Vec<[u32; 10]>,
+    rerouters: Vec<calls::RerouterRow>,
     bus_wires: Vec<[u32; 6]>,
     ports: Vec<[u32; 2]>,
     pages: Vec<[u32; 2]>,
@@ -243,16 +243,20 @@ fn counts_at_fault_give_7() {
     }
 }
 
-/// Just enough room: the corner stands behind the rows handed in, which stay.
+/// Just enough room: the corner stands behind the rows handed in, which stay,
+/// and a port feeds it, so that its depth is 1, whatever theirs are.
 #[test]
 fn counts_that_just_fit() {
     let sheet = short(CORNER);
     for held in [counts(4, 4, 0), counts(4, 0, 0), counts(0, 4, 0)] {
         let mut lent = Lent::for_sheet(&sheet);
+        for (row, depth) in lent.out.rerouters.iter_mut().zip([0, 1, 1 << 31, u32::MAX]) {
+            row[10] = depth;
+        }
         let mut due = lent.out.clone();
         let (n, k) = (held.rerouters, held.bus_wires);
         let (none, here) = (u32::MAX, n as u32);
-        due.rerouters[n] = [0, 9, 0, 2, 1, 6, 1, 0, none, 1];
+        due.rerouters[n] = [0, 9, 0, 2, 1, 6, 1, 0, none, 1, 1];
         due.bus_wires[k] = [1, 1, here, none, none, none];
         due.bus_wires[k + 1] = [here, none, 2, 1, 0, 1];
         due.ports[0] = [2, 1];

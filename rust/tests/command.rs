@@ -95,7 +95,7 @@ fn a_folder() {
     let out = route(&["--check", folder.path()], "");
     let answers = said(&out.stdout);
     assert!(answers.ends_with(&format!("{PLAN_END}%%\nE\t1\t1\n%%\n{EMPTY}")));
-    let told = "3 of 3 files, 3 sheets, 1 refused, demand 3 holds of every plan\n";
+    let told = "3 of 3 files, 3 sheets, 1 refused, demand 3 and depths hold of every plan\n";
     assert_eq!(said(&out.stderr), told);
     assert_eq!(out.status.code(), Some(0));
     let one = format!("{}/c", folder.path());

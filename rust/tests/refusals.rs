@@ -181,7 +181,7 @@ fn limits_of_the_program() {
 
 /// Slices of their own, all poisoned.
 struct Lent {
-    rerouters: Vec<[u32; 10]>,
+    rerouters: Vec<calls::RerouterRow>,
     bus_wires: Vec<[u32; 6]>,
     ports: Vec<[u32; 2]>,
     pages: Vec<[u32; 2]>,

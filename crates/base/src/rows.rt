@@ -6,8 +6,8 @@ pub type Record = [u32; 16];
 // A row of work space.
 pub type WorkRow = [u32; 8];
 
-// An output row: a rerouter's x, y, z, rotation, role, part, colour, page, lane, row.
-pub type RerouterRow = [u32; 10];
+// An output row: a rerouter's x, y, z, rotation, role, part, colour, page, lane, row, depth.
+pub type RerouterRow = [u32; 11];
 
 // A bus wire's from, from port, to, to port, wire, distance.
 pub type BusWireRow = [u32; 6];

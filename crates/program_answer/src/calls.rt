@@ -102,7 +102,7 @@ pub fn answer_for_program(
 pub fn respond(text: &[u8], out: &mut [u8]) -> Answer
     ensures { λ r. ⌜ Told (programCall (now (text .entry)) (programLent (length (now (out .entry))))) (now (out .entry)) (now (out .exit)) r ⌝ }
 {
-    let mut rerouters = [[0u32; 10]; 280];
+    let mut rerouters = [[0u32; 11]; 280];
     let mut bus_wires = [[0u32; 6]; 336];
     let mut ports = [[0u32; 2]; 56];
     let mut answers = [[0u32; 2]; 8];

@@ -16,8 +16,8 @@ use Rattle.base.proofs.Lists.{to-keep}
 use Rattle.routes.specs.Bus.{Bus, Rerouter, BusWire, End, port, rerouter, Carries, onward, delivery, partCorner}
 use Rattle.routes.specs.Plan.{isDelivery, busOf, finished}
 use Rattle.routes.specs.Corners.{corners}
-use Rattle.routes.specs.Demand3.{Demand3, Numbered, PortOrLower, Bounded, WayBack, atPort, through, arriving, arrivesAt}
-use Rattle.routes.proofs.Made.{Made, WireOf, feeds, sends, Sent, Far, cornered, within, wire-of, arrives, totals, once, apart, numbered-below, numbered-one}
+use Rattle.routes.specs.Demand3.{Demand3, Deepening, Numbered, PortOrLower, Bounded, WayBack, atPort, through, arriving, arrivesAt}
+use Rattle.routes.proofs.Made.{Made, WireOf, feeds, sends, Sent, Far, cornered, within, wire-of, arrives, totals, once, apart, deep, numbered-below, numbered-one}
 use Rattle.routes.proofs.Turned.{corners-made}
 use Rattle.routes.proofs.Walk.{bus-kept}
 
@@ -27,6 +27,39 @@ other-end h k = never cc
 
 other-load : {k d : ℕ} {c : Carries} → c ≡ delivery k d → c ≡ onward → ⊥
 other-load h k = never cc
+
+-- One bus wire arrives at each rerouter, so the way back from an end is one: its distance and its port are well defined.
+one-in : {A : Type 0} (l : List A) → length l ≡ 1 → (x y : A) → List·Memᴰ x l → List·Memᴰ y l → x ≡ y
+one-in [] e x y m n = absurd (List·Memᴰ·not-nil m)
+one-in (z ∷ []) e x y m n = List·Memᴰ·eq-of-singleton m ∙ sym (List·Memᴰ·eq-of-singleton n)
+one-in (z ∷ u ∷ l) e x y m n = absurd (omega arith)
+
+module _ (bus : Bus) (arrives : (n : ℕ) → n < length (bus .rerouters) → arriving (bus .wires) n ≡ 1)
+    (on : (w : BusWire) (n : ℕ) → List·Memᴰ w (bus .wires) → w .target ≡ rerouter n → n < length (bus .rerouters)) where
+  one-wire : (v w : BusWire) (k : ℕ) → List·Memᴰ v (bus .wires) → List·Memᴰ w (bus .wires) → v .target ≡ rerouter k → w .target ≡ rerouter k → v ≡ w
+  unfolding arriving
+  one-wire v w k m n e f =
+      one-in (keep (arrivesAt k) (bus .wires)) (arrives k (on v k m e)) v w (to-keep (arrivesAt k) m (at-end v e)) (to-keep (arrivesAt k) n (at-end w f))
+    where
+      at-end : (u : BusWire) → u .target ≡ rerouter k → arrivesAt k u ≡ true
+      at-end u e = rw e (eq-eqb k k refl)
+
+  same-back : {e f : End} {d d′ n n′ p p′ : ℕ} → WayBack (bus .wires) e d n p → WayBack (bus .wires) f d′ n′ p′ → e ≡ f → (d ≡ d′) × (n ≡ n′) × (p ≡ p′)
+  same-back atPort atPort h = (refl, cc, cc)
+  same-back atPort (through w m t r) h = absurd (other-end refl h)
+  same-back (through w m t r) atPort h = absurd (other-end refl (sym h))
+  same-back (through {k = k} v m t r) (through {k = j} w n u q) h =
+      let i : j ≡ k = cc in
+      let same = same-back r q (ap (λ x. x .source) (one-wire v w k m n t (u ∙ ap rerouter i))) in
+      (ap suc (same .0), same .1, same .2)
+
+  -- The way back of a rerouter goes by the one bus wire that arrives there.
+  feeder : {e : End} {d n p : ℕ} (w : BusWire) (k : ℕ) → List·Memᴰ w (bus .wires) → w .target ≡ rerouter k → WayBack (bus .wires) e d n p → e ≡ rerouter k
+      → (c : ℕ) × (d ≡ suc c) × WayBack (bus .wires) (w .source) c n p
+  feeder w k m t atPort h = absurd (other-end refl h)
+  feeder w k m t (through {k = j} {d = c} v i u r) h =
+      let q : j ≡ k = cc in
+      (c, refl, rw (one-wire v w k i m (u ∙ ap rerouter q) t) at r)
 
 module _ (b : Board) (ps : List PageLanes) (bus : Bus) (made : Made b ps bus) where
   fed : (w : BusWire) (n : ℕ) → w .target ≡ rerouter n → WireOf b ps bus w → PortOrLower (w .source) n × (n < length (bus .rerouters))
@@ -76,35 +109,26 @@ module _ (b : Board) (ps : List PageLanes) (bus : Bus) (made : Made b ps bus) wh
         cornerOne = λ w k d n j m e s h c. one k d j c (far w k d n j s h (sent w k d e (of w m)));
         otherBound = λ w k d n j m e s h c. bounded k d j c (far w k d n j s h (sent w k d e (of w m)));
         apart = λ m n j k p q d g h o. apart b ps made m n j k p q d g h o;
+        depths = deep b ps made;
+        leavesAt = λ w k d n j m e s h.
+            same-back bus (λ i l. arrives b ps made i .0 l) (λ v i l t. fed v i t (of v l) .1) (sent w k d e (of w m) .delivered .back) (deep b ps made n j h .2) s .0;
       }
 
--- One bus wire arrives at each rerouter, so the way back from an end is one: its distance and its port are well defined.
-one-in : {A : Type 0} (l : List A) → length l ≡ 1 → (x y : A) → List·Memᴰ x l → List·Memᴰ y l → x ≡ y
-one-in [] e x y m n = absurd (List·Memᴰ·not-nil m)
-one-in (z ∷ []) e x y m n = List·Memᴰ·eq-of-singleton m ∙ sym (List·Memᴰ·eq-of-singleton n)
-one-in (z ∷ u ∷ l) e x y m n = absurd (omega arith)
-
 module _ (b : Board) (bus : Bus) (d3 : Demand3 b bus) where
-  one-wire : (v w : BusWire) (k : ℕ) → List·Memᴰ v (bus .wires) → List·Memᴰ w (bus .wires) → v .target ≡ rerouter k → w .target ≡ rerouter k → v ≡ w
-  unfolding arriving
-  one-wire v w k m n e f =
-      one-in (keep (arrivesAt k) (bus .wires)) (d3 .oneArrives k (d3 .onPlan v k m e)) v w (to-keep (arrivesAt k) m (at-end v e))
-      (to-keep (arrivesAt k) n (at-end w f))
-    where
-      at-end : (u : BusWire) → u .target ≡ rerouter k → arrivesAt k u ≡ true
-      at-end u e = rw e (eq-eqb k k refl)
-
-  same-back : {e f : End} {d d′ n n′ p p′ : ℕ} → WayBack (bus .wires) e d n p → WayBack (bus .wires) f d′ n′ p′ → e ≡ f → (d ≡ d′) × (n ≡ n′) × (p ≡ p′)
-  same-back atPort atPort h = (refl, cc, cc)
-  same-back atPort (through w m t r) h = absurd (other-end refl h)
-  same-back (through w m t r) atPort h = absurd (other-end refl (sym h))
-  same-back (through {k = k} v m t r) (through {k = j} w n u q) h =
-      let i : j ≡ k = cc in
-      let same = same-back r q (ap (λ x. x .source) (one-wire v w k m n t (u ∙ ap rerouter i))) in
-      (ap suc (same .0), same .1, same .2)
-
   pub one-way-back : {e : End} {d d′ n n′ p p′ : ℕ} → WayBack (bus .wires) e d n p → WayBack (bus .wires) e d′ n′ p′ → (d ≡ d′) × (n ≡ n′) × (p ≡ p′)
-  one-way-back u v = same-back u v refl
+  one-way-back u v = same-back bus (d3 .oneArrives) (d3 .onPlan) u v refl
+
+  -- W17: so the depths rise by one from feeder to fed.
+  pub deepening : Deepening bus
+  deepening =
+      record {
+        atPort = λ w n k m p h t i s.
+            let f = feeder bus (d3 .oneArrives) (d3 .onPlan) w n h t (d3 .depths n k i .2) refl in
+            f .1 ∙ ap suc (same-back bus (d3 .oneArrives) (d3 .onPlan) (f .2) atPort s .0);
+        further = λ w n m k j h t i s q.
+            let f = feeder bus (d3 .oneArrives) (d3 .onPlan) w n h t (d3 .depths n k i .2) refl in
+            f .1 ∙ ap suc (same-back bus (d3 .oneArrives) (d3 .onPlan) (f .2) (d3 .depths m j q .2) s .0);
+      }
 
 -- Demand 3, of every accepted board whose lanes are planned.
 pub demand3 : (b : Board) (ps : List PageLanes) → planLanes b ≡ planned ps → Accepted b → Demand3 b (finished b ps)

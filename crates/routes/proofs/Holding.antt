@@ -7,7 +7,7 @@ use lib.ListN.{length, set}
 use Rattle.sheet.specs.Table.{MISSING}
 use Rattle.board.specs.Board.{Board, targetNode, targetPort}
 use Rattle.routes.specs.Bus
-use Rattle.routes.specs.Bus.{Bus, BusWire, port, rerouter, onward, delivery, place, deliver}
+use Rattle.routes.specs.Bus.{Bus, BusWire, port, rerouter, onward, delivery, fedBy, place, deliver}
 use Rattle.routes.specs.Buffers.{outward, rerouterRow, wireRow}
 use Rattle.routes.specs.Tables.{writtenOver}
 use Rattle.routes.specs.declared.bus.End.{End}
@@ -31,7 +31,7 @@ module _ (rerouters wires : List (List ℕ)) (count : BusCount) (feed : Feed) (k
     (ex : x ≡ outward (k .x)) (ey : y ≡ outward (k .y)) (ez : z ≡ outward (k .z)) (een : en ≡ endNode (feed .end)) (eep : ep ≡ endPort (feed .end)) where
   pub placing : Placing rerouters wires count feed k
       (record { count = record { rerouters = count .rerouters + 1; wires = count .wires + 1 }; feed = record { end = AtRerouter (record { 0 = count .rerouters }); depth = feed .depth + 1 } })
-      (set rerouters (count .rerouters) (x ∷ y ∷ z ∷ k .rotation ∷ k .role ∷ k .part ∷ k .colour .0 ∷ k .page ∷ k .lane ∷ k .row ∷ []))
+      (set rerouters (count .rerouters) (x ∷ y ∷ z ∷ k .rotation ∷ k .role ∷ k .part ∷ k .colour .0 ∷ k .page ∷ k .lane ∷ k .row ∷ (feed .depth + 1) ∷ []))
       (set wires (count .wires) (en ∷ ep ∷ count .rerouters ∷ MISSING ∷ MISSING ∷ MISSING ∷ []))
   placing =
       record {
@@ -41,7 +41,7 @@ module _ (rerouters wires : List (List ℕ)) (count : BusCount) (feed : Feed) (k
         gives = λ i. record { end = rerouter (count .rerouters); depth = add-one (feed .depth) i };
         held = λ bus old oldWires h.
             record {
-              rerouterRows = row ∙ (λ i. set (h .rerouterRows i) (h .rerouterCount i) (rerouterRow (rerouterOf k)));
+              rerouterRows = row ∙ (λ i. set (h .rerouterRows i) (h .rerouterCount i) (rerouterRow (fedBy (feedOf feed) (rerouterOf k))));
               wireRows = (λ i. set (h .wireRows i) (h .wireCount i) (een i ∷ eep i ∷ h .rerouterCount i ∷ MISSING ∷ MISSING ∷ MISSING ∷ []))
                   ∙ ap (set (writtenOver wireRow (bus .wires) oldWires) (length (bus .wires))) (sym (onward-row (feed .end) (length (bus .rerouters))));
               rerouterCount = add-one (count .rerouters) ∙ ap suc (h .rerouterCount);
@@ -49,9 +49,9 @@ module _ (rerouters wires : List (List ℕ)) (count : BusCount) (feed : Feed) (k
             };
       }
     where
-      row : set rerouters (count .rerouters) (x ∷ y ∷ z ∷ k .rotation ∷ k .role ∷ k .part ∷ k .colour .0 ∷ k .page ∷ k .lane ∷ k .row ∷ [])
-          ≡ set rerouters (count .rerouters) (rerouterRow (rerouterOf k))
-      row = λ i. set rerouters (count .rerouters) (ex i ∷ ey i ∷ ez i ∷ k .rotation ∷ k .role ∷ k .part ∷ k .colour .0 ∷ k .page ∷ k .lane ∷ k .row ∷ [])
+      row : set rerouters (count .rerouters) (x ∷ y ∷ z ∷ k .rotation ∷ k .role ∷ k .part ∷ k .colour .0 ∷ k .page ∷ k .lane ∷ k .row ∷ (feed .depth + 1) ∷ [])
+          ≡ set rerouters (count .rerouters) (rerouterRow (fedBy (feedOf feed) (rerouterOf k)))
+      row = λ i. set rerouters (count .rerouters) (ex i ∷ ey i ∷ ez i ∷ k .rotation ∷ k .role ∷ k .part ∷ k .colour .0 ∷ k .page ∷ k .lane ∷ k .row ∷ add-one (feed .depth) i ∷ [])
 
 -- `push_delivery` wrote the bus wire's row.
 pub delivering : (wires : List (List ℕ)) (count : BusCount) (feed : Feed) (n p w en ep : ℕ) → en ≡ endNode (feed .end) → ep ≡ endPort (feed .end)

@@ -17,11 +17,11 @@ use Rattle.base.proofs.Lists.{none-of, keep-no}
 use Rattle.board.proofs.Taps.{wireIs}
 use Rattle.routes.specs.Stops.{near}
 use Rattle.routes.specs.Levels.{Stop, own, unclaimed, claimNear}
-use Rattle.routes.specs.Bus.{Bus, Rerouter, Feed, rerouter, place, placedFeed, deliver, partHead, partLink, partTap, partCorner, emptyBus}
+use Rattle.routes.specs.Bus.{Bus, Rerouter, Feed, rerouter, fedBy, place, placedFeed, deliver, partHead, partLink, partTap, partCorner, emptyBus}
 use Rattle.routes.specs.Rerouters.{columnFree, rerouterNear}
 use Rattle.routes.specs.Plan.{deliveries}
 use Rattle.routes.specs.Demand3.{Numbered, here, PortOrLower, WayBack, through, timesDelivered, names, inGutter}
-use Rattle.routes.proofs.Made.{Made, nothing, placing, serving, Stood, aside, inColumn, Touches, InLane, Served, Grown, place-grows, back-grows, lower-grows, onwardWire, deliveryWire}
+use Rattle.routes.proofs.Made.{Made, nothing, placing, serving, Stood, aside, inColumn, Touches, InLane, Served, Grown, place-grows, back-grows, lower-grows, onwardWire, deliveryWire, Feeds}
 use Rattle.routes.proofs.Claims.{still-claimed, claimed-more, near-turned}
 
 -- A feed of a group's port, within so many rerouters of it.
@@ -38,6 +38,9 @@ pub record Stands (b : Board) (bus : Bus) (f : Feed) (g bound : ℕ) : Type 0 wh
   pub ends : f .end ≡ rerouter number
   pub numbered : Numbered number standing (bus .rerouters)
   pub noCorner : standing .part ≡ partCorner → ⊥
+
+pub live-feeds : {b : Board} {bus : Bus} {f : Feed} {g bound : ℕ} → Live b bus f g bound → Feeds bus f
+live-feeds r = record { low = r .low; node = _; port = _; back = r .back }
 
 module _ (b : Board) where
   pub live-grows : {bus more : Bus} {f : Feed} {g m n : ℕ} → Grown bus more → m ≤ n → Live b bus f g m → Live b more f g n
@@ -69,7 +72,7 @@ module _ (b : Board) where
 
   pub stands-placed : {bus : Bus} {f : Feed} {g m n : ℕ} (k : Rerouter) → (k .part ≡ partCorner → ⊥) → m < n → Live b bus f g m
       → Stands b (place bus f k) (placedFeed bus f) g n
-  stands-placed {bus} k c h r = record { live = live-placed k h r; number = length (bus .rerouters); standing = k; ends = refl; numbered = here refl; noCorner = c }
+  stands-placed {bus} {f} k c h r = record { live = live-placed k h r; number = length (bus .rerouters); standing = fedBy f k; ends = refl; numbered = here refl; noCorner = c }
 
 abbrev pub isChain : Rerouter → Bool
 isChain k = eqb (k .part) partHead || eqb (k .part) partLink
@@ -140,35 +143,35 @@ module _ (b : Board) (ps : List PageLanes) (stops : List Stop) where
           ∙ r .named k (or-right (wireIs k t) (any (wireIs k) l) h)
 
   -- A rerouter placed, in general.
-  kept-place : {old : List Stop} {l : List Tap} {c : ℕ} {bus : Bus} (new : List Stop) (f : Feed) (k : Rerouter) → PortOrLower (f .end) (length (bus .rerouters))
+  kept-place : {old : List Stop} {l : List Tap} {c : ℕ} {bus : Bus} (new : List Stop) (f : Feed) (k : Rerouter) → Feeds bus f
       → Stood b ps bus k
       → (isTap k ≡ true → (x : ℕ) → near x (k .x) ≡ true → unclaimed new (k .page) (k .lane) x ≡ false)
       → (isChain k ≡ true → unclaimed stops (k .page) (k .lane) (k .x) ≡ true)
       → ((p lane x : ℕ) → unclaimed old p lane x ≡ false → unclaimed new p lane x ≡ false)
       → Kept old l c bus → Kept new l (suc c) (place bus f k)
   unfolding deliveries timesDelivered
-  kept-place {old} {l} {c} {bus} new f k low stood taps chains stays r =
+  kept-place {old} {l} {c} {bus} new f k fed stood taps chains stays r =
       record {
-        made = placing (r .made) f k low stood;
+        made = placing (r .made) f k fed stood;
         named = r .named;
         tapsOn = λ j m. onTap j (List·Memᴰ·cases-cons m);
         chainsOff = λ j m. onChain j (List·Memᴰ·cases-cons m);
         paid = omega (arith, r .paid);
       }
     where
-      onTap : (j : Rerouter) → (j ≡ k) ⊎ List·Memᴰ j (bus .rerouters) → isTap j ≡ true → (x : ℕ) → near x (j .x) ≡ true → unclaimed new (j .page) (j .lane) x ≡ false
+      onTap : (j : Rerouter) → (j ≡ fedBy f k) ⊎ List·Memᴰ j (bus .rerouters) → isTap j ≡ true → (x : ℕ) → near x (j .x) ≡ true → unclaimed new (j .page) (j .lane) x ≡ false
       onTap j (inl e) = rw e taps
       onTap j (inr m) = λ t x n. stays (j .page) (j .lane) x (r .tapsOn j m t x n)
 
-      onChain : (j : Rerouter) → (j ≡ k) ⊎ List·Memᴰ j (bus .rerouters) → isChain j ≡ true → unclaimed stops (j .page) (j .lane) (j .x) ≡ true
+      onChain : (j : Rerouter) → (j ≡ fedBy f k) ⊎ List·Memᴰ j (bus .rerouters) → isChain j ≡ true → unclaimed stops (j .page) (j .lane) (j .x) ≡ true
       onChain j (inl e) = rw e chains
       onChain j (inr m) = r .chainsOff j m
 
   -- Beside a row.
-  pub kept-beside : {old : List Stop} {l : List Tap} {c : ℕ} {bus : Bus} (f : Feed) (k : Rerouter) → PortOrLower (f .end) (length (bus .rerouters))
+  pub kept-beside : {old : List Stop} {l : List Tap} {c : ℕ} {bus : Bus} (f : Feed) (k : Rerouter) → Feeds bus f
       → inGutter k ≡ false → Kept old l c bus → Kept old l (suc c) (place bus f k)
-  kept-beside {old} f k low g r =
-      kept-place old f k low (aside g) (λ t. clash t (or-right (isChain k) (isTap k) g)) (λ t. clash t (or-left (isChain k) (isTap k) g)) (λ p lane x h. h) r
+  kept-beside {old} f k fed g r =
+      kept-place old f k fed (aside g) (λ t. clash t (or-right (isChain k) (isTap k) g)) (λ t. clash t (or-left (isChain k) (isTap k) g)) (λ p lane x h. h) r
 
   -- What of a lane is near: heads and links, or taps on their claims.
   touching : {old : List Stop} {l : List Tap} {c : ℕ} {bus : Bus} (p lane x : ℕ) → Kept old l c bus → unclaimed old p lane x ≡ true
@@ -181,14 +184,14 @@ module _ (b : Board) (ps : List PageLanes) (stops : List Stop) where
       go false e = clash h (let u = r .tapsOn j m (rw e at g) x (t .close) in rw (t .page, t .column) at u)
 
   -- A head or link, where the column is free.
-  pub kept-chain : {old : List Stop} {l : List Tap} {c : ℕ} {bus : Bus} (f : Feed) (k : Rerouter) → PortOrLower (f .end) (length (bus .rerouters)) → InLane b ps k
+  pub kept-chain : {old : List Stop} {l : List Tap} {c : ℕ} {bus : Bus} (f : Feed) (k : Rerouter) → Feeds bus f → InLane b ps k
       → isTap k ≡ false
       → columnFree stops bus (k .page) (k .lane) (k .x) ≡ true
       → ((p lane x : ℕ) → unclaimed stops p lane x ≡ true → unclaimed old p lane x ≡ true)
       → Kept old l c bus → Kept old l (suc c) (place bus f k)
   unfolding columnFree
-  kept-chain {old} {bus = bus} f k low lane t free before r =
-      kept-place old f k low (inColumn lane (touching (k .page) (k .lane) (k .x) r (before (k .page) (k .lane) (k .x) unclaimed-all) none-near))
+  kept-chain {old} {bus = bus} f k fed lane t free before r =
+      kept-place old f k fed (inColumn lane (touching (k .page) (k .lane) (k .x) r (before (k .page) (k .lane) (k .x) unclaimed-all) none-near))
       (λ e. clash e t)
       (λ e. unclaimed-all) (λ p lane x h. h) r
     where
@@ -207,14 +210,14 @@ module _ (b : Board) (ps : List PageLanes) (stops : List Stop) where
   claim-near p lane x y s e f g h = rw (eq-eqb (s .page) p e, eq-eqb (s .lane) lane f, g) h
 
   -- The tap of a stop with a level of its own.
-  pub kept-tap : {old : List Stop} {l : List Tap} {c : ℕ} {bus : Bus} (s : Stop) (f : Feed) (k : Rerouter) → PortOrLower (f .end) (length (bus .rerouters))
+  pub kept-tap : {old : List Stop} {l : List Tap} {c : ℕ} {bus : Bus} (s : Stop) (f : Feed) (k : Rerouter) → Feeds bus f
       → InLane b ps k → isChain k ≡ false
       → s .page ≡ k .page → s .lane ≡ k .lane → s .level ≡ own (k .x)
       → unclaimed old (k .page) (k .lane) (k .x) ≡ true
       → ((p lane x : ℕ) → unclaimed stops p lane x ≡ true → unclaimed (s ∷ old) p lane x ≡ true)
       → Kept old l c bus → Kept (s ∷ old) l (suc c) (place bus f k)
-  kept-tap {old} {bus = bus} s f k low lane c page column level free before r =
-      kept-place (s ∷ old) f k low (inColumn lane (touching (k .page) (k .lane) (k .x) r free chains))
+  kept-tap {old} {bus = bus} s f k fed lane c page column level free before r =
+      kept-place (s ∷ old) f k fed (inColumn lane (touching (k .page) (k .lane) (k .x) r free chains))
       (λ t x n. on x n (unclaimed (s ∷ old) (k .page) (k .lane) x) refl) (λ e. clash e c) (λ p lane x h. still-claimed s old p lane x h) r
     where
       on : (x : ℕ) → near x (k .x) ≡ true → (t : Bool) → unclaimed (s ∷ old) (k .page) (k .lane) x ≡ t → unclaimed (s ∷ old) (k .page) (k .lane) x ≡ false

@@ -16,7 +16,7 @@ use Rattle.board.proofs.LanesFit.{heights-apart}
 use Rattle.base.proofs.Bools.{clash, both}
 use Rattle.base.proofs.Lists.{keep-yes, keep-no}
 use Rattle.routes.specs.Stops.{near}
-use Rattle.routes.specs.Bus.{Bus, Rerouter, BusWire, Feed, End, port, rerouter, onward, delivery, emptyBus, place, deliver, partCorner}
+use Rattle.routes.specs.Bus.{Bus, Rerouter, BusWire, Feed, End, port, rerouter, onward, delivery, emptyBus, fedBy, place, deliver, partCorner}
 use Rattle.routes.specs.Plan.{deliveries}
 use Rattle.routes.specs.Demand3.{Numbered, here, there, arrivesAt, arriving, PortOrLower, WayBack, atPort, through, names, timesDelivered, inGutter, Overlap, Delivered, Bounded}
 
@@ -69,6 +69,13 @@ place-grows bus f k = record { wiresIn = λ w m. List·Memᴰ·tail m; rerouters
 pub deliver-grows : (b : Board) (bus : Bus) (f : Feed) (w : ℕ) → Grown bus (deliver b bus f w)
 deliver-grows b bus f w = record { wiresIn = λ w m. List·Memᴰ·tail m; reroutersIn = λ n j m. m; longer = omega arith }
 
+-- A port or a rerouter of the bus, with its way back.
+pub record Feeds (bus : Bus) (f : Feed) : Type 0 where
+  pub low : PortOrLower (f .end) (length (bus .rerouters))
+  pub node : ℕ
+  pub port : ℕ
+  pub back : WayBack (bus .wires) (f .end) (f .depth) node port
+
 -- A rerouter in a lane's column near x.
 pub record Touches (p lane x : ℕ) (j : Rerouter) : Type 0 where
   pub page : j .page ≡ p
@@ -87,6 +94,11 @@ module _ (b : Board) (ps : List PageLanes) where
     aside : inGutter k ≡ false → Stood bus k
     inColumn : InLane k → ((j : Rerouter) → List·Memᴰ j (bus .rerouters) → inGutter j ≡ true → Touches (k .page) (k .lane) (k .x) j → ⊥) → Stood bus k
 
+  -- Where a rerouter stands does not hang on its depth.
+  stood-fed : {bus : Bus} {k : Rerouter} (f : Feed) → Stood bus k → Stood bus (fedBy f k)
+  stood-fed f (aside a) = aside a
+  stood-fed f (inColumn l c) = inColumn (record { high = l .high; most = l .most; opened = l .opened; height = l .height }) c
+
   -- What a delivery leaves: a corner at distance 1, or another rerouter within the bound.
   pub data Far (j : Rerouter) (w d : ℕ) : Type 0 where
     cornered : j .part ≡ partCorner → d ≡ 1 → Far j w d
@@ -104,7 +116,7 @@ module _ (b : Board) (ps : List PageLanes) where
 
   pub data Made : Bus → Type 0 where
     nothing : Made emptyBus
-    placing : {bus : Bus} → Made bus → (f : Feed) (k : Rerouter) → PortOrLower (f .end) (length (bus .rerouters)) → Stood bus k → Made (place bus f k)
+    placing : {bus : Bus} → Made bus → (f : Feed) (k : Rerouter) → Feeds bus f → Stood bus k → Made (place bus f k)
     serving : {bus : Bus} → Made bus → (f : Feed) (w : ℕ) → Served bus f w → Made (deliver b bus f w)
 
   -- W7: one bus wire and no more arrives at each rerouter.
@@ -157,7 +169,7 @@ module _ (b : Board) (ps : List PageLanes) where
   wire-of (placing {bus} m f k l s) w h = go (List·Memᴰ·cases-cons h) (λ i. wire-of m w i)
     where
       go : (w ≡ onwardWire bus f) ⊎ List·Memᴰ w (bus .wires) → (List·Memᴰ w (bus .wires) → WireOf bus w) → WireOf (place bus f k) w
-      go (inl d) ih = feeds (length (bus .rerouters)) (ap (λ v. v .target) d) (ap (λ v. v .carries) d) (rw d l) (omega arith)
+      go (inl d) ih = feeds (length (bus .rerouters)) (ap (λ v. v .target) d) (ap (λ v. v .carries) d) (rw d (l .low)) (omega arith)
       go (inr i) ih = wire-grows (place-grows bus f k) w (ih i)
   wire-of (serving {bus} m f v s) w h = go (List·Memᴰ·cases-cons h) (λ i. wire-of m w i)
     where
@@ -220,9 +232,9 @@ module _ (b : Board) (ps : List PageLanes) where
 
   lane-of : {bus : Bus} → Made bus → (k : Rerouter) → List·Memᴰ k (bus .rerouters) → inGutter k ≡ true → InLane k
   lane-of nothing k h g = absurd (List·Memᴰ·not-nil h)
-  lane-of (placing {bus} m f j l s) k h g = go s (List·Memᴰ·cases-cons h) (λ i. lane-of m k i g)
+  lane-of (placing {bus} m f j l s) k h g = go (stood-fed f s) (List·Memᴰ·cases-cons h) (λ i. lane-of m k i g)
     where
-      go : Stood bus j → (k ≡ j) ⊎ List·Memᴰ k (bus .rerouters) → (List·Memᴰ k (bus .rerouters) → InLane k) → InLane k
+      go : Stood bus (fedBy f j) → (k ≡ fedBy f j) ⊎ List·Memᴰ k (bus .rerouters) → (List·Memᴰ k (bus .rerouters) → InLane k) → InLane k
       go (aside a) (inl e) ih = clash g (rw e a)
       go (inColumn a c) (inl e) ih = rw e a
       go (aside a) (inr i) ih = ih i
@@ -237,14 +249,31 @@ module _ (b : Board) (ps : List PageLanes) where
   apart nothing m n j k p q d g h o = let z = numbered-below p in omega arith
   apart (placing {bus} made f i l s) m n j k p q d g h o = go (numbered-cases p) (numbered-cases q) (λ u v. apart made m n j k u v d g h o)
     where
-      first : (u v : Rerouter) → u ≡ i → List·Memᴰ v (bus .rerouters) → inGutter u ≡ true → inGutter v ≡ true → Stood bus i → Overlap u v → ⊥
-      first u v e r a c (aside x) w = clash a (rw e x)
-      first u v e r a c (inColumn x y) w = clear-apart i v x (lane-of made v r c) (y v r c) (rw e at w)
+      new : Rerouter
+      new = fedBy f i
 
-      go : ((m ≡ length (bus .rerouters)) × (j ≡ i)) ⊎ Numbered m j (bus .rerouters) → ((n ≡ length (bus .rerouters)) × (k ≡ i)) ⊎ Numbered n k (bus .rerouters)
+      first : (u v : Rerouter) → u ≡ new → List·Memᴰ v (bus .rerouters) → inGutter u ≡ true → inGutter v ≡ true → Stood bus new → Overlap u v → ⊥
+      first u v e r a c (aside x) w = clash a (rw e x)
+      first u v e r a c (inColumn x y) w = clear-apart new v x (lane-of made v r c) (y v r c) (rw e at w)
+
+      go : ((m ≡ length (bus .rerouters)) × (j ≡ new)) ⊎ Numbered m j (bus .rerouters) → ((n ≡ length (bus .rerouters)) × (k ≡ new)) ⊎ Numbered n k (bus .rerouters)
           → (Numbered m j (bus .rerouters) → Numbered n k (bus .rerouters) → ⊥) → ⊥
       go (inl u) (inl v) ih = d (u .0 ∙ sym (v .0))
-      go (inl u) (inr v) ih = first j k (u .1) (numbered-in v) g h s o
-      go (inr u) (inl v) ih = first k j (v .1) (numbered-in u) h g s (turned j k o)
+      go (inl u) (inr v) ih = first j k (u .1) (numbered-in v) g h (stood-fed f s) o
+      go (inr u) (inl v) ih = first k j (v .1) (numbered-in u) h g (stood-fed f s) (turned j k o)
       go (inr u) (inr v) ih = ih u v
   apart (serving made f w s) m n j k p q d g h o = apart made m n j k p q d g h o
+
+  -- W15: a rerouter's depth is the count of rerouters on its way back.
+  pub deep : {bus : Bus} → Made bus → (n : ℕ) (k : Rerouter) → Numbered n k (bus .rerouters) → (m p : ℕ) × WayBack (bus .wires) (rerouter n) (k .depth) m p
+  deep nothing n k h = absurd (let z = numbered-below h in omega arith)
+  deep (placing {bus} m f j l s) n k h = go (numbered-cases h) (λ i. deep m n k i)
+    where
+      more : Grown bus (place bus f j)
+      more = place-grows bus f j
+
+      go : ((n ≡ length (bus .rerouters)) × (k ≡ fedBy f j)) ⊎ Numbered n k (bus .rerouters)
+          → (Numbered n k (bus .rerouters) → (a p : ℕ) × WayBack (bus .wires) (rerouter n) (k .depth) a p) → (a p : ℕ) × WayBack (place bus f j .wires) (rerouter n) (k .depth) a p
+      go (inl e) ih = (l .node, l .port, rw (e .0, e .1) (through (onwardWire bus f) (List·Memᴰ·head refl) refl (back-grows (more .wiresIn) (l .back))))
+      go (inr i) ih = let r = ih i in (r .0, r .1, back-grows (more .wiresIn) (r .2))
+  deep (serving {bus} m f w s) n k h = let r = deep m n k h in (r .0, r .1, back-grows (deliver-grows b bus f w .wiresIn) (r .2))

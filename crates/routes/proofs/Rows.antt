@@ -53,6 +53,7 @@ rerouter-back k f i =
       page = k .page;
       lane = k .lane;
       row = k .row;
+      depth = k .depth;
     }
 
 pub port-there : (n p : ℕ) → p < MISSING → endIn n p ≡ port n p
@@ -121,20 +122,21 @@ outward-inward : (c : ℕ) → c < 4294967296 → outward (inward c) ≡ c
 outward-inward c h = omega arith
 
 -- A list of a known length is its numbers.
-ten : (r : List ℕ) → length r ≡ 10
-    → getD r 0 0 ∷ getD r 1 0 ∷ getD r 2 0 ∷ getD r 3 0 ∷ getD r 4 0 ∷ getD r 5 0 ∷ getD r 6 0 ∷ getD r 7 0 ∷ getD r 8 0 ∷ getD r 9 0 ∷ [] ≡ r
-ten (a ∷ b ∷ c ∷ d ∷ e ∷ f ∷ g ∷ h ∷ i ∷ j ∷ []) l = refl
-ten [] l = absurd (omega arith)
-ten (a ∷ []) l = absurd (omega arith)
-ten (a ∷ b ∷ []) l = absurd (omega arith)
-ten (a ∷ b ∷ c ∷ []) l = absurd (omega arith)
-ten (a ∷ b ∷ c ∷ d ∷ []) l = absurd (omega arith)
-ten (a ∷ b ∷ c ∷ d ∷ e ∷ []) l = absurd (omega arith)
-ten (a ∷ b ∷ c ∷ d ∷ e ∷ f ∷ []) l = absurd (omega arith)
-ten (a ∷ b ∷ c ∷ d ∷ e ∷ f ∷ g ∷ []) l = absurd (omega arith)
-ten (a ∷ b ∷ c ∷ d ∷ e ∷ f ∷ g ∷ h ∷ []) l = absurd (omega arith)
-ten (a ∷ b ∷ c ∷ d ∷ e ∷ f ∷ g ∷ h ∷ i ∷ []) l = absurd (omega arith)
-ten (a ∷ b ∷ c ∷ d ∷ e ∷ f ∷ g ∷ h ∷ i ∷ j ∷ k ∷ r) l = absurd (omega arith)
+eleven : (r : List ℕ) → length r ≡ 11
+    → getD r 0 0 ∷ getD r 1 0 ∷ getD r 2 0 ∷ getD r 3 0 ∷ getD r 4 0 ∷ getD r 5 0 ∷ getD r 6 0 ∷ getD r 7 0 ∷ getD r 8 0 ∷ getD r 9 0 ∷ getD r 10 0 ∷ [] ≡ r
+eleven (a ∷ b ∷ c ∷ d ∷ e ∷ f ∷ g ∷ h ∷ i ∷ j ∷ k ∷ []) l = refl
+eleven [] l = absurd (omega arith)
+eleven (a ∷ []) l = absurd (omega arith)
+eleven (a ∷ b ∷ []) l = absurd (omega arith)
+eleven (a ∷ b ∷ c ∷ []) l = absurd (omega arith)
+eleven (a ∷ b ∷ c ∷ d ∷ []) l = absurd (omega arith)
+eleven (a ∷ b ∷ c ∷ d ∷ e ∷ []) l = absurd (omega arith)
+eleven (a ∷ b ∷ c ∷ d ∷ e ∷ f ∷ []) l = absurd (omega arith)
+eleven (a ∷ b ∷ c ∷ d ∷ e ∷ f ∷ g ∷ []) l = absurd (omega arith)
+eleven (a ∷ b ∷ c ∷ d ∷ e ∷ f ∷ g ∷ h ∷ []) l = absurd (omega arith)
+eleven (a ∷ b ∷ c ∷ d ∷ e ∷ f ∷ g ∷ h ∷ i ∷ []) l = absurd (omega arith)
+eleven (a ∷ b ∷ c ∷ d ∷ e ∷ f ∷ g ∷ h ∷ i ∷ j ∷ []) l = absurd (omega arith)
+eleven (a ∷ b ∷ c ∷ d ∷ e ∷ f ∷ g ∷ h ∷ i ∷ j ∷ k ∷ m ∷ r) l = absurd (omega arith)
 
 six : (r : List ℕ) → length r ≡ 6 → getD r 0 0 ∷ getD r 1 0 ∷ getD r 2 0 ∷ getD r 3 0 ∷ getD r 4 0 ∷ getD r 5 0 ∷ [] ≡ r
 six (a ∷ b ∷ c ∷ d ∷ e ∷ f ∷ []) l = refl
@@ -147,12 +149,12 @@ six (a ∷ b ∷ c ∷ d ∷ e ∷ []) l = absurd (omega arith)
 six (a ∷ b ∷ c ∷ d ∷ e ∷ f ∷ g ∷ r) l = absurd (omega arith)
 
 -- The row of what a row holds is that row.
-pub rerouter-row : (r : List ℕ) → Row 10 r → rerouterRow (rerouterIn r) ≡ r
+pub rerouter-row : (r : List ℕ) → Row 11 r → rerouterRow (rerouterIn r) ≡ r
 rerouter-row r h =
     let x = outward-inward (getD r 0 0) (h .fits 0 (omega arith)) in
     let y = outward-inward (getD r 1 0) (h .fits 1 (omega arith)) in
     let z = outward-inward (getD r 2 0) (h .fits 2 (omega arith)) in
-    (λ i. x i ∷ y i ∷ z i ∷ getD r 3 0 ∷ getD r 4 0 ∷ getD r 5 0 ∷ getD r 6 0 ∷ getD r 7 0 ∷ getD r 8 0 ∷ getD r 9 0 ∷ []) ∙ ten r (h .wide)
+    (λ i. x i ∷ y i ∷ z i ∷ getD r 3 0 ∷ getD r 4 0 ∷ getD r 5 0 ∷ getD r 6 0 ∷ getD r 7 0 ∷ getD r 8 0 ∷ getD r 9 0 ∷ getD r 10 0 ∷ []) ∙ eleven r (h .wide)
 
 end-row : (n p : ℕ) → endRow (endIn n p) ≡ n ∷ p ∷ []
 end-row n p = go (eqb p MISSING) refl

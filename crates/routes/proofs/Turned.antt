@@ -15,7 +15,7 @@ use Rattle.board.specs.Refusals.{bodyOf}
 use Rattle.board.specs.Demands.{PageLanes}
 use Rattle.base.proofs.Bools.{clash}
 use Rattle.base.proofs.Lists.{byTest, byFound, keep-no}
-use Rattle.routes.specs.Bus.{Bus, Feed, Port, insertPort, samePort, portOf, portFeed, placedFeed, place, deliver, muted, port}
+use Rattle.routes.specs.Bus.{Bus, Feed, Port, insertPort, samePort, portOf, portFeed, placedFeed, fedBy, place, deliver, muted, port}
 use Rattle.routes.specs.Demand3.{here, names, timesDelivered, atPort, through}
 use Rattle.routes.specs.Corners.{Cornering, turnsDown, turns, turnWire, withCorner, cornerLevel, cornerRerouter, corners}
 use Rattle.routes.proofs.Made.{Made, nothing, placing, serving, aside, cornered, deliveryWire, onwardWire}
@@ -117,13 +117,13 @@ module _ (b : Board) (ps : List PageLanes) where
   turn-made : (n s t level : ℕ) (bus : Bus) → n < length (b .wires) → turns b bus n ≡ true → Made b ps bus → Made b ps (withTurn b bus n s t level)
   unfolding cornerRerouter timesDelivered
   turn-made n s t level bus h e m =
-      serving (placing m (portFeed b n) (cornerRerouter b s t level) tt (aside refl)) (placedFeed bus (portFeed b n)) n
+      serving (placing m (portFeed b n) (cornerRerouter b s t level) (record { low = tt; node = _; port = _; back = atPort }) (aside refl)) (placedFeed bus (portFeed b n)) n
       (record {
         onBoard = h;
         fresh = not-muted m n (turns-open b bus n e);
         back = through (onwardWire bus (portFeed b n)) (List·Memᴰ·head refl) refl atPort;
         number = length (bus .rerouters);
-        standing = cornerRerouter b s t level;
+        standing = fedBy (portFeed b n) (cornerRerouter b s t level);
         ends = refl;
         numbered = here refl;
         far = cornered refl refl;

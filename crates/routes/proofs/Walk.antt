@@ -24,7 +24,7 @@ use Rattle.routes.specs.Demand3.{atPort}
 use Rattle.routes.proofs.Made.{InLane, Served, within, place-grows, deliver-grows, Grown}
 use Rattle.routes.proofs.Laid.{LaidIn, laid-in, row-of-group, laid-tail, new-wire, new-group, rowsSeen, columnsSeen, rows-new, rows-old, columns-new, columns-old, rows-bound, columns-bound}
 use Rattle.routes.proofs.Claims.{keptIn, kept-later, own-unclaimed, shared-kept, stops-more, stops-same, stops-before, claimed-before, stop-group}
-use Rattle.routes.proofs.Kept.{Live, Stands, live-grows, stands-grows, live-placed, stands-placed, Kept, kept-empty, kept-more, kept-stop, kept-skip, kept-serve, kept-beside, kept-chain, kept-tap, isChain}
+use Rattle.routes.proofs.Kept.{Live, Stands, live-feeds, live-grows, stands-grows, live-placed, stands-placed, Kept, kept-empty, kept-more, kept-stop, kept-skip, kept-serve, kept-beside, kept-chain, kept-tap, isChain}
 
 -- Where the bus stays, feeds stay.
 same-bus : (bus : Bus) → Grown bus bus
@@ -95,7 +95,7 @@ module _ (b : Board) (ps : List PageLanes) (plan : planLanes b ≡ planned ps) (
           byFound Sourced (sourceRow b (t .group) (t .page)) (λ n. same)
           (λ row n. byTest Sourced (clearFor b ts ps (e .bus) (sourceRerouter b ts ps t row))
           (λ c. record {
-            kept = kept-beside b ps stops (e .upstream) (sourceRerouter b ts ps t row) (h .low) refl k;
+            kept = kept-beside b ps stops (e .upstream) (sourceRerouter b ts ps t row) (live-feeds h) refl k;
             hang = live-placed b (sourceRerouter b ts ps t row) (omega arith) h;
             free = still-free stops (e .bus) (e .upstream) (sourceRerouter b ts ps t row) (t .page) (laneFor ps t) (xOf b (source b ts ps t)) refl f;
           })
@@ -124,7 +124,7 @@ module _ (b : Board) (ps : List PageLanes) (plan : planLanes b ≡ planned ps) (
           head : {s : Emission} → Sourced s → At old l 2 (t .group) r (hangOn b ts ps s (s .upstream) (headRerouter b ts ps t))
           head {s} q =
               record {
-                kept = kept-chain b ps stops (s .upstream) (headRerouter b ts ps t) (q .hang .low) (in-lane t lane _ _ _) refl (q .free) before (q .kept);
+                kept = kept-chain b ps stops (s .upstream) (headRerouter b ts ps t) (live-feeds (q .hang)) (in-lane t lane _ _ _) refl (q .free) before (q .kept);
                 hang = live-placed b (headRerouter b ts ps t) (omega arith) (q .hang);
                 tapped = λ a. clash a fresh;
               }
@@ -143,7 +143,7 @@ module _ (b : Board) (ps : List PageLanes) (plan : planLanes b ≡ planned ps) (
       linked e x before a =
           byTest Linked (columnFree stops (e .bus) (t .page) (laneFor ps t) (x + 2))
           (λ h. record {
-            kept = kept-chain b ps stops (e .upstream) (linkRerouter b ts ps t x) (a .hang .low) (in-lane t lane _ _ _) refl h before (a .kept);
+            kept = kept-chain b ps stops (e .upstream) (linkRerouter b ts ps t x) (live-feeds (a .hang)) (in-lane t lane _ _ _) refl h before (a .kept);
             hang = live-placed b (linkRerouter b ts ps t x) (omega arith) (a .hang);
           })
           (λ h. record { kept = kept-more b ps stops 3 (omega arith) (a .kept); hang = live-grows b (same-bus (e .bus)) (omega arith) (a .hang) })
@@ -154,7 +154,7 @@ module _ (b : Board) (ps : List PageLanes) (plan : planLanes b ≡ planned ps) (
       row-own e x after before level a = (
         record {
           kept =
-              kept-tap b ps stops stop (s .upstream) (tapRerouter b ts ps t x) (q .hang .low) (in-lane t lane _ _ _) refl refl refl level
+              kept-tap b ps stops stop (s .upstream) (tapRerouter b ts ps t x) (live-feeds (q .hang)) (in-lane t lane _ _ _) refl refl refl level
               (own-unclaimed b old (laneFor ps t) _ t x level) after (q .kept);
           hang = live-grows b (place-grows (s .bus) (s .upstream) (tapRerouter b ts ps t x)) (omega arith) (q .hang);
           tapped = λ k. stands-grows b (same-bus _) (omega arith) stands;
@@ -279,7 +279,7 @@ module _ (b : Board) (ps : List PageLanes) (plan : planLanes b ≡ planned ps) (
           (λ c. record {
             state =
                 record {
-                  kept = kept-beside b ps stops (e .rowEnd) k (s .live .low) refl (a .kept);
+                  kept = kept-beside b ps stops (e .rowEnd) k (live-feeds (s .live)) refl (a .kept);
                   hang = live-grows b (place-grows (e .bus) (e .rowEnd) k) (omega arith) (a .hang);
                   tapped = λ q. stands-grows b (place-grows (e .bus) (e .rowEnd) k) (omega arith) (a .tapped q);
                 };

@@ -17,7 +17,7 @@ outward c = (c + 4294967296 - ORIGIN) % 4294967296
 -- P7: the row of a rerouter.
 abbrev pub rerouterRow : Rerouter → List ℕ
 rerouterRow k =
-    outward (k .x) ∷ outward (k .y) ∷ outward (k .z) ∷ k .rotation ∷ k .role ∷ k .part ∷ k .colour ∷ k .page ∷ k .lane ∷ k .row ∷ []
+    outward (k .x) ∷ outward (k .y) ∷ outward (k .z) ∷ k .rotation ∷ k .role ∷ k .part ∷ k .colour ∷ k .page ∷ k .lane ∷ k .row ∷ k .depth ∷ []
 
 -- P7: the row of a bus wire: its two ends, then what it delivers.
 abbrev pub endRow : End → List ℕ
@@ -53,6 +53,7 @@ rerouterIn r =
       page = getD r 7 0;
       lane = getD r 8 0;
       row = getD r 9 0;
+      depth = getD r 10 0;
     }
 
 -- An end without a port is a rerouter.

@@ -20,6 +20,11 @@ pub record Rerouter : Type 0 where
   pub page : ℕ
   pub lane : ℕ
   pub row : ℕ
+  pub depth : ℕ
+
+-- The depth of a rerouter that is not placed yet: what feeds it gives it one.
+abbrev pub unfed : ℕ
+unfed = 0
 
 -- P3: the roles.
 abbrev pub roleGutter : ℕ
@@ -91,18 +96,39 @@ pub record Feed : Type 0 where
   pub end : End
   pub depth : ℕ
 
+-- R15: the depth of what a feed feeds.
+abbrev pub deeper : Feed → ℕ
+deeper feed = suc (feed .depth)
+
+-- R15: a rerouter once it is fed.
+abbrev pub fedBy : Feed → Rerouter → Rerouter
+fedBy feed k =
+    record {
+      x = k .x;
+      y = k .y;
+      z = k .z;
+      rotation = k .rotation;
+      role = k .role;
+      part = k .part;
+      colour = k .colour;
+      page = k .page;
+      lane = k .lane;
+      row = k .row;
+      depth = deeper feed;
+    }
+
 -- R13: a rerouter, and in the same step the bus wire that feeds it.
 abbrev pub place : Bus → Feed → Rerouter → Bus
 place bus feed new =
     record {
-      rerouters = new ∷ bus .rerouters;
+      rerouters = fedBy feed new ∷ bus .rerouters;
       wires = record { source = feed .end; target = rerouter (length (bus .rerouters)); carries = onward } ∷ bus .wires;
       ports = bus .ports;
     }
 
 -- The feed of the rerouter so placed.
 abbrev pub placedFeed : Bus → Feed → Feed
-placedFeed bus feed = record { end = rerouter (length (bus .rerouters)); depth = suc (feed .depth) }
+placedFeed bus feed = record { end = rerouter (length (bus .rerouters)); depth = deeper feed }
 
 -- R12: the feed of a wire's source port.
 abbrev pub portFeed : Board → ℕ → Feed

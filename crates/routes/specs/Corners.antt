@@ -11,7 +11,7 @@ use Rattle.board.specs.Rows.{rerouterCell, brickCell, rowOf}
 use Rattle.board.specs.Refusals.{bodyOf}
 use Rattle.board.specs.Groups.{wireOpen}
 use Rattle.routes.specs.Levels.{levelsIn, lowest, lightest}
-use Rattle.routes.specs.Bus.{Rerouter, Bus, Feed, clearOfRow, deliver, muted, partCorner, place, placedFeed, portFeed, roleLine}
+use Rattle.routes.specs.Bus.{Rerouter, Bus, Feed, clearOfRow, deliver, muted, partCorner, place, placedFeed, portFeed, roleLine, unfed}
 
 -- K9: a level that a corner of this sink took.
 pub record Taken : Type 0 where
@@ -46,6 +46,7 @@ module _ (b : Board) where
         page = pageOf b t;
         lane = MISSING;
         row = rowOf b t;
+        depth = unfed;
       }
 
   -- K6: how many of this sink's corners have the level.

@@ -101,3 +101,12 @@ pub record Demand3 (b : Board) (bus : Bus) : Type 0 where
   pub otherBound : (w : BusWire) (k d m : ℕ) (j : Rerouter) → List·Memᴰ w (bus .wires) → w .carries ≡ delivery k d → w .source ≡ rerouter m → Numbered m j (bus .rerouters) → (j .part ≡ partCorner → ⊥) → Bounded b k d
   -- W14: lane rerouters lie apart.
   pub apart : (m n : ℕ) (j k : Rerouter) → Numbered m j (bus .rerouters) → Numbered n k (bus .rerouters) → (m ≡ n → ⊥) → inGutter j ≡ true → inGutter k ≡ true → Overlap j k → ⊥
+  -- W15: a rerouter's depth is the count of rerouters on its way back, itself included.
+  pub depths : (n : ℕ) (k : Rerouter) → Numbered n k (bus .rerouters) → (m p : ℕ) × WayBack (bus .wires) (rerouter n) (k .depth) m p
+  -- W16: a delivery's distance is the depth of the rerouter that it leaves.
+  pub leavesAt : (w : BusWire) (k d m : ℕ) (j : Rerouter) → List·Memᴰ w (bus .wires) → w .carries ≡ delivery k d → w .source ≡ rerouter m → Numbered m j (bus .rerouters) → d ≡ j .depth
+
+-- W17: a rerouter that a port feeds has depth 1, any other has one more than its feeder.
+pub record Deepening (bus : Bus) : Type 0 where
+  pub atPort : (w : BusWire) (n : ℕ) (k : Rerouter) (m p : ℕ) → List·Memᴰ w (bus .wires) → w .target ≡ rerouter n → Numbered n k (bus .rerouters) → w .source ≡ port m p → k .depth ≡ 1
+  pub further : (w : BusWire) (n m : ℕ) (k j : Rerouter) → List·Memᴰ w (bus .wires) → w .target ≡ rerouter n → Numbered n k (bus .rerouters) → w .source ≡ rerouter m → Numbered m j (bus .rerouters) → k .depth ≡ suc (j .depth)

@@ -114,7 +114,7 @@ abbrev pub examples : List Example
 examples =
     -- (a)
     sheet sheetA
-    "L\t0\t1\t8\nR\t0\t20\t-5\t10\t2\t2\t1\t1\t0\t-\nR\t1\t20\t-8\t10\t1\t0\t2\t1\t0\t0\nR\t2\t12\t-8\t10\t1\t0\t3\t1\t0\t0\nR\t3\t10\t-8\t10\t0\t0\t4\t1\t0\t0\nR\t4\t10\t3\t10\t0\t0\t5\t1\t0\t-\nR\t5\t2\t-8\t10\t1\t0\t3\t1\t0\t0\nR\t6\t0\t-8\t10\t0\t0\t4\t1\t0\t0\nR\t7\t0\t3\t10\t0\t0\t5\t1\t0\t-\nB\tp\t1\t5\tb\t0\t-\t-\t-\nB\tb\t0\t-\tb\t1\t-\t-\t-\nB\tb\t1\t-\tb\t2\t-\t-\t-\nB\tb\t2\t-\tb\t3\t-\t-\t-\nB\tb\t3\t-\tb\t4\t-\t-\t-\nB\tb\t4\t-\tp\t2\t1\t0\t5\nB\tb\t2\t-\tb\t5\t-\t-\t-\nB\tb\t5\t-\tb\t6\t-\t-\t-\nB\tb\t6\t-\tb\t7\t-\t-\t-\nB\tb\t7\t-\tp\t3\t1\t1\t6\nU\t2\t1\nU\t3\t1\nT\t8\t10\t2\t0\t1\n"
+    "L\t0\t1\t8\nR\t0\t20\t-5\t10\t2\t2\t1\t1\t0\t-\t1\nR\t1\t20\t-8\t10\t1\t0\t2\t1\t0\t0\t2\nR\t2\t12\t-8\t10\t1\t0\t3\t1\t0\t0\t3\nR\t3\t10\t-8\t10\t0\t0\t4\t1\t0\t0\t4\nR\t4\t10\t3\t10\t0\t0\t5\t1\t0\t-\t5\nR\t5\t2\t-8\t10\t1\t0\t3\t1\t0\t0\t4\nR\t6\t0\t-8\t10\t0\t0\t4\t1\t0\t0\t5\nR\t7\t0\t3\t10\t0\t0\t5\t1\t0\t-\t6\nB\tp\t1\t5\tb\t0\t-\t-\t-\nB\tb\t0\t-\tb\t1\t-\t-\t-\nB\tb\t1\t-\tb\t2\t-\t-\t-\nB\tb\t2\t-\tb\t3\t-\t-\t-\nB\tb\t3\t-\tb\t4\t-\t-\t-\nB\tb\t4\t-\tp\t2\t1\t0\t5\nB\tb\t2\t-\tb\t5\t-\t-\t-\nB\tb\t5\t-\tb\t6\t-\t-\t-\nB\tb\t6\t-\tb\t7\t-\t-\t-\nB\tb\t7\t-\tp\t3\t1\t1\t6\nU\t2\t1\nU\t3\t1\nT\t8\t10\t2\t0\t1\n"
     -- (b) no demand, no lane; (c) they share row 2, and get a lane each; (d) they share none, and get one lane
     ∷ lanes [] []
     ∷ lanes ((0, 2) ∷ (2, 4) ∷ []) (0 ∷ 1 ∷ [])

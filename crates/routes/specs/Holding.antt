@@ -9,7 +9,7 @@ use Rattle.board.specs.Board.{Board, targetNode, targetPort}
 use Rattle.routes.specs.Levels
 use Rattle.routes.specs.Levels.{dropped, shared, own}
 use Rattle.routes.specs.Bus
-use Rattle.routes.specs.Bus.{Bus, BusWire, port, rerouter, onward, delivery, place, deliver}
+use Rattle.routes.specs.Bus.{Bus, BusWire, port, rerouter, onward, delivery, unfed, fedBy, place, deliver}
 use Rattle.routes.specs.Buffers.{rerouterRow, wireRow}
 use Rattle.routes.specs.Tables.{writtenOver}
 use Rattle.routes.specs.declared.bus.End.{End}
@@ -40,7 +40,7 @@ feedOf f = record { end = endOf (f .end); depth = f .depth }
 abbrev pub rerouterOf : Rerouter → Bus.Rerouter
 rerouterOf k =
     record
-    { x = k .x; y = k .y; z = k .z; rotation = k .rotation; role = k .role; part = k .part; colour = k .colour .0; page = k .page; lane = k .lane; row = k .row }
+    { x = k .x; y = k .y; z = k .z; rotation = k .rotation; role = k .role; part = k .part; colour = k .colour .0; page = k .page; lane = k .lane; row = k .row; depth = unfed }
 
 abbrev pub stopLevelOf : Level → Levels.Level
 stopLevelOf Dropped = dropped
@@ -66,7 +66,7 @@ pub record RoomForRerouter (rerouters wires : List (List ℕ)) (count : BusCount
 
 -- `push_bus_node` is `place`.
 pub record Placing (rerouters wires : List (List ℕ)) (count : BusCount) (feed : Feed) (new : Rerouter) (r : Placed) (rerouters′ wires′ : List (List ℕ)) : Type 0 where
-  pub row : rerouters′ ≡ set rerouters (count .rerouters) (rerouterRow (rerouterOf new))
+  pub row : rerouters′ ≡ set rerouters (count .rerouters) (rerouterRow (fedBy (feedOf feed) (rerouterOf new)))
   pub wireCount : r .count .wires ≡ suc (count .wires)
   pub rerouterCount : r .count .rerouters ≡ suc (count .rerouters)
   pub gives : feedOf (r .feed) ≡ record { end = rerouter (count .rerouters); depth = suc (feed .depth) }

@@ -34,7 +34,7 @@ unfoldable pub rerouterLine : ℕ → Rerouter → List ℕ
 rerouterLine n k =
     line (code "R")
     (decimal n ∷ coordinateText (k .x) ∷ coordinateText (k .y) ∷ coordinateText (k .z) ∷ decimal (k .rotation) ∷ decimal (k .role)
-    ∷ decimal (k .part) ∷ decimal (k .colour) ∷ decimal (k .page) ∷ numberText (k .lane) ∷ [])
+    ∷ decimal (k .part) ∷ decimal (k .colour) ∷ decimal (k .page) ∷ numberText (k .lane) ∷ decimal (k .depth) ∷ [])
 
 -- P4: a bus wire's line: three fields for each end, and two for what it delivers.
 abbrev pub endFields : End → List (List ℕ)

@@ -12,7 +12,7 @@ use Rattle.board.specs.Groups.{Tap, tapsIn, sourceAnchor, sourceRow}
 use Rattle.board.specs.Demands.{PageLanes, noLanes, laneY}
 use Rattle.routes.specs.Stops.{near, newGroup, newRow, newColumn}
 use Rattle.routes.specs.Levels.{Level, dropped, shared, own, Stop, unclaimed, laneFor}
-use Rattle.routes.specs.Bus.{Rerouter, Bus, Feed, clearOfRow, deliver, emptyBus, partGateSide, partHead, partLink, partSource, partTap, place, placedFeed, port, portFeed, roleGutter, roleSource}
+use Rattle.routes.specs.Bus.{Rerouter, Bus, Feed, clearOfRow, deliver, emptyBus, partGateSide, partHead, partLink, partSource, partTap, place, placedFeed, port, portFeed, roleGutter, roleSource, unfed}
 
 -- R6, R10: how far from its brick a source or gate-side rerouter stands.
 abbrev pub TAP_RESERVE : ℕ
@@ -67,6 +67,7 @@ module _ (b : Board) (ts : List Tap) (ps : List PageLanes) where
         page = t .page;
         lane = laneFor ps t;
         row = MISSING;
+        depth = unfed;
       }
 
   -- R5: a head, at the source anchor's x.
@@ -85,7 +86,7 @@ module _ (b : Board) (ts : List Tap) (ps : List PageLanes) where
   unfoldable pub rowRerouter : Tap → ℕ → ℕ → ℕ → ℕ → ℕ → ℕ → Rerouter
   rowRerouter t r x y rotation role part =
       record
-      { x = x; y = y; z = zOf b (t .page); rotation = rotation; role = role; part = part; colour = idOf b (source t); page = t .page; lane = MISSING; row = r }
+      { x = x; y = y; z = zOf b (t .page); rotation = rotation; role = role; part = part; colour = idOf b (source t); page = t .page; lane = MISSING; row = r; depth = unfed }
 
   -- R6: a source rerouter, beside the source anchor.
   abbrev pub sourceRerouter : Tap → ℕ → Rerouter

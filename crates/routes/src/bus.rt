@@ -23,7 +23,7 @@ pub struct Feed {
     pub depth: u32,
 }
 
-// A rerouter, its coordinates as held.
+// A rerouter before it is placed, its coordinates as held: what feeds it gives it its depth.
 pub struct Rerouter {
     pub x: u32,
     pub y: u32,
@@ -98,6 +98,7 @@ pub fn push_bus_node(
     let w = count.wires;
     let number = n as u32;
     let end = feed.end;
+    let depth = feed.depth + 1;
     let colour = new.colour;
     rerouters[n] = [
         outward(new.x),
@@ -110,6 +111,7 @@ pub fn push_bus_node(
         new.page,
         new.lane,
         new.row,
+        depth,
     ];
     bus_wires[w] = [
         end_node(end),
@@ -126,7 +128,7 @@ pub fn push_bus_node(
         },
         feed: Feed {
             end: End::Rerouter(RerouterId(number)),
-            depth: feed.depth + 1,
+            depth,
         },
     }
 }

@@ -15,7 +15,7 @@ use Rattle.base.specs.Views.{view}
 use Rattle.base.proofs.Bools.{clash}
 use Rattle.base.proofs.Lists.{count-none, none-counted, count-reverse, byTest}
 use Rattle.base.proofs.Views.{view-take}
-use Rattle.routes.specs.Bus.{Bus, Rerouter, Port, insertPort, samePort, portOf, muted}
+use Rattle.routes.specs.Bus.{Bus, Rerouter, Port, fedBy, insertPort, samePort, portOf, muted}
 use Rattle.routes.specs.Buffers.{rerouterRow, wireRow, portRow, portIn, portsHeld}
 use Rattle.routes.specs.Tables.{writtenOver}
 use Rattle.routes.specs.Corners.{turnable, corners}
@@ -55,7 +55,7 @@ pub record Longer (bus later : Bus) : Type 0 where
 
 pub corners-longer : (b : Board) (bus : Bus) → Longer bus (corners b bus)
 corners-longer b bus =
-    corners-keep b (Longer bus) (λ r f k q. record { new = k ∷ q .new; rerouters = ap (λ (l : List Rerouter). k ∷ l) (q .rerouters) }) (λ r f w q. record { new = q .new; rerouters = q .rerouters })
+    corners-keep b (Longer bus) (λ r f k q. record { new = fedBy f k ∷ q .new; rerouters = ap (λ (l : List Rerouter). fedBy f k ∷ l) (q .rerouters) }) (λ r f w q. record { new = q .new; rerouters = q .rerouters })
     bus (record { new = []; rerouters = refl })
 
 pub among-all : {A : Type 0} (new l : List A) {k : A} → List·Memᴰ k l → List·Memᴰ k (new ++ l)

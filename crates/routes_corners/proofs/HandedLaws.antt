@@ -22,7 +22,7 @@ use Rattle.routes_corners.specs.Handed.{portsIn, busIn, Mutes, Fits, Cel
 inward-fits : (c : ℕ) → inward c < 4294967296
 inward-fits c = omega arith
 
-cells-own : (table : List (List ℕ)) (n : ℕ) → Rows 10 table n → CellRows (view rerouterIn table n) table
+cells-own : (table : List (List ℕ)) (n : ℕ) → Rows 11 table n → CellRows (view rerouterIn table n) table
 cells-own table zero rows = tt
 cells-own table (suc n) rows = (
   ap (λ i. getD table i []) (length-view rerouterIn table n) ∙ sym (rerouter-row (getD table n []) (rows n (omega arith))),
@@ -74,7 +74,7 @@ ports-own s rows (suc n) = port-in s (portIn (getD rows n [])) (portsIn rows n) 
 
 -- The buffers hold the bus that is read off them.
 pub handed-in : (rerouters busWires ports : List (List ℕ)) (held : BusCounts)
-    → held .rerouters ≤ length rerouters → held .«bus_wires» ≤ length busWires → Rows 10 rerouters (held .rerouters) → Rows 6 busWires (held .«bus_wires»)
+    → held .rerouters ≤ length rerouters → held .«bus_wires» ≤ length busWires → Rows 11 rerouters (held .rerouters) → Rows 6 busWires (held .«bus_wires»)
     → Handed (busIn rerouters busWires ports held) rerouters busWires rerouters busWires (record { rerouters = held .rerouters; wires = held .«bus_wires» })
 unfolding busIn
 handed-in rerouters busWires ports held hn hk tens sixes =

@@ -16,7 +16,7 @@ use Rattle.board.specs.Refusals.{bodyOf}
 use Rattle.board.specs.Rows.{rowOf}
 use Rattle.board.specs.Tables.{held}
 use Rattle.routes.specs.Bus
-use Rattle.routes.specs.Bus.{roleLine, partCorner, muted, place, placedFeed, portFeed, deliver}
+use Rattle.routes.specs.Bus.{roleLine, partCorner, muted, place, placedFeed, portFeed, deliver, unfed}
 use Rattle.routes.specs.Corners.{cornerRerouter, turnsDown, turns}
 use Rattle.routes.specs.Holding.{feedOf, rerouterOf, BusHeld, Placing, Delivering}
 use Rattle.routes.specs.declared.bus.Rerouter.{Rerouter}
@@ -58,7 +58,7 @@ corner-there pages nodes wires facts w f low e =
 
 pub corner-read : (b : Board) (pages nodes wires facts : List (List ℕ)) (w level : ℕ) → CornerThere pages nodes facts w → BoardOf b pages nodes wires facts
     → _≡_ {A = Bus.Rerouter}
-    (record { x = level; y = field nodes (field facts w 2) 9; z = field pages (field nodes (field facts w 3) 10) 2; rotation = 2; role = roleLine; part = partCorner; colour = field nodes (field facts w 2) 1; page = field nodes (field facts w 3) 10; lane = MISSING; row = field facts (field facts w 3) 0 })
+    (record { x = level; y = field nodes (field facts w 2) 9; z = field pages (field nodes (field facts w 3) 10) 2; rotation = 2; role = roleLine; part = partCorner; colour = field nodes (field facts w 2) 1; page = field nodes (field facts w 3) 10; lane = MISSING; row = field facts (field facts w 3) 0; depth = unfed })
     (cornerRerouter b (field facts w 2) (field facts w 3) level)
 unfolding cornerRerouter
 corner-read b pages nodes wires facts w level there is =
@@ -68,7 +68,7 @@ corner-read b pages nodes wires facts w level there is =
     let long : length (b .nodes) ≡ length nodes = ap length (is .nodesAre) in
     let low = there .ends .target in
     let row : field facts t 0 ≡ rowOf b t = is .nodesKnown .rows t (omega arith) ((λ i. given (field (is .nodesAre i) t 10)) ∙ there .ends .onRow) in
-    λ i. record { x = level; y = field (same i) s 9; z = field (sym (is .pagesAre) i) (field (same i) t 10) 2; rotation = 2; role = roleLine; part = partCorner; colour = field (same i) s 1; page = field (same i) t 10; lane = MISSING; row = row i }
+    λ i. record { x = level; y = field (same i) s 9; z = field (sym (is .pagesAre) i) (field (same i) t 10) 2; rotation = 2; role = roleLine; part = partCorner; colour = field (same i) s 1; page = field (same i) t 10; lane = MISSING; row = row i; depth = unfed }
 
 -- What a wire leaves, with a level or without.
 module _ (pages nodes wires facts : List (List ℕ)) (w level : ℕ) (R W : List (List ℕ)) (count : BusCount) where

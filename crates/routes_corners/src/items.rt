@@ -45,7 +45,7 @@ fn inward(c: u32) -> u32
 }
 
 // C2: the item of a rerouter.
-fn beside_item(nodes: &[Record], bases: &[u32], counts: &[u32], k: [u32; 10]) -> WorkRow
+fn beside_item(nodes: &[Record], bases: &[u32], counts: &[u32], k: RerouterRow) -> WorkRow
     requires { ⌜ Bases (now nodes) (now bases) × CountsOf (now nodes) (now counts) × (length (now nodes) ≤ 4096) ⌝ }
     ensures { λ r. ⌜ BesideIs (now (nodes .entry)) (rerouterIn k) r ⌝ }
 {

@@ -36,8 +36,8 @@ pub enum Turned {
 }
 
 // A row passed by value is known to be so many numbers of 32 bits: what is read off a buffer is then what is written there.
-fn know_rerouter(row: [u32; 10])
-    ensures { λ _. ⌜ Row 10 row ⌝ }
+fn know_rerouter(row: RerouterRow)
+    ensures { λ _. ⌜ Row 11 row ⌝ }
 {}
 
 fn know_wire(row: [u32; 6])
@@ -57,7 +57,7 @@ fn know_wires(bus_wires: &[BusWireRow], k: usize)
 
 fn know_rerouters(rerouters: &[RerouterRow], n: usize)
     requires { ⌜ n ≤ length (now rerouters) ⌝ }
-    ensures { λ _. ⌜ Rows 10 (now (rerouters .entry)) n ⌝ }
+    ensures { λ _. ⌜ Rows 11 (now (rerouters .entry)) n ⌝ }
 {
     let mut i: usize = 0;
     while i < n {

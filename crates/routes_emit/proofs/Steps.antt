@@ -16,7 +16,7 @@ use Rattle.board.specs.Demands.{PageLanes}
 use Rattle.board.specs.Tables.{held}
 use Rattle.routes.specs.Levels.{Level, dropped, shared, own}
 use Rattle.routes.specs.Bus
-use Rattle.routes.specs.Bus.{partSource, partHead, partLink, partTap, partGateSide, roleSource, roleGutter}
+use Rattle.routes.specs.Bus.{partSource, partHead, partLink, partTap, partGateSide, roleSource, roleGutter, unfed}
 use Rattle.routes.specs.Rerouters
 use Rattle.routes.specs.Rerouters.{TAP_RESERVE, source, rowRerouter, laneRerouter, headRerouter}
 use Rattle.routes.specs.Holding.{rerouterOf, BusHeld, Delivering}
@@ -97,12 +97,12 @@ module _ (b : Board) (ts : List Groups.Tap) (ps : List PageLanes) (t : Groups.Ta
   pub lane-rerouter : (x x′ rotation rotation′ part : ℕ) → x ≡ x′ → rotation ≡ rotation′ → laneRerouterOf l x rotation part ≡ laneRerouter b ts ps t x′ rotation′ part
   unfolding laneRerouter
   lane-rerouter x x′ rotation rotation′ part ex er =
-      λ i. record { x = ex i; y = k .y i; z = k .z i; rotation = er i; role = roleGutter; part = part; colour = k .colour i; page = k .page i; lane = k .lane i; row = MISSING }
+      λ i. record { x = ex i; y = k .y i; z = k .z i; rotation = er i; role = roleGutter; part = part; colour = k .colour i; page = k .page i; lane = k .lane i; row = MISSING; depth = unfed }
 
   pub row-rerouter : (row row′ x x′ y y′ rotation role part : ℕ) → row ≡ row′ → x ≡ x′ → y ≡ y′ → rowRerouterOf l row x y rotation role part ≡ rowRerouter b ts ps t row′ x′ y′ rotation role part
   unfolding rowRerouter
   row-rerouter row row′ x x′ y y′ rotation role part er ex ey =
-      λ i. record { x = ex i; y = ey i; z = k .z i; rotation = rotation; role = role; part = part; colour = k .colour i; page = k .page i; lane = MISSING; row = er i }
+      λ i. record { x = ex i; y = ey i; z = k .z i; rotation = rotation; role = role; part = part; colour = k .colour i; page = k .page i; lane = MISSING; row = er i; depth = unfed }
 
   row-held : l .«source_row» ≡ held (sourceRow b (t .group) (t .page))
   row-held = go (sourceRow b (t .group) (t .page)) (k .row)

@@ -11,7 +11,7 @@ use Rattle.board.specs.Demands.{PageLanes}
 use Rattle.routes.specs.Levels
 use Rattle.routes.specs.Levels.{dropped, shared, own}
 use Rattle.routes.specs.Bus
-use Rattle.routes.specs.Bus.{Bus, place, placedFeed, deliver, roleGutter}
+use Rattle.routes.specs.Bus.{Bus, place, placedFeed, deliver, roleGutter, unfed}
 use Rattle.routes.specs.Rerouters
 use Rattle.routes.specs.Rerouters.{chainOn, gateSideRerouter}
 use Rattle.routes.specs.Holding.{feedOf, BusHeld}
@@ -34,12 +34,12 @@ told a = record { head = a .head; source = a .source; link = a .link; gateSide =
 abbrev pub laneRerouterOf : Lane → ℕ → ℕ → ℕ → Bus.Rerouter
 laneRerouterOf l x rotation part =
     record
-    { x = x; y = l .y; z = l .z; rotation = rotation; role = roleGutter; part = part; colour = l .colour .0; page = l .page; lane = l .lane; row = MISSING }
+    { x = x; y = l .y; z = l .z; rotation = rotation; role = roleGutter; part = part; colour = l .colour .0; page = l .page; lane = l .lane; row = MISSING; depth = unfed }
 
 abbrev pub rowRerouterOf : Lane → ℕ → ℕ → ℕ → ℕ → ℕ → ℕ → Bus.Rerouter
 rowRerouterOf l row x y rotation role part =
     record
-    { x = x; y = y; z = l .z; rotation = rotation; role = role; part = part; colour = l .colour .0; page = l .page; lane = MISSING; row = row }
+    { x = x; y = y; z = l .z; rotation = rotation; role = role; part = part; colour = l .colour .0; page = l .page; lane = MISSING; row = row; depth = unfed }
 
 -- There are answers of the k-th tap.
 pub record AnswersRoom (asked : List (List ℕ)) (flags : List ℕ) (bricks k : ℕ) : Type 0 where

@@ -41,7 +41,7 @@ pub fn is_on_board(q: PageBox, pages: usize) -> bool
 }
 
 // H2: whether a rerouter, by its row, is hit.
-pub fn is_under(q: PageBox, row: [u32; 10]) -> bool
+pub fn is_under(q: PageBox, row: RerouterRow) -> bool
     ensures { λ r. ⌜ r ≡ isUnder q (rerouterIn row) ⌝ }
 {
     let x = lifted(row[0]);
@@ -73,7 +73,7 @@ fn meets(a: u64, b: u64, low: u64, high: u64) -> bool
 }
 
 // H3: whether the run between two rerouters, by their rows, is hit.
-fn is_run_under(q: PageBox, a: [u32; 10], b: [u32; 10]) -> bool
+fn is_run_under(q: PageBox, a: RerouterRow, b: RerouterRow) -> bool
     ensures { λ r. ⌜ r ≡ runUnder q (rerouterIn a) (rerouterIn b) ⌝ }
 {
     let ax = lifted(a[0]);

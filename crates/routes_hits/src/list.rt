@@ -40,7 +40,7 @@ fn put_three(hits: &mut [u32], at: usize, number: u32, part: u32, lane: u32) -> 
 }
 
 // H4: rerouter i, where it is hit.
-fn put_rerouter(q: PageBox, i: usize, row: [u32; 10], hits: &mut [u32], at: usize) -> usize
+fn put_rerouter(q: PageBox, i: usize, row: RerouterRow, hits: &mut [u32], at: usize) -> usize
     requires { ⌜ (i < 4294967296) × (at + 3 ≤ length (now hits)) ⌝ }
     ensures { λ r. ⌜ Wrote (now (hits .entry)) at (rerouterHit q i (rerouterIn row)) (now (hits .exit)) r × (r ≤ at + 3) ⌝ }
 {

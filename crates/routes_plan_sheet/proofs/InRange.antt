@@ -12,10 +12,10 @@ use Rattle.board.specs.Accepted.{COORDINATE_HIGH, Y_HIGH, Accepted}
 use Rattle.board.specs.Board.{Board}
 use Rattle.board.specs.Rows.{REROUTER_SIZE}
 use Rattle.base.proofs.Lists.{byTest}
-use Rattle.routes.specs.Bus.{Bus, Rerouter, BusWire, End, port, rerouter, Carries, onward, delivery, Port, Feed, insertPort, portOf, portFeed, placedFeed, place, deliver}
+use Rattle.routes.specs.Bus.{Bus, Rerouter, BusWire, End, port, rerouter, Carries, onward, delivery, Port, Feed, insertPort, portOf, portFeed, placedFeed, fedBy, place, deliver}
 use Rattle.board.proofs.Reach.{All, all-more, REACH_MOST}
 
--- The numbers of a rerouter. A lane and a row may be missing.
+-- The numbers of a rerouter but its depth. A lane and a row may be missing.
 pub record RerouterInRange (k : Rerouter) : Type 0 where
   pub x : k .x ≤ REACH_MOST + REROUTER_SIZE
   pub y : k .y ≤ Y_HIGH
@@ -48,6 +48,7 @@ pub record PortInRange (p : Port) : Type 0 where
 
 pub record InRange (b : Board) (bus : Bus) : Type 0 where
   pub rerouters : All RerouterInRange (bus .rerouters)
+  pub depths : All (λ k. k .depth ≤ length (bus .rerouters)) (bus .rerouters)
   pub wires : All (WireInRange (length (b .wires)) (length (bus .rerouters))) (bus .wires)
   pub ports : All PortInRange (bus .ports)
 
@@ -88,6 +89,21 @@ port-in p (q ∷ l) h k =
     (λ e. all-more PortInRange p (q ∷ l) h k)
     (λ e. byTest (All PortInRange) (eqb (p .node) (q .node) && eqb (p .port) (q .port)) (λ s. k) (λ s. all-more PortInRange q (insertPort p l) first ih))
 
+fed-in : {k : Rerouter} (f : Feed) → RerouterInRange k → RerouterInRange (fedBy f k)
+fed-in f r =
+    record {
+      x = r .x;
+      y = r .y;
+      z = r .z;
+      rotation = r .rotation;
+      role = r .role;
+      part = r .part;
+      colour = r .colour;
+      page = r .page;
+      lane = r .lane;
+      row = r .row;
+    }
+
 module _ (b : Board) (r : Accepted b) where
   -- The two operations that a plan comes from.
   pub feed-port : (bus : Bus) (w : ℕ) → FeedInRange bus (portFeed b w)
@@ -103,7 +119,8 @@ module _ (b : Board) (r : Accepted b) where
   placed-in {bus} {f} {k} h g q =
       let n = length (bus .rerouters) in
       record {
-        rerouters = all-more RerouterInRange k (bus .rerouters) q (h .rerouters);
+        rerouters = all-more RerouterInRange (fedBy f k) (bus .rerouters) (fed-in f q) (h .rerouters);
+        depths = all-more (λ j. j .depth ≤ suc n) (fedBy f k) (bus .rerouters) (omega (arith, g .depth)) (λ j m. omega (arith, h .depths j m));
         wires = all-more (WireInRange (length (b .wires)) (suc n)) _ (bus .wires)
             (record { source = end-more n (suc n) (omega arith) (f .end) (g .end); target = omega arith; carries = tt })
             (λ w m. wire-more (length (b .wires)) n (suc n) (omega arith) w (h .wires w m));
@@ -114,6 +131,7 @@ module _ (b : Board) (r : Accepted b) where
   delivered-in {bus} {f} w l h g =
       record {
         rerouters = h .rerouters;
+        depths = h .depths;
         wires = all-more (WireInRange (length (b .wires)) (length (bus .rerouters))) _ (bus .wires) (record { source = g .end; target = r .target w; carries = (l, g .depth) }) (h .wires);
         ports = port-in (portOf b w) (bus .ports) (record { node = r .target w .0; port = r .target w .1 }) (h .ports);
       }

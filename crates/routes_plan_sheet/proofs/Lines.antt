@@ -44,8 +44,8 @@ module _ (what : ℕ) where
             [ true ↦ coordinateText what | false ↦ elim (ne-eqb how 2 c i) as (λ _. List ℕ) [ true ↦ numberText what | false ↦ (what % 256) ∷ [] ] ]
       ])
 
--- No field is longer than a sign and ten digits.
-pub text-length : (f : List ℕ) → length (fieldText f) ≤ 11
+-- No field is longer than ten digits.
+pub text-length : (f : List ℕ) → length (fieldText f) ≤ 10
 unfolding fieldText
 text-length f = go (eqb (getD f 0 0) 0) (eqb (getD f 0 0) 1) (eqb (getD f 0 0) 2)
   where
@@ -57,8 +57,8 @@ text-length f = go (eqb (getD f 0 0) 0) (eqb (getD f 0 0) 1) (eqb (getD f 0 0) 2
               elim t as (λ _. List ℕ)
               [ true ↦ coordinateText (getD f 1 0) | false ↦ elim u as (λ _. List ℕ) [ true ↦ numberText (getD f 1 0) | false ↦ (getD f 1 0 % 256) ∷ [] ] ]
         ])
-        ≤ 11
-    go true t u = omega (arith, decimal-length (getD f 1 0))
+        ≤ 10
+    go true t u = decimal-length (getD f 1 0)
     go false true u = coordinate-length (getD f 1 0)
     go false false true = number-length (getD f 1 0)
     go false false false = omega arith
@@ -89,7 +89,7 @@ tabs-more fs i h =
 
 -- One field more of a line.
 module _ (out₀ out new : List ℕ) (next₀ next r i : ℕ) (fs : List (List ℕ)) where
-  pub line-step : i < length fs → next + 12 ≤ length out → length out ≡ length out₀ → r ≤ next + 12
+  pub line-step : i < length fs → next + 11 ≤ length out → length out ≡ length out₀ → r ≤ next + 11
       → Wrote out₀ next₀ (tabs (take i (map fieldText fs))) out next
       → Wrote out next (tabbed (fieldText (getD (getD fs i []) 0 0 ∷ getD (getD fs i []) 1 0 ∷ []))) new r
       → Wrote out₀ next₀ (tabs (take (i + 1) (map fieldText fs))) new r
@@ -119,7 +119,7 @@ pub rerouter-text : (n : ℕ) (r : List ℕ) (x y z : ℕ) → x ≡ inward (get
     → line (code "R")
     (map fieldText
     ((0 ∷ n ∷ []) ∷ (1 ∷ x ∷ []) ∷ (1 ∷ y ∷ []) ∷ (1 ∷ z ∷ []) ∷ (0 ∷ getD r 3 0 ∷ []) ∷ (0 ∷ getD r 4 0 ∷ []) ∷ (0 ∷ getD r 5 0 ∷ [])
-    ∷ (0 ∷ getD r 6 0 ∷ []) ∷ (0 ∷ getD r 7 0 ∷ []) ∷ (2 ∷ getD r 8 0 ∷ []) ∷ []))
+    ∷ (0 ∷ getD r 6 0 ∷ []) ∷ (0 ∷ getD r 7 0 ∷ []) ∷ (2 ∷ getD r 8 0 ∷ []) ∷ (0 ∷ getD r 10 0 ∷ []) ∷ []))
     ≡ rerouterLineIn n r
 unfolding fieldText rerouterLine
 rerouter-text n r x y z ex ey ez = rw (ex, ey, ez)

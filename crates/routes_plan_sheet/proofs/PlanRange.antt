@@ -203,7 +203,7 @@ module _ (b : Board) (r : Accepted b) (ps : List PageLanes) (lanes : planLanes b
   emits : (stops : List Stop) (l : List Tap) → All LaidTap l → Going (emit b ts ps stops l (stopsOf b ps l))
   unfolding emit
   emits stops [] h =
-      record { plan = record { rerouters = all-none _; wires = all-none _; ports = all-none _ }; upstream = none-yet; stopTap = none-yet; rowEnd = none-yet }
+      record { plan = record { rerouters = all-none _; depths = all-none _; wires = all-none _; ports = all-none _ }; upstream = none-yet; stopTap = none-yet; rowEnd = none-yet }
     where
       none-yet : FeedInRange emptyBus (record { end = Rattle.routes.specs.Bus.port 0 0; depth = 0 })
       none-yet = record { end = (omega arith, omega arith); depth = omega arith }

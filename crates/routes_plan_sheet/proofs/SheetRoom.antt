@@ -15,33 +15,33 @@ use Rattle.routes.specs.Plan.{deliveries}
 use Rattle.routes.specs.PlanSheet.{fields, line, numbered, laneLine, rerouterLine, endFields, carriesFields, wireLine, portLine, totalLine, planSheet}
 use Rattle.board.proofs.Reach.{All, all-none, all-more}
 
--- A line of at most ten fields has at most 128 bytes.
-fields-most : (fs : List (List ℕ)) → All (λ f. length f ≤ 11) fs → length (fields fs) ≤ 12 * length fs + 1
+-- A line of at most eleven fields has at most 128 bytes.
+fields-most : (fs : List (List ℕ)) → All (λ f. length f ≤ 10) fs → length (fields fs) ≤ 11 * length fs + 1
 unfolding fields
 fields-most [] h = omega arith
 fields-most (f ∷ fs) h =
     omega (arith, length-append (tabbed f) (fields fs), h f (List·Memᴰ·head refl), fields-most fs (λ g m. h g (List·Memᴰ·tail m)))
 
-line-most : (letter : ℕ) (fs : List (List ℕ)) → All (λ f. length f ≤ 11) fs → length fs ≤ 10 → length (line letter fs) ≤ 128
+line-most : (letter : ℕ) (fs : List (List ℕ)) → All (λ f. length f ≤ 10) fs → length fs ≤ 11 → length (line letter fs) ≤ 128
 line-most letter fs h few = omega (arith, fields-most fs h)
 
 abbrev Short : List (List ℕ) → Type 0
-Short fs = All (λ f. length f ≤ 11) fs
+Short fs = All (λ f. length f ≤ 10) fs
 
 none-long : Short []
-none-long = all-none (λ f. length f ≤ 11)
+none-long = all-none (λ f. length f ≤ 10)
 
 and-number : (n : ℕ) {fs : List (List ℕ)} → Short fs → Short (numberText n ∷ fs)
-and-number n {fs} h = all-more (λ f. length f ≤ 11) (numberText n) fs (number-length n) h
+and-number n {fs} h = all-more (λ f. length f ≤ 10) (numberText n) fs (number-length n) h
 
 and-decimal : (n : ℕ) {fs : List (List ℕ)} → Short fs → Short (decimal n ∷ fs)
-and-decimal n {fs} h = all-more (λ f. length f ≤ 11) (decimal n) fs (omega (arith, decimal-length n)) h
+and-decimal n {fs} h = all-more (λ f. length f ≤ 10) (decimal n) fs (decimal-length n) h
 
 and-coordinate : (n : ℕ) {fs : List (List ℕ)} → Short fs → Short (coordinateText n ∷ fs)
-and-coordinate n {fs} h = all-more (λ f. length f ≤ 11) (coordinateText n) fs (coordinate-length n) h
+and-coordinate n {fs} h = all-more (λ f. length f ≤ 10) (coordinateText n) fs (coordinate-length n) h
 
 and-letter : (n : ℕ) {fs : List (List ℕ)} → Short fs → Short ((n ∷ []) ∷ fs)
-and-letter n {fs} h = all-more (λ f. length f ≤ 11) (n ∷ []) fs (omega arith) h
+and-letter n {fs} h = all-more (λ f. length f ≤ 10) (n ∷ []) fs (omega arith) h
 
 lane-line-most : (n : ℕ) (l : PageLanes) → length (laneLine n l) ≤ 128
 unfolding laneLine
@@ -52,7 +52,7 @@ unfolding rerouterLine
 rerouter-line-most n k =
     line-most (code "R") _
     (and-decimal n (and-coordinate (k .x) (and-coordinate (k .y) (and-coordinate (k .z) (and-decimal (k .rotation) (and-decimal (k .role)
-    (and-decimal (k .part) (and-decimal (k .colour) (and-decimal (k .page) (and-number (k .lane) none-long))))))))))
+    (and-decimal (k .part) (and-decimal (k .colour) (and-decimal (k .page) (and-number (k .lane) (and-decimal (k .depth) none-long)))))))))))
     (omega arith)
 
 -- The fields of an end before others, and those of what a bus wire carries.

@@ -50,7 +50,7 @@ fn put_text(out: &mut [u8], at: usize, how: u32, what: u32) -> usize
 fn put_field(out: &mut [u8], at: usize, how: u32, what: u32) -> usize
     requires { ⌜ at + 12 ≤ length (now out) ⌝ }
     ensures { λ r. ⌜ Wrote (now (out .entry)) at (tabbed (fieldText (how ∷ what ∷ []))) (now (out .exit)) r ⌝ }
-    ensures { λ r. ⌜ r ≤ at + 12 ⌝ }
+    ensures { λ r. ⌜ r ≤ at + 11 ⌝ }
 {
     let next = put_byte(out, at, TAB);
     put_text(out, next, how, what)
@@ -58,9 +58,9 @@ fn put_field(out: &mut [u8], at: usize, how: u32, what: u32) -> usize
 
 // A line: its letter, its fields, byte 10.
 fn put_line(out: &mut [u8], at: usize, letter: u8, fields: &[[u32; 2]]) -> usize
-    requires { ⌜ at + 12 * length (now fields) + 2 ≤ length (now out) ⌝ }
+    requires { ⌜ at + 11 * length (now fields) + 2 ≤ length (now out) ⌝ }
     ensures { λ r. ⌜ Wrote (now (out .entry)) at (lineText letter (map fieldText (now (fields .entry)))) (now (out .exit)) r ⌝ }
-    ensures { λ r. ⌜ r ≤ at + 12 * length (now (fields .entry)) + 2 ⌝ }
+    ensures { λ r. ⌜ r ≤ at + 11 * length (now (fields .entry)) + 2 ⌝ }
 {
     let mut next = put_byte(out, at, letter);
     let mut i = 0;
@@ -114,6 +114,7 @@ fn put_rerouter_line(out: &mut [u8], at: usize, rerouters: &[RerouterRow], n: us
         [DECIMAL, b[6]],
         [DECIMAL, b[7]],
         [NUMBER, b[8]],
+        [DECIMAL, b[10]],
     ];
     put_line(out, at, b'R', &fields)
 }

@@ -15,7 +15,7 @@ use Rattle.base.proofs.Lists.{byTest, byFound}
 use Rattle.routes.specs.Stops.{newGroup, newRow, newColumn}
 use Rattle.routes.specs.Levels.{Level, dropped, shared, own, Stop, laneFor}
 use Rattle.routes.specs.Bus.{Bus, BusWire, Rerouter, Feed, emptyBus, place, deliver, portFeed, placedFeed, insertPort, portOf}
-use Rattle.routes.specs.Rerouters.{Emission, source, columnFree, clearFor, sourceRerouter, gateSideRerouter, levelHere, stopsBefore, withSource, startGroup, withLink, startRow, withGateSide, serve, emitTap, emit}
+use Rattle.routes.specs.Rerouters.{Emission, source, columnFree, clearFor, sourceRerouter, headRerouter, linkRerouter, tapRerouter, gateSideRerouter, levelHere, stopsBefore, withSource, startGroup, withLink, startRow, withGateSide, serve, emitTap, emit}
 use Rattle.routes.specs.Corners.{turns, turnable, cornerRerouter, turnWire, corners}
 use Rattle.routes.specs.Plan.{busOf, finished}
 use Rattle.routes.proofs.Made.{onwardWire, deliveryWire}
@@ -40,13 +40,13 @@ module _ (b : Board) (Q : Bus → Type 0) (placing : (bus : Bus) (f : Feed) (k :
     unfolding withSource
     source-keeps e t q =
         byFound Holds (sourceRow b (t .group) (t .page)) (λ f. q)
-        (λ r f. byTest Holds (clearFor b ts ps (e .bus) (sourceRerouter b ts ps t r)) (λ h. placing _ (e .upstream) _ q) (λ h. q))
+        (λ r f. byTest Holds (clearFor b ts ps (e .bus) (sourceRerouter b ts ps t r)) (λ h. placing _ (e .upstream) (sourceRerouter b ts ps t r) q) (λ h. q))
 
     group-keeps : (e : Emission) (t : Tap) → Holds e → Holds (startGroup b ts ps stops e t)
     unfolding startGroup
     group-keeps e t q =
         byTest Holds (placed b (source b ts ps t) && columnFree stops (e .bus) (t .page) (laneFor ps t) (xOf b (source b ts ps t)))
-        (λ h. placing _ (withSource b ts ps begun t .upstream) _ (source-keeps begun t q)) (λ h. q)
+        (λ h. placing _ (withSource b ts ps begun t .upstream) (headRerouter b ts ps t) (source-keeps begun t q)) (λ h. q)
       where
         begun : Emission
         begun = record { bus = e .bus; upstream = portFeed b (t .group); stopTap = e .stopTap; rowEnd = e .rowEnd }
@@ -56,14 +56,14 @@ module _ (b : Board) (Q : Bus → Type 0) (placing : (bus : Bus) (f : Feed) (k :
     row-keeps e t dropped q = q
     row-keeps e t (shared x) q = q
     row-keeps e t (own x) q =
-        placing _ (withLink b ts ps stops e t x .upstream) _
-        (byTest Holds (columnFree stops (e .bus) (t .page) (laneFor ps t) (x + 2)) (λ h. placing _ (e .upstream) _ q) (λ h. q))
+        placing _ (withLink b ts ps stops e t x .upstream) (tapRerouter b ts ps t x)
+        (byTest Holds (columnFree stops (e .bus) (t .page) (laneFor ps t) (x + 2)) (λ h. placing _ (e .upstream) (linkRerouter b ts ps t x) q) (λ h. q))
 
     serve-keeps : (e : Emission) (t : Tap) (fresh : Bool) (x : ℕ) → Holds e → Holds (serve b ts ps e t fresh x)
     unfolding serve withGateSide
     serve-keeps e t fresh x q =
         serving _ _ _
-        (byTest Holds fresh (λ h. byTest Holds (clearFor b ts ps (e .bus) (gateSideRerouter b ts ps t x)) (λ c. placing _ (e .rowEnd) _ q) (λ c. q)) (λ h. q))
+        (byTest Holds fresh (λ h. byTest Holds (clearFor b ts ps (e .bus) (gateSideRerouter b ts ps t x)) (λ c. placing _ (e .rowEnd) (gateSideRerouter b ts ps t x) q) (λ c. q)) (λ h. q))
 
     tap-keeps : (e : Emission) (l : List Tap) (t : Tap) (level : Level) → Holds e → Holds (emitTap b ts ps stops e l t level)
     unfolding emitTap

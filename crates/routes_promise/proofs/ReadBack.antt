@@ -12,8 +12,8 @@ use Rattle.routes.specs.Buffers.{rerouterRow, wireRow, rerouterIn, wireIn, busH
 use Rattle.routes.specs.Tables.{writtenOver}
 use Rattle.routes.specs.Corners.{corners}
 use Rattle.routes.specs.Plan.{busOf, finished}
-use Rattle.routes.specs.Demand3.{Demand3}
-use Rattle.routes.proofs.Demand3.{demand3}
+use Rattle.routes.specs.Demand3.{Demand3, Deepening}
+use Rattle.routes.proofs.Demand3.{demand3, deepening}
 use Rattle.routes.specs.Route.{Room}
 use Rattle.routes.proofs.Room.{room-finished}
 use Rattle.routes.proofs.Rows.{RerouterFits, WireFits, rerouter-back, wire-back, view-written}
@@ -99,5 +99,6 @@ module _ (b : Board) (accepted : Accepted b) (ps : List PageLanes) (plan : planL
           busWiresThere = omega arith;
           portsThere = omega arith;
           demand3 = subst (λ (bus : Bus). Demand3 b bus) (sym done-back) (demand3 b ps plan accepted);
+          deepens = subst Deepening (sym done-back) (deepening b done (demand3 b ps plan accepted));
           suppressed = ap (λ (bus : Bus). bus .ports) done-back ∙ (plan-ports b ps .turned ∙ ap (λ (bus : Bus). portsWith [] (bus .wires)) (sym done-back));
         }

@@ -7,7 +7,7 @@ use Rattle.sheet.specs.Table.{libraryMost}
 use Rattle.board.specs.Board.{Board}
 use Rattle.board.specs.Refusals.{board, judged}
 use Rattle.routes.specs.Buffers.{busHeld}
-use Rattle.routes.specs.Demand3.{Demand3}
+use Rattle.routes.specs.Demand3.{Demand3, Deepening}
 use Rattle.routes_ports.specs.Ports.{portsWith}
 
 pub record Promised (b : Board) (rerouters : List (List ℕ)) (n : ℕ) (busWires : List (List ℕ)) (k : ℕ) (ports : List (List ℕ)) (u : ℕ) : Type 0 where
@@ -17,6 +17,8 @@ pub record Promised (b : Board) (rerouters : List (List ℕ)) (n : ℕ) (busWire
   pub portsThere : u ≤ length ports
   -- They are a bus, and of that bus demand 3 holds.
   pub demand3 : Demand3 b (busHeld rerouters n busWires k ports u)
+  -- Depths rise by one from feeder to fed.
+  pub deepens : Deepening (busHeld rerouters n busWires k ports u)
   -- Its suppressed ports are the targets of its deliveries, ascending and each once.
   pub suppressed : busHeld rerouters n busWires k ports u .ports ≡ portsWith [] (busHeld rerouters n busWires k ports u .wires)
 

@@ -6,7 +6,7 @@ use mathlib.Core.List.{List·Memᴰ, List·Memᴰ·cases-cons, List·Memᴰ·not
 use lib.ListN.{length}
 use Rattle.base.proofs.Bools.{never}
 use Rattle.board.specs.Board.{Board}
-use Rattle.routes.specs.Bus.{Bus, Rerouter, BusWire, Feed, End, port, rerouter, emptyBus, place, placedFeed, deliver}
+use Rattle.routes.specs.Bus.{Bus, Rerouter, BusWire, Feed, End, port, rerouter, emptyBus, fedBy, place, placedFeed, deliver}
 use Rattle.routes.specs.Demand3.{Numbered, here, there}
 use Rattle.routes.proofs.Made.{Grown, place-grows, deliver-grows, numbered-one, onwardWire, deliveryWire}
 use Rattle.routes_straight.specs.Straight.{InLine, Straight}
@@ -20,8 +20,8 @@ pub feeds-grows : {P : Rerouter → Type 0} {bus more : Bus} {f : Feed} → Grow
 feeds-grows g (fromPort n p e) = fromPort n p e
 feeds-grows g (fromRerouter m k e n h) = fromRerouter m k e (g .reroutersIn m k n) h
 
-pub feeds-placed : {P : Rerouter → Type 0} {bus : Bus} {f : Feed} (k : Rerouter) → P k → Feeds P (place bus f k) (placedFeed bus f)
-feeds-placed {bus = bus} k h = fromRerouter (length (bus .rerouters)) k refl (here refl) h
+pub feeds-placed : {P : Rerouter → Type 0} {bus : Bus} {f : Feed} (k : Rerouter) → P (fedBy f k) → Feeds P (place bus f k) (placedFeed bus f)
+feeds-placed {bus = bus} {f = f} k h = fromRerouter (length (bus .rerouters)) (fedBy f k) refl (here refl) h
 
 -- The two rerouters of those numbers stand in one line.
 pub record Run (bus : Bus) (m n : ℕ) : Type 0 where
@@ -67,7 +67,8 @@ drawn-placed {P} {bus} f k line feeds d = record { run = λ w m n i s t. go w m 
         let a-is : a ≡ m = cc in
         let n-is : n ≡ length (bus .rerouters) = cc in
         let below : Numbered m j (bus .rerouters) = rw (← a-is) r in
-        record { first = j; second = k; leaves = there below; arrives = here n-is; straight = line j h }
+        let straight = line j h in
+        record { first = j; second = fedBy f k; leaves = there below; arrives = here n-is; straight = record { page = straight .page; line = straight .line } }
 
 -- A delivery ends at a port.
 pub drawn-served : (b : Board) {bus : Bus} (f : Feed) (w : ℕ) → Drawn bus → Drawn (deliver b bus f w)

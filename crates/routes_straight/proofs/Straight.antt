@@ -18,7 +18,7 @@ use Rattle.board.specs.Planning.{Planning, lanesFor, planning}
 use Rattle.board.proofs.Taps.{taps-of}
 use Rattle.routes.specs.Stops.{laidTaps, newGroup, newRow, newColumn}
 use Rattle.routes.specs.Levels.{Level, dropped, shared, own, Stop, keptAt, levelWithBase, stopFor, stopsOf, laneFor}
-use Rattle.routes.specs.Bus.{Bus, Rerouter, place, placedFeed, portFeed, deliver}
+use Rattle.routes.specs.Bus.{Bus, Rerouter, Feed, fedBy, place, placedFeed, portFeed, deliver}
 use Rattle.routes.specs.Rerouters.{Emission, columnFree, levelHere, source, laneRerouter, rowRerouter, headRerouter, linkRerouter, tapRerouter, sourceRerouter, gateSideRerouter, clearFor, hangOn, withSource, startGroup, withLink, startRow, withGateSide, serve, emitTap, emit}
 use Rattle.routes.specs.Corners.{cornerRerouter, corners, turns}
 use Rattle.routes.specs.Plan.{busOf, finished}
@@ -47,6 +47,13 @@ module _ (b : Board) (ps : List PageLanes) where
   record OnLevel (g x : ℕ) (k : Rerouter) : Type 0 where
     page : k .page ≡ pageFor g
     level : k .x ≡ x
+
+  -- Both are so whatever feeds it.
+  lane-fed : {g : ℕ} {k : Rerouter} (f : Feed) → OnLane g k → OnLane g (fedBy f k)
+  lane-fed f r = record { page = r .page; lane = r .lane }
+
+  level-fed : {g x : ℕ} {k : Rerouter} (f : Feed) → OnLevel g x k → OnLevel g x (fedBy f k)
+  level-fed f r = record { page = r .page; level = r .level }
 
   -- Two of one lane, or of one level, stand in one line.
   lane-line : (g : ℕ) (j k : Rerouter) → OnLane g k → OnLane g j → InLine j k
@@ -98,7 +105,7 @@ module _ (b : Board) (ps : List PageLanes) where
             drawn =
                 drawn-placed (e .upstream) (sourceRerouter b ts ps t r)
                 (λ j q. level-line (t .group) (xOf b (source b ts ps t)) j (sourceRerouter b ts ps t r) (row-level r _ _ _ _ _) q) h d;
-            hang = feeds-placed (sourceRerouter b ts ps t r) (row-level r _ _ _ _ _);
+            hang = feeds-placed (sourceRerouter b ts ps t r) (level-fed (e .upstream) (row-level r _ _ _ _ _));
           })
           (λ c. record { drawn = d; hang = h }))
 
@@ -122,7 +129,7 @@ module _ (b : Board) (ps : List PageLanes) where
                 drawn =
                     drawn-placed (s .upstream) (headRerouter b ts ps t)
                     (λ j r. level-line (t .group) (xOf b (source b ts ps t)) j (headRerouter b ts ps t) (lane-level _ _ _) r) (q .hang) (q .drawn);
-                hang = feeds-placed (headRerouter b ts ps t) (on-lane _ _ _);
+                hang = feeds-placed (headRerouter b ts ps t) (lane-fed (s .upstream) (on-lane _ _ _));
                 tapped = λ base x k. absurd (fresh base x k);
               }
 
@@ -139,7 +146,7 @@ module _ (b : Board) (ps : List PageLanes) where
             drawn =
                 drawn-placed (e .upstream) (linkRerouter b ts ps t x) (λ j q. lane-line (t .group) j (linkRerouter b ts ps t x) (on-lane _ _ _) q) (a .hang)
                 (a .drawn);
-            hang = feeds-placed (linkRerouter b ts ps t x) (on-lane _ _ _);
+            hang = feeds-placed (linkRerouter b ts ps t x) (lane-fed (e .upstream) (on-lane _ _ _));
           })
           (λ h. record { drawn = a .drawn; hang = a .hang })
 
@@ -168,7 +175,7 @@ module _ (b : Board) (ps : List PageLanes) where
             q = linked old e x a
 
             stands : (y : ℕ) → x ≡ y → Feeds (OnLevel (t .group) y) (place (s .bus) (s .upstream) (tapRerouter b ts ps t x)) (placedFeed (s .bus) (s .upstream))
-            stands y d = rw (← d) (feeds-placed (tapRerouter b ts ps t x) (lane-level x _ _))
+            stands y d = rw (← d) (feeds-placed (tapRerouter b ts ps t x) (level-fed (s .upstream) (lane-level x _ _)))
 
         -- A dropped stop leaves the last kept one, a shared one goes by its tap, which stands at that level.
         row-new : (e : Emission) (level : Level) → stop .level ≡ level → At old (t .group) e
@@ -257,7 +264,7 @@ module _ (b : Board) (ps : List PageLanes) where
                   hang = feeds-grows grown (a .hang);
                   tapped = λ base y q. feeds-grows grown (a .tapped base y q);
                 };
-            stands = feeds-placed k (row-level t page _ _ _ _ _ _);
+            stands = feeds-placed k (level-fed (e .rowEnd) (row-level t page _ _ _ _ _ _));
           })
           (λ c. same))
           (λ n. same)

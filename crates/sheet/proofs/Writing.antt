@@ -1,11 +1,11 @@
 -- Bytes written into a buffer, one run behind the other, and the digits of a number one by one.
-use Prim.Native.Nat.{ℕ, zero, suc, _+_, _-_, _/_, _%_, _≤_, _<_}
+use Prim.Native.Nat.{ℕ, zero, suc, _+_, _-_, _/_, _%_, _^_, _≤_, _<_}
 use mathlib.Core.Path.{_≡_, refl, sym, ap, _∙_}
 use mathlib.Core.Bool.{Bool, true, false}
 use mathlib.Core.List.{List, [], _∷_, _++_, append-assoc}
 use native.Mathlib.Omega.{arith}
 use native.Mathlib.Numerals.{add-one}
-use native.Mathlib.Nat.{add-assoc, add-zero}
+use native.Mathlib.Nat.{add-assoc, add-zero, pow-suc}
 use lib.Dec.{ltb, eqb}
 use lib.ListN.{length, take, drop, set, length-append, length-set, length-drop, length-take, take-append-drop}
 use lib.Seq.{set-split, length-take-le, take-at, drop-append-add, drop-drop}
@@ -85,6 +85,18 @@ digits-length (suc most) n = go (ltb n 10) (digits-length most (n / 10))
     go true h = omega arith
     go false h = simp length-append (omega arith)
 
+-- A number below a power of ten has so many digits at most.
+pub digits-few : (most k n : ℕ) → n < 10 ^ suc k → length (digitsOf most n) ≤ suc k
+unfolding digitsOf
+digits-few zero k n h = omega arith
+digits-few (suc most) zero n h = rw (digits-one (suc most) n (omega arith) h) (omega arith)
+digits-few (suc most) (suc k) n h = go (ltb n 10) (digits-few most k (n / 10) (omega (arith, pow-suc 10 (suc k))))
+  where
+    go : (t : Bool) → length (digitsOf most (n / 10)) ≤ suc k
+        → length {A = ℕ} (elim t as (λ _. List ℕ) [ true ↦ (ZERO + n) ∷ [] | false ↦ digitsOf most (n / 10) ++ ((ZERO + n % 10) ∷ []) ]) ≤ suc (suc k)
+    go true h = omega arith
+    go false h = simp length-append (omega arith)
+
 -- The three ways in which the digits of a number are written.
 pub wrote-none : (old : List ℕ) (at most n : ℕ) → most ≡ 0 → Wrote old at (digitsOf most n) old at
 unfolding digitsOf
@@ -123,19 +135,24 @@ pub number-given : (n : ℕ) → (n ≡ MISSING → ⊥) → numberText n ≡ de
 unfolding numberText
 number-given n e = pick-false (eqb n MISSING) (MINUS ∷ []) (decimal n) (ne-eqb n MISSING e)
 
-pub coordinate-length : (held : ℕ) → length (coordinateText held) ≤ 11
+-- A coordinate below zero is at least minus ORIGIN, which has seven digits: with its sign it is no longer than a number.
+below-length : (held : ℕ) → length (decimal (ORIGIN - held)) ≤ 9
+unfolding decimal
+below-length held = digits-few 10 8 (ORIGIN - held) (omega arith)
+
+pub coordinate-length : (held : ℕ) → length (coordinateText held) ≤ 10
 unfolding coordinateText
-coordinate-length held = go (ltb held ORIGIN) (decimal-length (ORIGIN - held)) (decimal-length (held - ORIGIN))
+coordinate-length held = go (ltb held ORIGIN) (below-length held) (decimal-length (held - ORIGIN))
   where
-    go : (t : Bool) → length (decimal (ORIGIN - held)) ≤ 10 → length (decimal (held - ORIGIN)) ≤ 10
-        → length {A = ℕ} (elim t as (λ _. List ℕ) [ true ↦ MINUS ∷ decimal (ORIGIN - held) | false ↦ decimal (held - ORIGIN) ]) ≤ 11
+    go : (t : Bool) → length (decimal (ORIGIN - held)) ≤ 9 → length (decimal (held - ORIGIN)) ≤ 10
+        → length {A = ℕ} (elim t as (λ _. List ℕ) [ true ↦ MINUS ∷ decimal (ORIGIN - held) | false ↦ decimal (held - ORIGIN) ]) ≤ 10
     go true a b = omega arith
     go false a b = omega arith
 
-pub number-length : (n : ℕ) → length (numberText n) ≤ 11
+pub number-length : (n : ℕ) → length (numberText n) ≤ 10
 unfolding numberText
 number-length n = go (eqb n MISSING) (decimal-length n)
   where
-    go : (t : Bool) → length (decimal n) ≤ 10 → length {A = ℕ} (elim t as (λ _. List ℕ) [ true ↦ MINUS ∷ [] | false ↦ decimal n ]) ≤ 11
+    go : (t : Bool) → length (decimal n) ≤ 10 → length {A = ℕ} (elim t as (λ _. List ℕ) [ true ↦ MINUS ∷ [] | false ↦ decimal n ]) ≤ 10
     go true h = omega arith
-    go false h = omega arith
+    go false h = h

@@ -1,41 +1,29 @@
-//! record DIR [--model]: writes the sample of records into a folder, the answers
-//! by the original or by the second model.
+//! record [--model]: makes anew all in the repository that holds an answer, the
+//! answers by the original or by the second model.
 
 use oracle::records;
 use std::fs;
 use std::path::Path;
 
 fn main() -> std::io::Result<()> {
-    let Some(dir) = std::env::args().nth(1) else {
-        eprintln!("record DIR [--model]");
-        std::process::exit(2);
+    let words: Vec<String> = std::env::args().skip(1).collect();
+    let answer = match &words[..] {
+        [] => oracle::answer,
+        [word] if word == "--model" => oracle::model_answer,
+        _ => {
+            eprintln!("record [--model]");
+            std::process::exit(2);
+        }
     };
-    let dir = Path::new(&dir);
-    let by_model = std::env::args().nth(2).as_deref() == Some("--model");
-    let answer = if by_model {
-        oracle::model_answer
-    } else {
-        oracle::answer
-    };
-    let boards = records::boards();
-    let damaged = records::damaged();
-    let lists = records::lists();
-    fs::create_dir_all(dir)?;
-    fs::write(
-        dir.join("boards.txt"),
-        records::cases_by(&boards.sheets, answer),
-    )?;
-    fs::write(dir.join("damaged.txt"), records::cases_by(&damaged, answer))?;
-    fs::write(dir.join("lanes.txt"), records::list_cases(&lists))?;
-    fs::write(
-        dir.join("branches.txt"),
-        records::tallies(&boards, &damaged),
-    )?;
-    println!(
-        "{} boards, {} damaged sheets, {} demand lists",
-        boards.sheets.len(),
-        damaged.len(),
-        lists.len()
-    );
+    let root = Path::new(env!("CARGO_MANIFEST_DIR")).join("..");
+    let mut changed = 0;
+    let files = records::files(&root, answer)?;
+    for (path, text) in &files {
+        if !fs::read(path).is_ok_and(|old| old == *text) {
+            fs::write(path, text)?;
+            changed += 1;
+        }
+    }
+    println!("{} files, {changed} of them changed", files.len());
     Ok(())
 }

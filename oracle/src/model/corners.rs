@@ -1,7 +1,7 @@
 //! Corners, over the wires in order.
 
 use super::branch::Branch;
-use super::{Feed, SIZE, STAGGER_STEP, Work, rerouter_cell};
+use super::{Feed, SIZE, STAGGER_STEP, UNPLACED, Work, rerouter_cell};
 use crate::board::{CLASS_INLINE_ONLY, KIND_COERCE, Node};
 use crate::facts::{cell, overlap};
 use crate::plan::*;
@@ -143,6 +143,7 @@ fn corner(work: &mut Work, wire: usize, turn: &Turn, level: i32) {
         colour: turn.source.id,
         page,
         lane: None,
+        depth: UNPLACED,
     };
     let feed = work.place(port, brick);
     work.deliver(feed, wire);

@@ -2,7 +2,8 @@
 
 use super::branch::Branch;
 use super::levels::{Claims, Stop, claim};
-use super::{BUS_BAND_GUTTER, Feed, LANE_PITCH, Lane, SIZE, TAP_RESERVE, Work, rerouter_cell};
+use super::rerouter_cell;
+use super::{BUS_BAND_GUTTER, Feed, LANE_PITCH, Lane, SIZE, TAP_RESERVE, UNPLACED, Work};
 use crate::facts::{Group, Tap};
 use crate::plan::*;
 
@@ -28,6 +29,7 @@ impl Common {
             colour: self.colour,
             page: self.page,
             lane: Some(self.lane as i32),
+            depth: UNPLACED,
         }
     }
 

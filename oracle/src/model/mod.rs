@@ -23,6 +23,8 @@ const BUS_BAND_GUTTER: i32 = 6;
 const MIN_LANE_TRAVEL: i32 = 6;
 /// Source and gate-side rerouters stand so far to the left.
 const TAP_RESERVE: i32 = 5;
+/// Stands for the depth of a rerouter until it is placed.
+const UNPLACED: usize = 0;
 
 fn rerouter_cell(x: i32, y: i32) -> Cell {
     (x, x + SIZE, y, y + SIZE)
@@ -55,19 +57,17 @@ struct Feed {
 }
 
 impl Work<'_> {
-    /// A rerouter and the one bus wire that feeds it.
+    /// A rerouter, which gets its depth here, and the one bus wire that feeds it.
     fn place(&mut self, feed: Feed, brick: Rerouter) -> Feed {
         let end = End::Bus(self.plan.rerouters.len());
-        self.plan.rerouters.push(brick);
+        let depth = feed.depth + 1;
+        self.plan.rerouters.push(Rerouter { depth, ..brick });
         self.plan.bus_wires.push(BusWire {
             from: feed.end,
             to: end,
             delivery: None,
         });
-        Feed {
-            end,
-            depth: feed.depth + 1,
-        }
+        Feed { end, depth }
     }
 
     fn deliver(&mut self, feed: Feed, wire: usize) {

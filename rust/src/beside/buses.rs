@@ -162,7 +162,7 @@ impl Numbers {
     }
 
     fn rerouter(&self, rng: &mut Rng) -> RerouterRow {
-        let mut row = [0; 10].map(|_: u32| any(rng));
+        let mut row: RerouterRow = std::array::from_fn(|_| any(rng));
         if self.corners.is_empty() || !rng.chance(self.near) {
             return row;
         }

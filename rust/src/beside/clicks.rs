@@ -154,7 +154,9 @@ pub fn typed_faults(
                 && hits.rerouters().zip(&due.rerouters).all(same)
                 && hits.wires().eq(due.wires.iter().copied())
                 && hits.is_empty() == due.numbers().is_empty();
-            match (list, hits.plan().to_string() == truth.sheet()) {
+            let plan = hits.plan().to_string();
+            let right = truth.is_like(&plan) && truth.broken(&plan).is_empty();
+            match (list, right) {
                 (false, _) => Some("the hits"),
                 (_, false) => Some("the plan after the hits"),
                 _ => None,

@@ -3,6 +3,7 @@
 //! corners that the oracle lays on the same bus.
 
 use super::buses::Case;
+use super::depths;
 use super::room::{Content, Lines, Room};
 use super::truth::too_short;
 use crate::calls::{BusCounts, MISSING, MiniNumbers, PortRow, RerouterRow};
@@ -229,6 +230,7 @@ fn written(content: &mut Content, board: &Board, held: BusCounts, corners: &[Cor
             brick.page as u32,
             MISSING,
             row as u32,
+            brick.depth as u32,
         ];
         let ([a, a_port], [b, b_port]) = (port_row(w.source), port_row(w.target));
         let here = n as u32;
@@ -264,5 +266,19 @@ pub fn faults(room: &mut Room, case: &Case, due: &Due) -> Vec<String> {
     for (_, what) in buffers.into_iter().filter(|(differs, _)| *differs) {
         faults.push(format!("written: {what}"));
     }
+    if report.refusal == 0 {
+        faults.extend(corner_depths(&after, case.held, report.counts));
+    }
     faults
+}
+
+/// In words, which clauses on depths the corners break that were laid on top of
+/// a bus; what that one's own depths are is as it may be.
+fn corner_depths(after: &Content, held: BusCounts, counts: BusCounts) -> Vec<String> {
+    let corners = after.rerouters.get(held.rerouters..counts.rerouters);
+    let wires = after.bus_wires.get(held.bus_wires..counts.bus_wires);
+    match (corners, wires) {
+        (Some(corners), Some(wires)) => depths::faults(held.rerouters, corners, wires),
+        _ => vec!["the counts are not those of the buffers".to_string()],
+    }
 }

@@ -5,6 +5,7 @@ pub mod both;
 pub mod boxes;
 pub mod buses;
 pub mod clicks;
+pub mod depths;
 pub mod differ;
 pub mod handed;
 pub mod lists;

@@ -1,6 +1,7 @@
 //! Buffers of every length, with a guard behind each, and one sheet through
 //! the library with them.
 
+use super::depths;
 use crate::buffers::lines_of;
 use crate::calls::{self, BusCounts, HIT_NUMBERS, MARK_ROWS, MISSING, Output, TABLES, Work};
 use crate::calls::{BusWireRow, PageRow, PortRow, RerouterRow};
@@ -209,7 +210,7 @@ impl<const N: usize> Buffer<N> {
 /// The output buffers and the work space.
 #[derive(Default)]
 pub struct Room {
-    rerouters: Buffer<10>,
+    rerouters: Buffer<11>,
     bus_wires: Buffer<6>,
     ports: Buffer<2>,
     answers: Buffer<2>,
@@ -496,13 +497,16 @@ impl Room {
         }
         if let (Some((counts, groups)), true) = (bus, kept) {
             let rows = &self.rerouters.rows[..counts.rerouters];
-            let in_lane = |r: &[u32; 10]| r[8] != MISSING;
+            let bus_wires = &self.bus_wires.rows[..counts.bus_wires];
+            let in_lane = |r: &RerouterRow| r[8] != MISSING;
             let right = rows.iter().all(|r| in_lane(r) == (r[9] == MISSING));
             faults.ask(right, "a rerouter's row");
+            let right = depths::faults(0, rows, bus_wires).is_empty();
+            faults.ask(right, "a rerouter's depth");
             let plan = PlanView {
                 bus: BusView {
                     rerouters: rows,
-                    bus_wires: &self.bus_wires.rows[..counts.bus_wires],
+                    bus_wires,
                     ports: &self.ports.rows[..counts.ports],
                     laid: groups,
                 },
@@ -549,6 +553,7 @@ mod tests {
         assert!(report.rerouters > 0 && report.ports > 0);
         for row in [0, report.rerouters - 1, report.rerouters, 5 * lines.wires] {
             alter(|room, row| &mut room.rerouters.rows[row][1], row);
+            alter(|room, row| &mut room.rerouters.rows[row][10], row);
         }
         for row in [0, report.bus_wires - 1, report.bus_wires, 6 * lines.wires] {
             alter(|room, row| &mut room.bus_wires.rows[row][0], row);

@@ -6,7 +6,7 @@ use crate::calls::{
     BusCounts, MARK_ROWS, MiniNumbers, PageRow, PagesNumbers, PlanNumbers, PortRow,
 };
 use oracle::board::{self, Board, Lent, Limits, Refusal};
-use oracle::plan::{End, PART_CORNER, PageAnswer, Plan};
+use oracle::plan::{End, PART_CORNER, PageAnswer, Plan, older_fields};
 use oracle::{check3, harness};
 use std::collections::BTreeSet;
 
@@ -16,6 +16,7 @@ pub struct Truth {
     pub board: Result<Board, Refusal>,
     pub plan: Result<Plan, Refusal>,
     pub(super) lines: Lines,
+    /// As the original says it: without depths.
     plan_sheet: String,
 }
 
@@ -28,15 +29,25 @@ impl Truth {
         };
         Self {
             lines: Lines::of(sheet),
-            plan_sheet: plan.as_ref().map(Plan::sheet).unwrap_or_default(),
+            plan_sheet: plan
+                .as_ref()
+                .map(|plan| older_fields(&plan.sheet()))
+                .unwrap_or_default(),
             board,
             plan,
         }
     }
 
-    /// The plan sheet, empty on a refusal.
+    /// The plan sheet without depths, which the original does not have; empty on
+    /// a refusal.
     pub fn sheet(&self) -> &str {
         &self.plan_sheet
+    }
+
+    /// Whether a plan sheet is the original's but for its depths: these are held
+    /// against the sheet's own bus wires, in [`broken`](Self::broken).
+    pub fn is_like(&self, plan: &str) -> bool {
+        older_fields(plan) == self.plan_sheet
     }
 
     /// The refusal that is due from a call which is lent page answers, or the
@@ -159,7 +170,7 @@ impl Truth {
                 &self.plan_sheet[front.map(str::len).sum()..]
             }
         };
-        if found.plan != sheet {
+        if older_fields(&found.plan) != sheet {
             faults.push("plan sheet: another than the original's".to_string());
         }
         faults
@@ -173,7 +184,7 @@ impl Truth {
         }
     }
 
-    /// The clauses of demand 3 that a plan sheet breaks.
+    /// The clauses that a plan sheet breaks: of demand 3, and of depths.
     pub fn broken(&self, plan: &str) -> Vec<String> {
         let Ok(board) = &self.board else {
             return Vec::new();

@@ -83,9 +83,15 @@ fn answer(sheet: &[u8]) -> Vec<u8> {
     said.unwrap_or_default().to_vec()
 }
 
-/// In words, what is not as it has to be; empty where nothing is.
+/// In words, what is not as it has to be; empty where nothing is. The library's
+/// own text is the one that is compared with the original and checked; the typed
+/// plans are compared with it.
 pub fn faults(sheet: &[u8], truth: &Truth) -> Vec<String> {
-    let mut faults = Vec::new();
+    let said = String::from_utf8_lossy(&answer(sheet)).into_owned();
+    let mut faults = match &truth.plan {
+        Ok(_) => truth.broken(&said),
+        Err(_) => Vec::new(),
+    };
     let mut ask = |holds: bool, what: &str| {
         if !holds {
             faults.push(format!("typed: {what}"));
@@ -94,17 +100,17 @@ pub fn faults(sheet: &[u8], truth: &Truth) -> Vec<String> {
     if let Ok(board) = &truth.board {
         ask(board_of(board).sheet() == sheet, "the board's sheet");
     }
-    let written = match &truth.plan {
-        Ok(_) => truth.sheet().as_bytes().to_vec(),
-        Err(refusal) => format!("E\t{}\t{}\n", refusal.number, refusal.line).into_bytes(),
+    let right = match &truth.plan {
+        Ok(_) => truth.is_like(&said),
+        Err(refusal) => said == refusal.line_of_text(),
     };
-    ask(answer(sheet) == written, "the library's own text");
+    ask(right, "the library's own text");
     for plan in plans(sheet) {
         let told = plan.as_ref().map_err(|refusal| as_theirs(*refusal));
         match (told, &truth.plan) {
             (Ok(plan), Ok(_)) => {
-                ask(plan.to_string() == truth.sheet(), "the plan");
-                let read = truth.sheet().parse().as_ref() == Ok(plan);
+                ask(plan.to_string() == said, "the plan");
+                let read = said.parse().as_ref() == Ok(plan);
                 ask(read, "the plan read from its sheet");
             }
             (Err(ours), Err(theirs)) => ask(ours == *theirs, "the refusal"),

@@ -18,10 +18,12 @@ through `plan_bus`, `lay_bus` and `lay_mini_bus` one after the other, the last
 with the counts and buffers that `lay_bus` left. Both are compared with the
 original: each call's refusal and line, counts, page answers, the whole plan byte
 for byte, what must stay untouched in every buffer, after each call; and with each
-other: answers, refusals, every row of the four output buffers. Demand 3 is
-checked on the plan of the three calls. Then the typed calls, the board's writer
-and the plan's reader. Slices are just as long as named, or one a row short or
-long. What differs is shrunk and printed, and the status is then 1.
+other: answers, refusals, every row of the four output buffers. The original has
+no depths: those of each plan, in the rows and in the text, are checked against
+the plan's own bus wires. Demand 3 is checked on the plan of the three calls. Then
+the typed calls, the board's writer and the plan's reader. Slices are just as long
+as named, or one a row short or long. What differs is shrunk and printed, and the
+status is then 1.
 
 SIZE    tiny program medium full many-lanes
         full-typical full-random hot-rows tall-lanes crowded-corners
@@ -32,7 +34,8 @@ SIZE    tiny program medium full many-lanes
         lanes   demand lists through the lane call
         handed  `lay_mini_bus` on buffers with any content and counts that fit,
                 just fit or are at fault, some with a 513th lane besides: its
-                refusals by a model of the rule, its corners by the original
+                refusals by a model of the rule, its corners by the original,
+                whose depth is 1, while those handed in stay whatever they are
         boxed   `find_hits` on boards of every size, most of them tiny, each with
                 some boxes about the edges of what its plan has: the hits by the
                 oracle's reading of the original's plan, the plan's buffers by

@@ -21,8 +21,8 @@ A marker line %%! says that the byte 10 before it is not part of the sheet.
 --program  takes the program's limits (8 pages, 48 nodes, 8 chips, 24 nodes
            inside, 24 exec inputs, 56 wires, 65,536 bytes) instead of the
            library's (64, 4,096, 256, 4,096, 4,096, 8,192)
---check    tests each clause of demand 3 on each plan; what is broken goes to
-           standard error
+--check    tests each clause of demand 3 and the depths on each plan; what is
+           broken goes to standard error
 --box PAGE,X0,X1,Y0,Y1
            writes in place of a plan what of it is inside a box, x from X0 to X1
            and y from Y0 to Y1 of a page, a line each: `R`, number, part and lane
@@ -209,8 +209,8 @@ impl Router<'_> {
         }
     }
 
-    /// Demand 3 on the plan in the buffers, as the oracle's own reader reads the
-    /// board.
+    /// Demand 3 and the depths on the plan in the buffers, as the oracle's own
+    /// reader reads the board.
     fn check(&mut self, name: &Path, sheet: &[u8]) {
         let plan = self.buffers.plan().to_string();
         let faults = match board::parse(sheet, &oracle::Limits::LIBRARY) {
@@ -267,8 +267,8 @@ impl Progress {
     fn end(&self, router: &Router) {
         let start = if self.terminal { "\r" } else { "" };
         let broken = match (router.asked.check, router.broken) {
-            (true, 0) => ", demand 3 holds of every plan".to_string(),
-            (true, broken) => format!(", {broken} plans break demand 3"),
+            (true, 0) => ", demand 3 and depths hold of every plan".to_string(),
+            (true, broken) => format!(", {broken} plans break demand 3 or depths"),
             (false, _) => String::new(),
         };
         eprintln!("{start}{}{broken}", self.line(self.files, router));

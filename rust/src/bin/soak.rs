@@ -20,8 +20,9 @@ the library with every slice of its named length, then with each slice a row
 short, then with each a row long, and every fourth board through the three calls
 apart as well; then three boxes through `find_hits`, each with its hit buffer a
 number short, exact and a number long. The buffers are used again from save to save and poisoned between
-saves. A plan must be the original's byte for byte, what stands behind its counts
-and behind every slice must be the poison; after a refusal all of it must be.
+saves. A plan must be the original's byte for byte, its depths those of the way
+back through its bus wires; what stands behind its counts and behind every slice
+must be the poison; after a refusal all of it must be.
 
 A line a minute, then a summary. The first three boards that differ are shrunk
 and printed, and the status is then 1.";
@@ -217,7 +218,7 @@ fn tell_click(sheet: &[u8], click: &boxes::Click, faults: &[String]) {
     println!("{}", String::from_utf8_lossy(&small));
 }
 
-/// What a whole plan breaks of demand 3.
+/// What a whole plan breaks of demand 3, and of depths.
 fn broken(truth: &Truth, found: &Found) -> Vec<String> {
     match found.reports.plan() {
         Some(_) => truth.broken(&found.plan),

@@ -17,7 +17,7 @@ use Rattle.sheet.proofs.write.put_byte.Reads as put-byte-reads
 
 abbrev Inv-loop : tie.InvT-loop
 Inv-loop out₀ at letter fields next₀ i₀ out next i =
-    (i ≤ length fields) × (length out ≡ length out₀) × (next ≤ next₀ + 12 * i) × Wrote out₀ next₀ (tabs (take i (map fieldText fields))) out next
+    (i ≤ length fields) × (length out ≡ length out₀) × (next ≤ next₀ + 11 * i) × Wrote out₀ next₀ (tabs (take i (map fieldText fields))) out next
 
 abbrev μ-loop : tie.MeasureT-loop
 μ-loop out₀ at letter fields next₀ i₀ out next i = length fields - i
@@ -59,7 +59,7 @@ loop-less c = search needs
 loop-again : tie.Need-loop-again Inv-loop μ-loop
 loop-again c =
     let written = c .before .before .put-field .ensures in
-    let room : c .before .before .before .before .before .before .before .loop .next + 12 ≤ length (c .before .before .before .before .before .before .before .loop .out) = omega arith in (
+    let room : c .before .before .before .before .before .before .before .loop .next + 11 ≤ length (c .before .before .before .before .before .before .before .loop .out) = omega arith in (
       search needs,
       search needs,
       omega (arith, written .1),

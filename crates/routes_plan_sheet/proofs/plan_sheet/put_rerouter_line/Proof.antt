@@ -56,6 +56,9 @@ array-read-t45 c = search needs
 array-read-t49 : tie.Need-array-read-t49
 array-read-t49 c = search needs
 
+array-read-t53 : tie.Need-array-read-t53
+array-read-t53 c = search needs
+
 slice-aggregate-put-line : tie.Need-slice-aggregate-put-line
 slice-aggregate-put-line c = search needs
 
@@ -91,6 +94,7 @@ put-rerouter-line-spec =
     array-read-t41
     array-read-t45
     array-read-t49
+    array-read-t53
     slice-aggregate-put-line
     put-line-requires
     same-length
