@@ -6,7 +6,7 @@ use super::nasty::{brick, page, wire};
 use crate::board::*;
 
 /// The boards by name.
-pub const NAMES: [&str; 10] = [
+pub const NAMES: [&str; 13] = [
     "aligned-ports",
     "aligned-groups",
     "aligned-levels",
@@ -17,6 +17,9 @@ pub const NAMES: [&str; 10] = [
     "one-sink",
     "two-sinks",
     "all-corners",
+    "bearing",
+    "wide-line",
+    "many-sinks",
 ];
 
 /// The board of a name.
@@ -32,6 +35,9 @@ pub fn board(name: &str) -> Option<Board> {
         "one-sink" => one_sink(),
         "two-sinks" => two_sinks(),
         "all-corners" => all_corners(),
+        "bearing" => bearing(),
+        "wide-line" => wide_line(),
+        "many-sinks" => many_sinks(),
         _ => return None,
     })
 }
@@ -274,6 +280,62 @@ fn all_corners() -> Board {
             let to = (1_024 + id, aligned_port(1_024 + id, k, 2_053));
             board.wires.push(wire(from, to));
         }
+    }
+    board
+}
+
+/// 8,192 corners sought by one sink from 64 sources, on a row whose 4,031 other
+/// bricks all stand across every line that is asked for and cover the first
+/// half of its levels.
+fn bearing() -> Board {
+    let mut board = on_one_page(-1_000_000);
+    for id in 1..=64 {
+        board.nodes.push(source(id, 30 * id as i32));
+    }
+    board.nodes.push(sink(100_000, (1, 1_000), (0, -10)));
+    for k in 0..4_031 {
+        let at = (-1_000 + (k * 7_919) % 997, -20);
+        board
+            .nodes
+            .push(brick(200_000 + k as u32, (500, 1_000), at, (0, 10)));
+    }
+    for k in 0..8_192 {
+        let from = (1 + k % 64, 1 + (k / 64) as u16);
+        board.wires.push(wire(from, (100_000, 1 + k as u16)));
+    }
+    board
+}
+
+/// 8,192 corners on one line, sought by 60 sinks side by side in turn.
+fn wide_line() -> Board {
+    let mut board = on_one_page(-1_000_000);
+    board.nodes.push(source(1, 3_000));
+    for k in 0..60 {
+        let at = (-60_000 + 2_000 * k as i32, -10);
+        board.nodes.push(sink(100_000 + k, (1, 1_000), at));
+    }
+    for k in 0..4_035 {
+        let at = (-900_000 + 4 * k as i32, -20);
+        board.nodes.push(brick(200_000 + k, (1, 1), at, (0, 10)));
+    }
+    for k in 0..8_192 {
+        let to = (100_000 + (k * 37) % 60, 1 + (k / 60) as u16);
+        board.wires.push(wire((1, 1 + k as u16), to));
+    }
+    board
+}
+
+/// 8,192 corners sought by 4,095 sinks of one row, one source for all.
+fn many_sinks() -> Board {
+    let mut board = on_one_page(-1_000_000);
+    board.nodes.push(source(1, 400_001));
+    for k in 0..4_095 {
+        let at = (0, -990_000 + 4 * k as i32);
+        board.nodes.push(sink(100_000 + k, (1, 1_000), at));
+    }
+    for k in 0..8_192 {
+        let to = (100_000 + k % 4_095, 1 + (k / 4_095) as u16);
+        board.wires.push(wire((1, 1 + k as u16), to));
     }
     board
 }

@@ -42,8 +42,14 @@ const BOARDS: [(&str, &str); 5] = [
 const SLOW: &str = "crowded-corners";
 /// Of the boards drawn against the library's steps, those on which the
 /// original takes many seconds.
-const TOO_SLOW: [&str; 3] = ["one-sink", "two-sinks", "all-corners"];
-/// The one of them that takes the library longest.
+const TOO_SLOW: [&str; 5] = [
+    "one-sink",
+    "two-sinks",
+    "all-corners",
+    "bearing",
+    "many-sinks",
+];
+/// The one of them whose time grows most with its wires.
 const WORST: &str = "two-sinks";
 /// Wires of the boards that grow, with their pages and rows.
 const GROWTH: [(usize, u32, u32); 5] = [
