@@ -7,7 +7,7 @@ use mathlib.Core.Bool.{Bool, true, false, not, ◌&&◌}
 use mathlib.Core.List.{List, [], ◌∷◌}
 use lib.Dec.{eqb, leb}
 use lib.ListN.{length, get_or, get_or-eq_default}
-use borrow.Author.Tests.{eqb-true, not_true, leb-false}
+use borrow.Author.Tests.{eqb-true, not-true, leb-false}
 use Rattle.sheet.specs.declared.Counts.{Counts}
 use Rattle.sheet.specs.Table.{MISSING, ID_MOST, PORT_MOST, HALF_MOST, PAGE_MOST, library_most, program_most}
 use Rattle.sheet.specs.Reading
@@ -59,13 +59,13 @@ node_in_lem r h =
       id = h.id.1;
       half_x = h.half_x.1;
       half_y = h.half_y.1;
-      x = λ g. (h.x (not_true (eqb (get_or r 8 0) MISSING) g)).1;
-      y = λ g. (h.y (h.xy ∙ not_true (eqb (get_or r 8 0) MISSING) g)).1;
-      page = λ g. (h.page (not_true (eqb (get_or r 10 0) MISSING) g)).1;
+      x = λ g. (h.x (not-true (eqb (get_or r 8 0) MISSING) g)).1;
+      y = λ g. (h.y (h.xy ∙ not-true (eqb (get_or r 8 0) MISSING) g)).1;
+      page = λ g. (h.page (not-true (eqb (get_or r 10 0) MISSING) g)).1;
     }
 
 page_in : (r : List ℕ) → PageRow r → PageIn r
-page_in r h = record { min_y = λ g. (h.min_y (not_true (eqb (get_or r 1 0) MISSING) g)).1; z = h.z.1 }
+page_in r h = record { min_y = λ g. (h.min_y (not-true (eqb (get_or r 1 0) MISSING) g)).1; z = h.z.1 }
 
 wire_in_lem : (r : List ℕ) → WireRow r → WireIn r
 wire_in_lem r h = record { source_node = h.source_node.1; source_port = h.source_port.1; target_node = h.target_node.1; target_port = h.target_port.1 }

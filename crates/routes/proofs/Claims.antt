@@ -2,7 +2,7 @@
 use Rattle.std.proofs.Common.{◌≡◌, ℕ, zero, suc, ◌+◌, Bool, true, false, ◌&&◌, ◌||◌, eqb, ltb, leb, ◌⊎◌, List, [], ◌∷◌, refl, ap, ◌∙◌, inl, inr}
 use mathlib.Core.List.Memᴰ
 use mathlib.Core.List.{Memᴰ}
-use borrow.Author.Tests.{not_true}
+use borrow.Author.Tests.{not-true}
 use Rattle.base.specs.Lists.{Found, none, at, found, any}
 use Rattle.board.specs.Board.{Board}
 use Rattle.board.specs.Rows.{row_top}
@@ -105,7 +105,7 @@ pub claimed_more : (s : Stop) (o : List Stop) (p lane x : ℕ) → unclaimed (s 
     → (claim_near p lane x s ≡ false) × (unclaimed o p lane x ≡ true)
 unfolding unclaimed
 claimed_more s o p lane x h =
-    let n = not_true (any (claim_near p lane x) (s ∷ o)) h in
+    let n = not-true (any (claim_near p lane x) (s ∷ o)) h in
     (or_left (claim_near p lane x s) (any (claim_near p lane x) o) n, rw (or_right (claim_near p lane x s) (any (claim_near p lane x) o) n))
 
 pub still_claimed : (s : Stop) (o : List Stop) (p lane x : ℕ) → unclaimed o p lane x ≡ false → unclaimed (s ∷ o) p lane x ≡ false

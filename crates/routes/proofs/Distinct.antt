@@ -2,7 +2,7 @@
 use Rattle.std.proofs.Common.{◌≡◌, ℕ, suc, ◌≤◌, Bool, true, false, not, eqb, ◌⊎◌, List, [], ◌∷◌, length, sym, refl, inl, inr, arith, eq-eqb, eqb-true}
 use mathlib.Core.List.Memᴰ
 use mathlib.Core.List.{Memᴰ}
-use borrow.Author.Tests.{eqb-false, not_true}
+use borrow.Author.Tests.{eqb-false, not-true}
 use Rattle.base.specs.Lists.{any, keep}
 use Rattle.base.proofs.Bools.{clash}
 use Rattle.base.proofs.Lists.{none_of, none_at_all, one_of, in_keep, to_keep, keep_yes, keep_no, keep_same}
@@ -74,5 +74,5 @@ distinct_le (x ∷ r) l h = go (any (eqb x) r) refl (distinct_le r)
         → length (distinct l) ≤ length (distinct (x ∷ r))
     go true e ih = rw (distinct_old x r e) (ih l (λ z m. rest z m (λ d. rw (← d) (in_found x r e))))
     go false e ih =
-        let k = ih (keep (other x) l) (λ z m. let q = in_keep (other x) l m in rest z q.0 (λ d. absurd (eqb-false x z (not_true (eqb x z) q.1) d))) in
+        let k = ih (keep (other x) l) (λ z m. let q = in_keep (other x) l m in rest z q.0 (λ d. absurd (eqb-false x z (not-true (eqb x z) q.1) d))) in
         rw (distinct_new x r e) (omega (arith, without x l))

@@ -2,7 +2,7 @@
 use Rattle.std.proofs.Common.{◌≡◌, ℕ, suc, ◌+◌, ◌*◌, ◌<◌, ◌≤◌, Bool, true, false, not, ◌||◌, eqb, ◌⊎◌, List, [], ◌∷◌, length, sym, refl, ap, ◌∙◌, inl, inr, arith, eq-eqb}
 use mathlib.Core.List.Memᴰ
 use mathlib.Core.List.{Memᴰ}
-use borrow.Author.Tests.{not_true}
+use borrow.Author.Tests.{not-true}
 use Rattle.base.specs.Lists.{any}
 use Rattle.board.specs.Board.{Board, source_node, source_port}
 use Rattle.board.specs.Groups.{Tap}
@@ -198,7 +198,7 @@ module _ (b : Board) (ps : List PageLanes) (stops : List Stop) where
 
       none_near : (j : Rerouter) → Memᴰ j bus.rerouters → is_chain j ≡ true → Touches k.page k.lane k.x j → ⊥
       none_near j m c u =
-          let off = none_of (rerouter_near k.page k.lane k.x) (not_true others (and_right (unclaimed stops k.page k.lane k.x) (not others) free)) m in
+          let off = none_of (rerouter_near k.page k.lane k.x) (not-true others (and_right (unclaimed stops k.page k.lane k.x) (not others) free)) m in
           clash (rw (eq-eqb j.page k.page u.page, eq-eqb j.lane k.lane u.column, c) u.close) off
 
   claim_near_lem : (p lane x y : ℕ) (s : Stop) → s.page ≡ p → s.lane ≡ lane → s.level ≡ own y → near x y ≡ true → claim_near p lane x s ≡ true

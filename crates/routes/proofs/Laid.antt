@@ -3,7 +3,7 @@ use Rattle.std.proofs.Common.{◌≡◌, ℕ, zero, suc, ◌≤◌, Bool, true, 
 use mathlib.Core.List.Memᴰ
 use mathlib.Core.List.{Memᴰ}
 use lib.ListN.{length-reverse}
-use borrow.Author.Tests.{not_false}
+use borrow.Author.Tests.{not-false}
 use Rattle.base.specs.Sort.{sorted, lex_less}
 use Rattle.base.proofs.SortLaws.{Order, lex_order}
 use Rattle.base.specs.Lists.{at, found, any, keep}
@@ -96,7 +96,7 @@ columns_seen l t = seen (λ u. u.y) (in_row t) l
 -- A tap on the row of the one before it is of its group.
 pub row_of_group : (t : Tap) (l : List Tap) → new_row l t ≡ false → new_group l t ≡ false
 row_of_group t [] n = clash refl n
-row_of_group t (v ∷ l) n = rw (eq-eqb v.group t.group (same_two v.group t.group v.row t.row (not_false _ n)).0)
+row_of_group t (v ∷ l) n = rw (eq-eqb v.group t.group (same_two v.group t.group v.row t.row (not-false _ n)).0)
 
 -- The laid taps, or those up to one of them, newest first.
 pub record LaidIn (b : Board) (ps : List PageLanes) (l : List Tap) : Type 0 where
@@ -207,7 +207,7 @@ module _ (b : Board) (ps : List PageLanes) where
   pub rows_old : (t : Tap) (l : List Tap) → new_row l t ≡ false → rows_seen (t ∷ l) t.group ≡ rows_seen l t.group
   rows_old t [] n = clash refl n
   rows_old t (v ∷ l) n =
-      let e = same_two v.group t.group v.row t.row (not_false _ n) in
+      let e = same_two v.group t.group v.row t.row (not-false _ n) in
       seen_old (λ u. u.row) (in_group_lem t.group) t v (v ∷ l) (eq-eqb t.group t.group refl) (Memᴰ.head refl)
       (eq-eqb v.group t.group e.0) (sym e.1)
 
@@ -219,7 +219,7 @@ module _ (b : Board) (ps : List PageLanes) where
   pub columns_old : (t : Tap) (l : List Tap) → new_column l t ≡ false → columns_seen (t ∷ l) t ≡ columns_seen l t
   columns_old t [] n = clash refl n
   columns_old t (v ∷ l) n =
-      let e = same_three v.group t.group v.row t.row v.y t.y (not_false _ n) in
+      let e = same_three v.group t.group v.row t.row v.y t.y (not-false _ n) in
       seen_old (λ u. u.y) (in_row t) t v (v ∷ l) (of_row t t refl refl) (Memᴰ.head refl) (of_row t v e.0 e.1) (sym e.2)
 
   -- They are among the group's rows up to the tap's own, and its columns on that row.

@@ -1,7 +1,7 @@
 -- The emission, walked once, tap by tap: begin a group, begin a row, serve.
 use Rattle.std.proofs.Common.{◌≡◌, ℕ, zero, suc, ◌+◌, ◌<◌, ◌≤◌, Bool, true, false, ◌&&◌, eqb, List, [], ◌∷◌, sym, refl, ap, ◌∙◌, subst, arith, ne_eqb, eqb-true}
 use mathlib.Core.List.Memᴰ
-use borrow.Author.Tests.{not_false}
+use borrow.Author.Tests.{not-false}
 use Rattle.base.specs.Lists.{Found, none, at, found, any}
 use Rattle.board.specs.Board.{Board, placed, x_of}
 use Rattle.board.specs.Groups.{Tap, taps_of, source_row}
@@ -315,8 +315,8 @@ module _ (b : Board) (ps : List PageLanes) (plan : plan_lanes b ≡ planned ps) 
       walked level d e a s =
           record {
             kept = a.kept;
-            state = λ u n. let q = eqb-true t.group u.group (not_false _ n) in rw (← q) a;
-            ended = λ u n. let q = same_two t.group u.group t.row u.row (not_false _ n) in rw (d, ← q.0, ← q.1) s;
+            state = λ u n. let q = eqb-true t.group u.group (not-false _ n) in rw (← q) a;
+            ended = λ u n. let q = same_two t.group u.group t.row u.row (not-false _ n) in rw (d, ← q.0, ← q.1) s;
           }
 
       serves : (level : Level) → level_here (stops_of b ps (t ∷ l)) ≡ level → (e : Emission) (x : ℕ) → At (stops_of b ps (t ∷ l)) l 4 t.group rows e

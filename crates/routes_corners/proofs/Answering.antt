@@ -1,6 +1,6 @@
 -- The items listed can be put in order and answered, and their answers are the levels.
 use Rattle.std.proofs.Common.{◌≡◌, ℕ, suc, ◌+◌, ◌-◌, ◌<◌, ◌≤◌, Bool, true, false, ltb, List, [], ◌∷◌, length, get_or, sym, refl, ap, ◌∙◌, subst, arith, ltb-false, ltb-true, eqb-true}
-use borrow.Author.Tests.{not_false}
+use borrow.Author.Tests.{not-false}
 use Rattle.base.specs.Runs.{key_in, order_in, Ordered, SameButOrder}
 use Rattle.base.proofs.Bools.{and_left, and_right}
 use Rattle.board.specs.Board.{Board, field, given}
@@ -153,7 +153,7 @@ module _ (nodes facts : List (List ℕ)) (classes list : List ℕ) (n : ℕ) (re
             countable = omega arith;
             ordered = λ p h. let w = o.within p h in omega arith;
             rising = λ p h e.
-                o.next p h (sym (same.same (order_at items' p) 6 (omega arith)) ∙ eqb-true (key_in items' (order_at items' p)) (key_in items' (order_at items' (suc p))) (not_false _ e) ∙ same.same (order_at items' (suc p)) 6 (omega arith));
+                o.next p h (sym (same.same (order_at items' p) 6 (omega arith)) ∙ eqb-true (key_in items' (order_at items' p)) (key_in items' (order_at items' (suc p))) (not-false _ e) ∙ same.same (order_at items' (suc p)) 6 (omega arith));
             asks = λ p h l.
                 let w = o.within p h in
                 let z : length nodes + m + (order_at items' p - (length nodes + m)) ≡ order_at items' p = omega arith in

@@ -9,7 +9,7 @@ use lib.Dec.{eqb}
 use lib.ListN.{length, get_or, take, drop, set, length-set, length-append, length-map, take-append-drop, drop_of_length-le}
 use lib.Seq.{take-suc-set, drop-set-lt, drop-drop, length-take-le, drop-cons, get_or-take}
 use Rattle.sheet.specs.Table.{MISSING}
-use borrow.Author.Tests.{eq-eqb, ne_eqb, not_true, not_false}
+use borrow.Author.Tests.{eq-eqb, ne_eqb, not-true, not-false}
 use Rattle.base.proofs.Bools.{clash}
 use Rattle.routes.specs.Bus.{BusWire, port, rerouter, onward, delivery, Port}
 use Rattle.routes.specs.Buffers.{port_row, wire_in, port_in, ports_held}
@@ -159,12 +159,12 @@ module _ (keys : List ℕ) where
   pub once_last : (i : ℕ) → i < length keys → not (again_at i) ≡ true → once_from i ≡ port_row (key_port (get_or keys i 0)) ∷ once_from (i + 1)
   once_last i h t =
       ap (λ r. map port_row (unique (map key_port r))) (drop_next keys i 0 h)
-      ∙ ap (map port_row) (unique_last (key_port (get_or keys i 0)) (map key_port (drop (i + 1) keys)) (not_true (again_at i) t))
+      ∙ ap (map port_row) (unique_last (key_port (get_or keys i 0)) (map key_port (drop (i + 1) keys)) (not-true (again_at i) t))
 
   pub once_again : (i : ℕ) → i < length keys → not (again_at i) ≡ false → once_from i ≡ once_from (i + 1)
   once_again i h t =
       ap (λ r. map port_row (unique (map key_port r))) (drop_next keys i 0 h)
-      ∙ ap (map port_row) (unique_again (key_port (get_or keys i 0)) (map key_port (drop (i + 1) keys)) (not_false (again_at i) t))
+      ∙ ap (map port_row) (unique_again (key_port (get_or keys i 0)) (map key_port (drop (i + 1) keys)) (not-false (again_at i) t))
 
   pub once_done : (i : ℕ) → length keys ≤ i → once_from i ≡ []
   once_done i h = ap (λ r. map port_row (unique (map key_port r))) (drop_of_length-le keys h)

@@ -6,7 +6,7 @@ use mathlib.Core.Bool.{Bool, true, false, ◌&&◌}
 use mathlib.Core.List.Memᴰ
 use mathlib.Core.List.{List, [], ◌∷◌}
 use lib.ListN.{length, get_or}
-use borrow.Author.Tests.{eqb-true, not_false}
+use borrow.Author.Tests.{eqb-true, not-false}
 use Rattle.base.specs.Lists.{none, at}
 use Rattle.base.proofs.Bools.{never, clash}
 use Rattle.base.proofs.Lists.{same_two, by_test, by_found}
@@ -240,8 +240,8 @@ module _ (b : Board) (ps : List PageLanes) where
       walked level d e a s =
           record {
             drawn = a.drawn;
-            state = λ u n. let q = eqb-true t.group u.group (not_false _ n) in rw (← q) a;
-            ended = λ u n. let q = same_two t.group u.group t.row u.row (not_false _ n) in rw (d, ← q.0) s;
+            state = λ u n. let q = eqb-true t.group u.group (not-false _ n) in rw (← q) a;
+            ended = λ u n. let q = same_two t.group u.group t.row u.row (not-false _ n) in rw (d, ← q.0) s;
           }
 
       -- A gate-side rerouter for a new column, where it finds room, at the row's level.

@@ -3,7 +3,7 @@
 use Rattle.std.proofs.Common.{◌≡◌, ℕ, zero, suc, ◌+◌, ◌-◌, ◌<◌, ◌≤◌, Bool, true, false, not, ◌&&◌, eqb, ltb, leb, List, [], ◌∷◌, map, length, get_or, set, replicate, sym, refl, ap, ◌∙◌, subst, ap₂, zero-le, arith, length-set, get_or-set_other, get_or-set_same, ltb-false, ltb-true, eq-eqb, ne_eqb, eqb-true, le-leb, leb-false, leb-true}
 use mathlib.Core.Bool.{beq}
 use lib.Seq.{set_out}
-use borrow.Author.Tests.{eqb-false, not_true, not_false}
+use borrow.Author.Tests.{eqb-false, not-true, not-false}
 use Rattle.sheet.specs.declared.Counts.{Counts}
 use Rattle.sheet.specs.declared.line.Cell.{Cell}
 use Rattle.sheet.specs.declared.line.Cell.TheVariants.{Holds, OutOfRange, Malformed}
@@ -189,7 +189,7 @@ first_none p b n (l ∷ ls) e = go (p b l) refl e (first_none p (after b l) (suc
 line_row : (b b' : Before) (l : Line) → unreadable b l ≡ false → out_of_range b' l ≡ false → l ≡ row true (row_of l)
 unfolding unreadable out_of_range row_of
 line_row b b' unread e f = clash refl e
-line_row b b' (row fits r) e f = ap (λ (t : Bool). row t r) (not_false fits f)
+line_row b b' (row fits r) e f = ap (λ (t : Bool). row t r) (not-false fits f)
 
 lines_rows : (b b' : Before) (ls : List Line) → NoLine unreadable b ls → NoLine out_of_range b' ls → ls ≡ map (row true) (map row_of ls)
 lines_rows b b' [] e f = refl
@@ -309,7 +309,7 @@ COORDINATE_HIGH = ORIGIN + COORDINATE_MOST
 module _ {origin low high : ℕ} {before : Bool} {v : ℕ} where
   never_missing : HeldAt (record { origin = origin; low = low; high = high; gap = NEVER }) before v → Within low high v
   unfolding allowed
-  never_missing h = h.range (not_true (eqb v MISSING) h.fitting)
+  never_missing h = h.range (not-true (eqb v MISSING) h.fitting)
 
   as_before : HeldAt (record { origin = origin; low = low; high = high; gap = AS_BEFORE }) before v → eqb v MISSING ≡ before
   unfolding allowed

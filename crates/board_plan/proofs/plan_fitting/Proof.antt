@@ -1,6 +1,6 @@
 use mathlib.Core.Path.{◌≡◌, refl, sym, ◌∙◌}
 use mathlib.Core.Bool.{true, false}
-use borrow.Author.Tests.{not_true, not_false}
+use borrow.Author.Tests.{not-true, not-false}
 use Rattle.board_plan.specs.TextPlan.{fits_counts, fits_lent}
 use Rattle.board_plan.proofs.Reading.{counts_few, fits_counted, lent_unfit, lent_fits, board_read}
 use Rattle.board_plan.proofs.plan_fitting.Statement.{statement}
@@ -11,7 +11,7 @@ use Rattle.board_plan.proofs.fits.Reads as fits-reads
 use Rattle.board_plan.proofs.plan_rows.Reads as plan-rows-reads
 
 enough : (c : tie.Else1) → fits_counts c.before.before.args.lent c.before.before.args.counts ≡ true
-enough c = sym c.before.fits2.ensures ∙ not_false _ c.if1.false
+enough c = sym c.before.fits2.ensures ∙ not-false _ c.if1.false
 
 fits-requires : tie.Need-fits-requires
 fits-requires c κs = let b = c.requires.1 in counts_few b.0 c.args.counts b.1.counted b.1.accepted
@@ -19,7 +19,7 @@ fits-requires c κs = let b = c.requires.1 in counts_few b.0 c.args.counts b.1.c
 returns : tie.Need-returns
 returns c b checked =
     let a = c.before.before.args in
-    let e : fits_counts a.lent a.counts ≡ false = sym c.before.fits2.ensures ∙ not_true _ c.if1.true in
+    let e : fits_counts a.lent a.counts ≡ false = sym c.before.fits2.ensures ∙ not-true _ c.if1.true in
     rw (lent_unfit (fits_lent a.lent) b (fits_counted a.lent b a.counts false checked.counted e)) refl
 
 plan-rows-requires : tie.Need-plan-rows-requires

@@ -4,7 +4,7 @@ use mathlib.Core.Bool.{true}
 use lib.ListN.{length}
 use native.Mathlib.Omega.{arith}
 use borrow.Author.Rules.{rules}
-use borrow.Author.Tests.{not_true, not_false}
+use borrow.Author.Tests.{not-true, not-false}
 use Rattle.board.specs.Board.{Board}
 use Rattle.routes_corners.specs.Turning.{TurnedAs}
 use Rattle.routes_calls.specs.Mini.{holds, bus_given, HeldReady}
@@ -20,7 +20,7 @@ Ready s b = HeldReady b s.args.records.now s.args.counts s.args.facts.now s.args
 
 -- The buffers hold what is said to be in them.
 fit : (c : tie.After-turn-rows) → holds (start c).args.held (length (start c).args.rerouters.now) (length (start c).args.bus-wires.now) (length (start c).args.ports.now) ≡ true
-fit c = sym c.before.before.before.before.before.before.holds.ensures ∙ not_false _ c.before.before.before.before.before.if1.false
+fit c = sym c.before.before.before.before.before.before.holds.ensures ∙ not-false _ c.before.before.before.before.before.if1.false
 
 turned : (c : tie.After-turn-rows) (b : Board) → Ready (start c) b
     → TurnedAs b (bus_given (start c).args.rerouters.now (start c).args.bus-wires.now (start c).args.ports.now (start c).args.held) (length b.wires) (start c).args.rerouters.now (start c).args.bus-wires.now (start c).args.held
@@ -33,14 +33,14 @@ holds-requires c κs = search rules
 returns : tie.Need-returns
 returns c =
     let a = c.before.before.args in
-    let no = sym c.before.holds.ensures ∙ not_true _ c.if1.true in
+    let no = sym c.before.holds.ensures ∙ not-true _ c.if1.true in
     λ b ps rd lanes. mini_unfit a.rerouters.now a.bus-wires.now a.ports.now a.held b (unheld a.rerouters.now a.bus-wires.now a.ports.now a.held b no)
 
 turn-rows-requires : tie.Need-turn-rows-requires
 turn-rows-requires c κs =
     let s = c.before.before.before.before.before.before in
     let a = s.args in
-    let w = held_within a.held (length a.rerouters.now) (length a.bus-wires.now) (length a.ports.now) (sym c.before.before.before.before.before.holds.ensures ∙ not_false _ c.before.before.before.before.if1.false) in
+    let w = held_within a.held (length a.rerouters.now) (length a.bus-wires.now) (length a.ports.now) (sym c.before.before.before.before.before.holds.ensures ∙ not-false _ c.before.before.before.before.if1.false) in
     (s.requires.0, s.requires.1.ready _ (omega (arith, w.0)) (omega (arith, w.1)) (omega (arith, w.2)))
 
 enum_told : tie.Need-enum-told

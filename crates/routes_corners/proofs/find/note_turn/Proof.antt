@@ -1,7 +1,7 @@
 -- Wire w joins the wires found where it turns.
 use Rattle.routes_corners.proofs.Finding.{turners_passed, turners_more}
 use Rattle.std.proofs.Common.{◌<◌, length, add-one, arith, rules}
-use borrow.Author.Tests.{not_true, not_false}
+use borrow.Author.Tests.{not-true, not-false}
 use Rattle.routes_corners.proofs.find.note_turn.Statement.{statement}
 use Rattle.routes_corners.proofs.find.note_turn.Tie as tie
 
@@ -12,7 +12,7 @@ turns-requires : tie.Need-turns-requires
 turns-requires c κs = let p = c.before.before.before.requires in let l = p.1.1 in record { wire = l; end = let h = p.0.ends_long in omega arith; class = let h = p.0.classes_long in omega arith; flag = p.0.class_fits _ l }
 
 returns : tie.Need-returns
-returns c = let s = c.before.before.before.before.before in let a = s.args in turners_passed a.nodes.now a.wires.now a.facts.now a.classes.now a.muted.now a.list.now a.n a.w s.requires.1.0 s.requires.1.1 _ c.before.turns.ensures.1 (not_true _ c.if1.true)
+returns c = let s = c.before.before.before.before.before in let a = s.args in turners_passed a.nodes.now a.wires.now a.facts.now a.classes.now a.muted.now a.list.now a.n a.w s.requires.1.0 s.requires.1.1 _ c.before.turns.ensures.1 (not-true _ c.if1.true)
 
 cast-list : tie.Need-overflow-cast-list
 cast-list c = let s = c.before.before.before.before.before in omega (arith, s.requires.1.1, s.requires.0.wires_few)
@@ -30,7 +30,7 @@ same_length : tie.Need-same-length
 same_length c = search rules
 
 returns-2 : tie.Need-returns-2
-returns-2 c = let s = c.before.before.before.before.before in let a = s.args in rw (add-one a.n) (turners_more a.nodes.now a.wires.now a.facts.now a.classes.now a.muted.now a.list.now a.n a.w s.requires.1.0 s.requires.1.1 (room c) _ c.before.turns.ensures.1 (not_false _ c.if1.false) (c.before.turns.ensures.0 (not_false _ c.if1.false)))
+returns-2 c = let s = c.before.before.before.before.before in let a = s.args in rw (add-one a.n) (turners_more a.nodes.now a.wires.now a.facts.now a.classes.now a.muted.now a.list.now a.n a.w s.requires.1.0 s.requires.1.1 (room c) _ c.before.turns.ensures.1 (not-false _ c.if1.false) (c.before.turns.ensures.0 (not-false _ c.if1.false)))
 
 pub note-turn-spec : {M : Type 1} → statement M
 note-turn-spec =

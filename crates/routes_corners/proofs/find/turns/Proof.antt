@@ -1,6 +1,6 @@
 -- The tests on a wire, in the rules' order.
 use Rattle.std.proofs.Common.{sym, refl, ◌∙◌, rules}
-use borrow.Author.Tests.{not_true, not_false}
+use borrow.Author.Tests.{not-true, not-false}
 use Rattle.base.proofs.Bools.{clash, pick_true, pick_false}
 use Rattle.board.specs.Tables.{nodes_alone}
 use Rattle.routes_corners.proofs.CornerLaws.{turns_rows}
@@ -83,7 +83,7 @@ returns-3 c =
       λ b q pages f g.
           turn_sourceless b q pages a.nodes.now a.wires.now a.facts.now f a.classes.now a.muted.now a.w c.before.before.before.before.before.before.before.before.before.before.before.before.requires.wire g c.before.before.before.before.before.before.before.before.if1.false c.before.before.before.before.before.if2.false
           (c.before.is_IsBody.ensures.1 b f.nodes_are (source_anchor_lem b q pages a.nodes.now a.wires.now a.facts.now f a.classes.now a.muted.now a.w c.before.before.before.before.before.before.before.before.before.before.before.before.requires.wire g)
-          ∙ pick_false c.before.is_IsBody.result _ _ (not_true c.before.is_IsBody.result c.if3.true)),
+          ∙ pick_false c.before.is_IsBody.result _ _ (not-true c.before.is_IsBody.result c.if3.true)),
     )
 
 mul-is-body-2 : tie.Need-overflow-mul-is-body-2
@@ -105,20 +105,20 @@ returns-4 c =
       λ b q pages f g.
           turn_sinkless b q pages a.nodes.now a.wires.now a.facts.now f a.classes.now a.muted.now a.w c.before.before.before.before.before.before.before.before.before.before.before.before.before.before.before.requires.wire g c.before.before.before.before.before.before.before.before.before.before.before.if1.false c.before.before.before.before.before.before.before.before.if2.false _
           (c.before.before.before.before.is_IsBody.ensures.1 b f.nodes_are (source_anchor_lem b q pages a.nodes.now a.wires.now a.facts.now f a.classes.now a.muted.now a.w c.before.before.before.before.before.before.before.before.before.before.before.before.before.before.before.requires.wire g)
-          ∙ pick_true c.before.before.before.before.is_IsBody.result _ _ (not_false c.before.before.before.before.is_IsBody.result c.before.before.before.if3.false))
+          ∙ pick_true c.before.before.before.before.is_IsBody.result _ _ (not-false c.before.before.before.before.is_IsBody.result c.before.before.before.if3.false))
           (c.before.is-body2.ensures.1 b f.nodes_are (target_anchor_lem b q pages a.nodes.now a.wires.now a.facts.now f a.classes.now a.muted.now a.w c.before.before.before.before.before.before.before.before.before.before.before.before.before.before.before.requires.wire g)
-          ∙ pick_false c.before.is-body2.result _ _ (not_true c.before.is-body2.result c.if4.true)),
+          ∙ pick_false c.before.is-body2.result _ _ (not-true c.before.is-body2.result c.if4.true)),
     )
 
 goes-down-requires : tie.Need-goes-down-requires
 goes-down-requires c κs =
-    (c.before.before.before.before.is_IsBody.ensures.0 (not_false c.before.before.before.before.is_IsBody.result c.before.before.before.if3.false), c.before.is-body2.ensures.0 (not_false c.before.is-body2.result c.if4.false))
+    (c.before.before.before.before.is_IsBody.ensures.0 (not-false c.before.before.before.before.is_IsBody.result c.before.before.before.if3.false), c.before.is-body2.ensures.0 (not-false c.before.is-body2.result c.if4.false))
 
 returns-5 : tie.Need-returns-5
 returns-5 c =
     let a = c.before.before.before.before.before.before.before.before.before.before.before.before.before.before.before.before.args in
-    let one = not_false c.before.before.before.before.before.is_IsBody.result c.before.before.before.before.if3.false in
-    let two = not_false c.before.before.is-body2.result c.before.if4.false in (
+    let one = not-false c.before.before.before.before.before.is_IsBody.result c.before.before.before.before.if3.false in
+    let two = not-false c.before.before.is-body2.result c.before.if4.false in (
       λ e.
           let rows = turns_rows (nodes_alone a.nodes.now) _ _ (sym (c.goes_down.ensures (nodes_alone a.nodes.now) refl) ∙ e) in
           record { source = c.before.before.before.before.before.is_IsBody.ensures.0 one; target = c.before.before.is-body2.ensures.0 two; source_row = rows.0; on_row = rows.1 },

@@ -9,7 +9,7 @@ use Rattle.routes.specs.Holding.{BusHeld}
 use Rattle.routes_corners.specs.Turning.{has_room}
 use Rattle.routes_corners.specs.CornerTables.{BoardOf}
 use Rattle.routes_corners.specs.Handed.{bus_in, Mutes, Handed}
-use borrow.Author.Tests.{not_true, not_false}
+use borrow.Author.Tests.{not-true, not-false}
 use Rattle.std.proofs.Common.{◌≡◌, ℕ, List, length, sym, refl, ◌∙◌, arith, rules}
 use lib.ListN.{length-replicate}
 use Rattle.routes_corners.proofs.turn.turn_corners.Statement.{statement}
@@ -44,7 +44,7 @@ room c b is bus mutes =
 returns : tie.Need-returns
 returns c =
     let a = c.before.before.before.before.before.before.before.args in
-    let no = sym c.before.has_room.ensures ∙ not_true _ c.if1.true in (
+    let no = sym c.before.has_room.ensures ∙ not-true _ c.if1.true in (
       λ b is. (room c.before.before.before.before b is (bus_in a.rerouters.now a.bus-wires.now a.ports.now a.held) (mutes_in b a.rerouters.now a.bus-wires.now a.ports.now a.held) ∙ no, refl, refl),
       λ b bus old old_wires is mutes handed. room c.before.before.before.before b is bus mutes ∙ no,
     )
@@ -71,7 +71,7 @@ lay-corners-requires c κs =
     let r = length-replicate {A = ℕ} 8192 0 in
     let on_classes : length f.new.1.1.1.1.1.0 ≡ 8192 = k.0 ∙ r in
     let onList : length f.new.1.1.1.1.1.1.0 ≡ 8192 = k.1.0 ∙ r in
-    let room = sym c.before.before.before.before.before.before.before.before.before.before.has_room.ensures ∙ not_false _ c.before.before.before.before.before.before.before.before.before.if1.false in
+    let room = sym c.before.before.before.before.before.before.before.before.before.before.has_room.ensures ∙ not-false _ c.before.before.before.before.before.before.before.before.before.if1.false in
     found_ready a.pages.now a.nodes.now a.wires.now a.facts.now a.rerouters.now a.bus-wires.now a.ports.now a.marks.now a.held _ _ f.result s.requires.0 s.requires.1 f.ensures room
     (omega (arith, few, on_classes)) (omega (arith, few, onList))
 
@@ -102,7 +102,7 @@ returns-2 c =
     let e = c.before.before.before in
     let s = start e in
     let a = s.args in
-    let yes' = sym c.before.before.before.before.before.before.before.before.before.before.before.before.before.before.has_room.ensures ∙ not_false _ c.before.before.before.before.before.before.before.before.before.before.before.before.before.if1.false in
+    let yes' = sym c.before.before.before.before.before.before.before.before.before.before.before.before.before.before.has_room.ensures ∙ not-false _ c.before.before.before.before.before.before.before.before.before.before.before.before.before.if1.false in
     let own = handed_in a.rerouters.now a.bus-wires.now a.ports.now a.held s.pre.1.rerouters_there s.pre.1.wires c.before.before.before.before.before.before.before.before.before.before.before.know-rerouters.ensures c.before.before.before.before.before.before.before.before.before.know-wires.ensures in (
       λ b is. (room c.before.before.before.before.before.before.before.before.before.before.before.before.before.before.before.before.before b is (bus_in a.rerouters.now a.bus-wires.now a.ports.now a.held) (mutes_in b a.rerouters.now a.bus-wires.now a.ports.now a.held) ∙ yes', laid e b (bus_in a.rerouters.now a.bus-wires.now a.ports.now a.held) a.rerouters.now a.bus-wires.now is (mutes_in b a.rerouters.now a.bus-wires.now a.ports.now a.held) own),
       λ b bus old old_wires is mutes h. laid e b bus old old_wires is mutes h,

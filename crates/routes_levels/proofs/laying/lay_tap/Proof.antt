@@ -3,7 +3,7 @@ use Prim.Native.Nat.{◌+◌, ◌<◌}
 use native.Mathlib.Omega.{arith}
 use mathlib.Core.Path.{sym, ap, ◌∙◌}
 use lib.ListN.{length}
-use borrow.Author.Tests.{not_true, not_false}
+use borrow.Author.Tests.{not-true, not-false}
 use Rattle.board.specs.Board.{field}
 use Rattle.routes_levels.proofs.LayLaws.{stops_same, stops_next, stop_in_lane, room_in_lane}
 use Rattle.routes_levels.proofs.PageLaws.{onward_none}
@@ -30,7 +30,7 @@ returns : tie.Need-returns
 returns c =
     let s = c.before.before.before.before.before in
     let x = s.requires.1.0.0 in
-    (record { lasts = x.lasts; held = s.requires.1.1.0; onward = onward_none _ _ _ }, (omega (arith, s.requires.1.0.1), λ b ps f h. stops_same b ps s.args.laid.now s.args.k (sym c.before.is-new-row.ensures ∙ not_true c.before.is-new-row.result c.if1.true) _ h))
+    (record { lasts = x.lasts; held = s.requires.1.1.0; onward = onward_none _ _ _ }, (omega (arith, s.requires.1.0.1), λ b ps f h. stops_same b ps s.args.laid.now s.args.k (sym c.before.is-new-row.ensures ∙ not-true c.before.is-new-row.result c.if1.true) _ h))
 
 mul-tap : tie.Need-overflow-mul-tap
 mul-tap c = search rules
@@ -112,7 +112,7 @@ returns-2 c =
       stop_in_lane s.args.groups.now group.result group.ensures.0 stop.ensures.0,
       (
         omega (arith, s.requires.1.0.1),
-        λ b ps f h. stops_next b ps s.args.laid.now k (sym begins.ensures ∙ not_false begins.result c.before.before.before.before.before.before.before.before.before.before.before.before.before.before.before.before.if1.false) _ _ _ h
+        λ b ps f h. stops_next b ps s.args.laid.now k (sym begins.ensures ∙ not-false begins.result c.before.before.before.before.before.before.before.before.before.before.before.before.before.before.before.before.if1.false) _ _ _ h
             (ap (λ g. field s.args.groups.now g 4) group.ensures.0 ∙ f.lanes k l) (stop.ensures.1 b (f.tops k l)),
       ),
     )

@@ -1,7 +1,7 @@
 -- None where the class stands, or no level is clear; else what is sought.
 use mathlib.Core.Path.{refl, sym, ◌∙◌}
 use native.Mathlib.Omega.{arith}
-use borrow.Author.Tests.{not_true}
+use borrow.Author.Tests.{not-true}
 use Rattle.routes_rows.specs.Turning.{clear_at}
 use Rattle.routes_rows.proofs.Deciding.{level_taken, level_closed, clear_kept}
 use Rattle.routes_rows.proofs.NoteLaws.{noted_owns, tells_loads}
@@ -40,7 +40,7 @@ returns-2 c =
       ends = λ k low. refl;
       rows = refl;
       noted = λ booked most h. h;
-      tells = λ booked most h g. level_closed booked a.span a.sink a.class (c.before.has-clear.ensures (clear_at booked a.span.y0) g (not_true c.before.has-clear.result c.if2.true));
+      tells = λ booked most h g. level_closed booked a.span a.sink a.class (c.before.has-clear.ensures (clear_at booked a.span.y0) g (not-true c.before.has-clear.result c.if2.true));
     }
 
 own-loads-requires : tie.Need-own-loads-requires

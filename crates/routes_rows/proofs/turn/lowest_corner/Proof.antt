@@ -4,7 +4,7 @@ use mathlib.Core.Path.{◌≡◌, refl, sym, ap, ◌∙◌}
 use mathlib.Core.Bool.{Bool, true, ◌&&◌}
 use native.Mathlib.Omega.{arith}
 use lib.Dec.{eqb, leb}
-use borrow.Author.Tests.{leb-true, not_true, not_false}
+use borrow.Author.Tests.{leb-true, not-true, not-false}
 use Rattle.routes.specs.Levels.{STAGGER_STEP, lowest, levels_in}
 use Rattle.routes_levels.specs.Laying.{level_answer}
 use Rattle.routes_levels.proofs.Searches.{lowest_none, lowest_here, lowest_next}
@@ -24,7 +24,7 @@ abbrev decreases-loop : tie.decreases-loop
 decreases-loop notes top level₀ k₀ level k = top - level
 
 within : (c : tie.Else1 invariant-loop decreases-loop) → leb (c.before.before.loop.level + STAGGER_STEP) c.before.before.before.before.args.span.x1 ≡ true
-within c = sym c.before.is_Within.ensures ∙ not_false c.before.is_Within.result c.if1.false
+within c = sym c.before.is_Within.ensures ∙ not-false c.before.is_Within.result c.if1.false
 
 below : (c : tie.Else1 invariant-loop decreases-loop) → c.before.before.loop.level + 2 ≤ c.before.before.before.before.args.span.x1
 below c = leb-true (c.before.before.loop.level + 2) c.before.before.before.before.args.span.x1 (within c)
@@ -78,7 +78,7 @@ returns : tie.Need-returns invariant-loop decreases-loop
 returns c = λ clear load h g.
     let a = c.before.before.before.before.args in
     let l = c.before.before.loop in
-    let out = sym c.before.is_Within.ensures ∙ not_true c.before.is_Within.result c.if1.true in
+    let out = sym c.before.is_Within.ensures ∙ not-true c.before.is_Within.result c.if1.true in
     sym (ap level_answer (l.invariant.1 clear load h g ∙ lowest_none (λ x. eqb (load x) 0 && clear x) l.level a.span.x1 out))
 
 returns-2 : tie.Need-returns-2 invariant-loop decreases-loop

@@ -1,7 +1,7 @@
 -- `sheet::check::survey_rows` meets its contract. The pass keeps, at each line, the first line of each refusal so far, how many records there are, and the rows of
 -- the lines behind. Assumes nothing.
 use Rattle.std.proofs.Common.{◌≡◌, ◌+◌, ◌-◌, ◌<◌, length, sym, refl, ap, ◌∙◌, arith}
-use borrow.Author.Tests.{not_true, not_false}
+use borrow.Author.Tests.{not-true, not-false}
 use Rattle.sheet.specs.Table.{SECTIONS}
 use Rattle.sheet.specs.Walk.{survey_of}
 use Rattle.sheet.proofs.Surveys.{Tallied, tally_start, tally_unread, tally_unordered, tally_step, tally_ends, line_read_lem}
@@ -19,7 +19,7 @@ decreases-loop text rows₀ most columns section₀ counts₀ over₀ wide₀ at
 
 -- the line was read, and names a section
 known : (c : tie.Else1 invariant-loop decreases-loop) → c.before.before.before.line-into.result.section < SECTIONS
-known c = c.before.before.before.line-into.ensures.says.known (not_false _ c.if1.false)
+known c = c.before.before.before.line-into.ensures.says.known (not-false _ c.if1.false)
 
 loop-holds : tie.Need-loop-init invariant-loop decreases-loop
 loop-holds c = (refl, tally_start c.before.args.text.now c.before.args.t2, keeping_start c.before.args.text.now c.before.args.rows.now)
@@ -42,7 +42,7 @@ same_length c = c.before.before.before.before.line-into.auto.1.1.1.0 ∙ c.befor
 returns : tie.Need-returns invariant-loop decreases-loop
 unfolding survey_of
 returns c =
-    let one = tally_unread c.before.before.before.before.before.before.before.before.loop.invariant.1 c.before.before.before.before.before.before.before.loop-test.true c.before.before.before.before.line-into.ensures.says (not_true _ c.before.if1.true) in
+    let one = tally_unread c.before.before.before.before.before.before.before.before.loop.invariant.1 c.before.before.before.before.before.before.before.loop-test.true c.before.before.before.before.line-into.ensures.says (not-true _ c.before.if1.true) in
     (c.unread.ensures ∙ sym (ap survey_of one), held_refused one)
 
 unread-requires-2 : tie.Need-unread-requires-2 invariant-loop decreases-loop
@@ -54,7 +54,7 @@ same-length-2 c = c.before.before.before.before.before.line-into.auto.1.1.1.0 �
 returns-2 : tie.Need-returns-2 invariant-loop decreases-loop
 unfolding survey_of
 returns-2 c =
-    let one = tally_unordered c.before.before.before.before.before.before.before.before.before.loop.invariant.1 c.before.before.before.before.before.before.before.before.loop-test.true c.before.before.before.before.before.line-into.ensures.says (not_false _ c.before.before.if1.false) c.before.if2.true in
+    let one = tally_unordered c.before.before.before.before.before.before.before.before.before.loop.invariant.1 c.before.before.before.before.before.before.before.before.loop-test.true c.before.before.before.before.before.line-into.ensures.says (not-false _ c.before.before.if1.false) c.before.if2.true in
     (c.unread2.ensures ∙ sym (ap survey_of one), held_refused one)
 
 mul-n : tie.Need-overflow-mul-n invariant-loop decreases-loop
@@ -89,14 +89,14 @@ rest-of-requires c κs = tt
 
 loop-less : tie.Need-loop-smaller invariant-loop decreases-loop
 loop-less c =
-    let next = line_read_lem c.before.before.before.before.before.before.before.before.before.before.before.before.before.before.args.text.now c.before.before.before.before.before.before.before.before.before.before.before.before.loop.at c.before.before.before.before.before.before.before.before.line-into.ensures.says (not_false _ c.before.before.before.before.before.if1.false) in
+    let next = line_read_lem c.before.before.before.before.before.before.before.before.before.before.before.before.before.before.args.text.now c.before.before.before.before.before.before.before.before.before.before.before.before.loop.at c.before.before.before.before.before.before.before.before.line-into.ensures.says (not-false _ c.before.before.before.before.before.if1.false) in
     omega arith
 
 loop-again : tie.Need-loop-preserved invariant-loop decreases-loop
 loop-again c =
     let l = c.before.before.before.before.before.before.before.before.before.before.before.before.loop in
     let x = c.before.before.before.before.before.before.before.before.line-into in
-    let read = not_false _ c.before.before.before.before.before.if1.false in (
+    let read = not-false _ c.before.before.before.before.before.if1.false in (
       x.auto.1.1.1.0 ∙ l.invariant.0,
       tally_step l.invariant.1 c.before.before.before.before.before.before.before.before.before.before.before.loop-test.true x.ensures.says read _ refl c.before.before.before.before.if2.false _ _ c.before.before.before.first_of.ensures c.before.first-of2.ensures,
       keeping_step l.invariant.2 x.ensures read _ c.rest_of.ensures,
