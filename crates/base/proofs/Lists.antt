@@ -65,6 +65,7 @@ module _ {A : Type 0} where
 
   -- Membership and tests.
   pub none_of : (p : A → Bool) {x : A} {l : List A} → any p l ≡ false → Memᴰ x l → p x ≡ false
+  none_of p {l = []} h m = elim m [ ]
   none_of p {l = y ∷ l} h (Memᴰ.head e) = rw e (or_left (p y) (any p l) h)
   none_of p {l = y ∷ l} h (Memᴰ.tail m) = none_of p (or_right (p y) (any p l) h) m
 
@@ -94,6 +95,7 @@ module _ {A : Type 0} where
       first e ih (inr m) = later (ih m)
 
   pub to_keep : (p : A → Bool) {x : A} {l : List A} → Memᴰ x l → p x ≡ true → Memᴰ x (keep p l)
+  to_keep p {x} {l = []} m h = elim m [ ]
   to_keep p {x} {l = y ∷ l} (Memᴰ.head d) h = rw (keep_yes p y l (rw d at h)) (Memᴰ.head d)
   to_keep p {x} {l = y ∷ l} (Memᴰ.tail m) h = by_test (λ r. Memᴰ x r) (p y) (λ e. Memᴰ.tail (to_keep p m h)) (λ e. to_keep p m h)
 
