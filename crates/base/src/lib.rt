@@ -1,4 +1,6 @@
 // What every layer uses: numbers by name, rows by type, ids apart from numbers, one sort for rows and for keys, and runs of a key, counted or filled as one goes.
+#![tactic(auto)]
+
 pub mod digits;
 pub mod growing;
 pub mod ids;

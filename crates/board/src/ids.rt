@@ -12,7 +12,7 @@ use base::numbers::MISSING;
 use base::rows::{IdRow, Record};
 
 // An index that may not be there.
-#[derive(Drop)]
+#[derive(Clone, Copy)]
 pub enum Found {
     At(usize),
     Nothing,

@@ -10,7 +10,7 @@ use base::rows::{IdRow, Record};
 use sheet::{Checked, Counts, check_rows};
 
 // A refusal's number and line, or none of 4 to 6.
-#[derive(Drop)]
+#[derive(Clone, Copy)]
 pub enum Fault {
     Refused { number: usize, line: usize },
     Fine,

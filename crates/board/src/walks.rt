@@ -14,7 +14,7 @@ use base::rows::{IdRow, Record};
 use sheet::row_of;
 
 // Where in the text a walk along the records goes on behind the rows; the line of a 4, and the first lines of a 5 and a 6 so far, 0 for none.
-#[derive(Drop)]
+#[derive(Clone, Copy)]
 pub struct Walk {
     pub place: usize,
     pub twice: usize,

@@ -29,7 +29,7 @@ fn held_id(index: &[IdRow], n: usize, id: NodeId) -> u32
 }
 
 // A wire's end: the anchor of its node, and whether the node itself may be on the bus.
-#[derive(Drop)]
+#[derive(Clone, Copy)]
 pub struct End {
     pub anchor: u32,
     pub open: bool,

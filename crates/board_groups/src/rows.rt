@@ -54,7 +54,7 @@ fn fill_keys(nodes: &[Record], keys: &mut [WorkRow])
 }
 
 // A row of a page: its page, its down, its number and its top.
-#[derive(Drop)]
+#[derive(Clone, Copy)]
 pub struct Run {
     pub page: u32,
     pub down: u32,

@@ -19,14 +19,14 @@ use lanes::pack::Packing;
 use lanes::rows::pack_rows;
 
 // The first page that opens one lane too many, or that every group which needs a lane has one.
-#[derive(Drop)]
+#[derive(Clone, Copy)]
 pub enum Plan {
     Crowded(usize),
     Laned,
 }
 
 // A board's plan, and how many taps it has.
-#[derive(Drop)]
+#[derive(Clone, Copy)]
 pub struct BoardPlan {
     pub plan: Plan,
     pub taps: usize,

@@ -1,4 +1,6 @@
 // `plan_bus`: from a sheet's text to the lanes of every page, with every refusal in its order. Each call of the router starts with `plan_text`.
+#![tactic(auto)]
+
 ghost use Rattle.std.specs.Prelude.{◌≡◌, true, List, ◌++◌, map, ℕ, ◌+◌, ◌≤◌, ◌<◌, min, length, drop};
 ghost use Rattle.sheet.specs.Table.{library_most};
 ghost use Rattle.lanes.specs.Lanes.{lane_most};
@@ -20,7 +22,7 @@ use sheet::{Checked, Counts, library_most};
 
 // The lengths of what is lent: rerouters, bus wires, suppressed ports, page answers, the rows of the shortest slice of work space, and bytes for the plan sheet's
 // text. A call that is not lent one of them says as much as the largest board asks for.
-#[derive(Drop)]
+#[derive(Clone, Copy)]
 pub struct Lent {
     pub rerouters: usize,
     pub bus_wires: usize,
@@ -31,7 +33,7 @@ pub struct Lent {
 }
 
 // What is asked beside the sheet: the most records taken of each section, and the lengths lent.
-#[derive(Drop)]
+#[derive(Clone, Copy)]
 pub struct Asked {
     pub most: Counts,
     pub lent: Lent,
@@ -39,7 +41,7 @@ pub struct Asked {
 
 // What planning a sheet's text answers: a refusal and its place, the line of the first crowded page, or that the tables hold the board and its lanes. A crowded
 // page is not refused here: what a call asks for beyond the lent lengths is a 7, and goes before the 8.
-#[derive(Drop)]
+#[derive(Clone, Copy)]
 pub enum TextPlan {
     Refused { number: usize, place: usize },
     Crowded { counts: Counts, place: usize },
@@ -47,7 +49,7 @@ pub enum TextPlan {
 }
 
 // What `plan_bus` answers: a refusal and its place, or how many pages have their answer.
-#[derive(Drop)]
+#[derive(Clone, Copy)]
 pub enum PagesPlan {
     Refused { number: usize, place: usize },
     Planned(usize),

@@ -1,5 +1,7 @@
 // Lanes of a page's gutter (`layout/bus.rs`, `allocate_lanes`): demands in the order of L2, each into its lane by L3. Here is the lane call
 // with its refusals; `pack` has the packing, `rows` the same over a table's rows and `table` the lane table.
+#![tactic(auto)]
+
 use base::rows::WorkRow;
 
 pub mod pack;
@@ -17,7 +19,7 @@ use pack::{BusDemand, COUNT_MOST, Packing, ROW_MOST, index_in, key_row, pack_key
 pub const DEMAND_MOST: usize = 8192;
 
 // The answer of the lane call: a refusal with its place, or how many lanes there are.
-#[derive(Drop)]
+#[derive(Clone, Copy)]
 pub enum Allocation {
     Incomplete(usize),
     TooMany,
@@ -29,7 +31,7 @@ pub enum Allocation {
 
 // The answer as numbers: the refusal's, 0 for none, its place, and the count of lanes.
 #[repr(C)]
-#[derive(Drop)]
+#[derive(Clone, Copy)]
 pub struct LaneReport {
     pub refusal: usize,
     pub place: usize,

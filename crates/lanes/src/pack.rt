@@ -14,14 +14,14 @@ pub(crate) const ROW_MOST: u32 = 4095;
 pub(crate) const COUNT_MOST: u32 = 8192;
 
 // The lanes in use, or the index of the demand that would open one too many.
-#[derive(Drop)]
+#[derive(Clone, Copy)]
 pub enum Packing {
     Lanes(usize),
     Full(usize),
 }
 
 // What a group asks of the bus: its first and last row, its consumers, and its place in source order.
-#[derive(Drop)]
+#[derive(Clone, Copy)]
 pub(crate) struct BusDemand {
     pub first: u32,
     pub last: u32,

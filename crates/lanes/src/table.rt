@@ -15,7 +15,7 @@ pub(crate) struct LaneTable {
 }
 
 // What a demand gets.
-#[derive(Drop)]
+#[derive(Clone, Copy)]
 pub(crate) enum Seat {
     Lane(u32),
     NoLane,

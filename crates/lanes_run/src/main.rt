@@ -1,5 +1,7 @@
 // Runs the lane call on worked lists. Each line has the refusal's number (0 for none), its place, the count of lanes, and the
 // first four lane answers, which hold 9 before the first call.
+#![tactic(auto)]
+
 use libc::STDOUT_FILENO;
 
 fn print_u32(x: u32) {

@@ -12,7 +12,7 @@ use routes_gutter::bus::{BusPlan, lay_bus};
 
 // A refusal and its place, 0 for none; and how many rerouters, bus wires and suppressed ports stand in the buffers, and how many groups were laid.
 #[repr(C)]
-#[derive(Drop)]
+#[derive(Clone, Copy)]
 pub struct PlanNumbers {
     pub refusal: usize,
     pub place: usize,

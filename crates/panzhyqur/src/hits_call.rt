@@ -11,7 +11,7 @@ use routes_hits::find::{HitsFound, find_hits};
 
 // A refusal and its place, 0 for none; how many rerouters and bus wires are hit; and how many rerouters, bus wires and suppressed ports stand in the buffers, and how many groups were laid.
 #[repr(C)]
-#[derive(Drop)]
+#[derive(Clone, Copy)]
 pub struct HitsNumbers {
     pub refusal: usize,
     pub place: usize,

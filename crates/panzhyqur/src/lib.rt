@@ -1,4 +1,6 @@
 // The calls for C and Rust, exported: each answer as a struct of numbers.
+#![tactic(auto)]
+
 pub mod answer_call;
 pub mod bus_calls;
 pub mod hits_call;

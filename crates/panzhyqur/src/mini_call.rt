@@ -13,7 +13,7 @@ use routes_gutter::bus::BusPlan;
 
 // A refusal and its place, 0 for none; and how many rerouters, bus wires and suppressed ports stand in the buffers.
 #[repr(C)]
-#[derive(Drop)]
+#[derive(Clone, Copy)]
 pub struct MiniNumbers {
     pub refusal: usize,
     pub place: usize,

@@ -12,7 +12,7 @@ use board_plan::{PagesPlan, plan_bus};
 
 // A refusal and its place, 0 for none; and how many pages have their answer.
 #[repr(C)]
-#[derive(Drop)]
+#[derive(Clone, Copy)]
 pub struct PagesNumbers {
     pub refusal: usize,
     pub place: usize,

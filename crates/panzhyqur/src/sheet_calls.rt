@@ -9,7 +9,7 @@ use sheet::{Checked, Counts, ReadAnswer, check_sheet, read_sheet};
 
 // A refusal and its line, 0 for none; and how many records of each section.
 #[repr(C)]
-#[derive(Drop)]
+#[derive(Clone, Copy)]
 pub struct SheetNumbers {
     pub refusal: usize,
     pub line: usize,

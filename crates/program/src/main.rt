@@ -1,4 +1,6 @@
 // Reads a board sheet from standard input and prints its plan sheet, or the E line that turns it away.
+#![tactic(auto)]
+
 use libc::{STDIN_FILENO, STDOUT_FILENO};
 use program_answer::Answer;
 use program_answer::calls::{INPUT_MOST, PLAN_MOST, respond};

@@ -1,4 +1,6 @@
 // `answer`: sheet bytes in, the plan sheet's bytes or the E line out.
+#![tactic(auto)]
+
 use base::rows::{BusWireRow, PageRow, PortRow, Record, RerouterRow, WorkRow};
 
 pub mod calls;
@@ -16,7 +18,7 @@ use routes_plan_sheet::write_plan;
 use sheet::Counts;
 
 // How many bytes were written; nothing where not even an E line has room, or where its line has more than 32 bits.
-#[derive(Drop)]
+#[derive(Clone, Copy)]
 pub enum Answer {
     Short,
     Written(usize),

@@ -1,5 +1,7 @@
 // Replays the recorded boards: routes each sheet at the program's limits and compares every byte of the answer with the recorded one. A case is a sheet, a line
 // `%%plan`, its answer and a line `%%`; after `%%plan!` the byte 10 before that line is not part of the sheet.
+#![tactic(auto)]
+
 ghost use Rattle.std.specs.Prelude.{◌≡◌, true, ◌+◌, ◌≤◌, ◌<◌, length};
 ghost use Rattle.routes.specs.Route.{sheet_of};
 ghost use Rattle.program_answer.specs.Answering.{program_routed};
@@ -18,7 +20,7 @@ const CUT: u8 = b'!';
 const FILE_MOST: usize = 1_048_576;
 
 // How many cases there are, how many of them agree, and where the first that does not begins; the text's length where all agree.
-#[derive(Drop)]
+#[derive(Clone, Copy)]
 struct Tally {
     cases: usize,
     agreed: usize,

@@ -8,21 +8,21 @@ use base::numbers::{MISSING, ORIGIN};
 use base::rows::{BusWireRow, RerouterRow};
 
 // What a bus wire leaves.
-#[derive(Drop)]
+#[derive(Clone, Copy)]
 pub enum End {
     Port { node: NodeId, port: u32 },
     Rerouter(RerouterId),
 }
 
 // An end, with the count of rerouters back to its port, itself included.
-#[derive(Drop)]
+#[derive(Clone, Copy)]
 pub struct Feed {
     pub end: End,
     pub depth: u32,
 }
 
 // A rerouter before it is placed, its coordinates as held: what feeds it gives it its depth.
-#[derive(Drop)]
+#[derive(Clone, Copy)]
 pub struct Rerouter {
     pub x: u32,
     pub y: u32,
@@ -37,7 +37,7 @@ pub struct Rerouter {
 }
 
 // How many rows of the two buffers are written.
-#[derive(Drop)]
+#[derive(Clone, Copy)]
 pub struct BusCount {
     pub rerouters: usize,
     pub wires: usize,
@@ -45,7 +45,7 @@ pub struct BusCount {
 
 // How many rerouters, bus wires and suppressed ports a bus has in the buffers.
 #[repr(C)]
-#[derive(Drop)]
+#[derive(Clone, Copy)]
 pub struct BusCounts {
     pub rerouters: usize,
     pub bus_wires: usize,
@@ -53,7 +53,7 @@ pub struct BusCounts {
 }
 
 // The bus after a rerouter, and the feed of that rerouter.
-#[derive(Drop)]
+#[derive(Clone, Copy)]
 pub struct Placed {
     pub count: BusCount,
     pub feed: Feed,

@@ -1,5 +1,5 @@
 // A stop's level: none, that of the group's last kept stop, or one of its own.
-#[derive(Drop)]
+#[derive(Clone, Copy)]
 pub enum Level {
     Dropped,
     Shared(u32),

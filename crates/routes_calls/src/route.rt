@@ -21,7 +21,7 @@ use routes_ports::settle::settle_ports;
 use sheet::Counts;
 
 // A refusal and its place; or how many records of each section there are, what stands in the buffers, and how many groups were laid.
-#[derive(Drop)]
+#[derive(Clone, Copy)]
 pub enum BusText {
     Refused {
         number: usize,

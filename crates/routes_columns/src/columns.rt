@@ -18,7 +18,7 @@ use routes::levels::Level;
 use routes_taps::taps::{Lane, News, Reached, TAP_RESERVE, Tap, lane_of, news_at, reach, tap_at};
 
 // Whether a tap's head and link are placed.
-#[derive(Drop)]
+#[derive(Clone, Copy)]
 pub struct Questions {
     pub head: bool,
     pub link: bool,

@@ -22,7 +22,7 @@ use base::rows::{BusWireRow, PortRow, Record, RerouterRow, WorkRow};
 use routes::bus::{BusCount, BusCounts};
 
 // No room for all that may turn, or the counts with the corners laid.
-#[derive(Drop)]
+#[derive(Clone, Copy)]
 pub enum Turned {
     Short,
     Laid(BusCount),

@@ -6,7 +6,7 @@ ghost use Rattle.routes_emit.specs.Emitting.{AnswersRoom, told};
 use base::rows::WorkRow;
 
 // Which of a tap's rerouters are placed.
-#[derive(Drop)]
+#[derive(Clone, Copy)]
 pub struct Answers {
     pub head: bool,
     pub source: bool,

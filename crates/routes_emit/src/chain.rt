@@ -10,7 +10,7 @@ use routes_taps::taps::Lane;
 
 // R12: what the walk over the taps holds: how much is written, the feed of links and taps, the tap of the group's last own level, and the end of the row's
 // chain so far.
-#[derive(Drop)]
+#[derive(Clone, Copy)]
 pub struct Emission {
     pub count: BusCount,
     pub upstream: Feed,

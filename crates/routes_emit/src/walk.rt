@@ -22,7 +22,7 @@ use routes::levels::Level;
 use routes_taps::taps::{Reached, lane_of, news_at, reach, tap_at};
 
 // What the walk over the taps has come to.
-#[derive(Drop)]
+#[derive(Clone, Copy)]
 pub struct Walk {
     pub emission: Emission,
     pub reached: Reached,

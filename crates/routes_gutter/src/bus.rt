@@ -8,7 +8,7 @@ use base::rows::{BusWireRow, PortRow, Record, RerouterRow, WorkRow};
 use board_plan::{ANSWERS_MOST, MARK_ROWS, TextPlan, ask, plan_text};
 
 // A refusal and its place; or how many rerouters, bus wires and suppressed ports stand in the buffers, and how many groups were laid.
-#[derive(Drop)]
+#[derive(Clone, Copy)]
 pub enum BusPlan {
     Refused {
         number: usize,

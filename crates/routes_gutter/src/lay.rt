@@ -19,7 +19,7 @@ use routes_levels::stops::lay_taps;
 use routes_rows::book::CELLS_MOST;
 
 // How many rows of the buffers are written, and how many groups are laid.
-#[derive(Drop)]
+#[derive(Clone, Copy)]
 pub struct LanesLaid {
     pub count: BusCount,
     pub groups: usize,

@@ -13,7 +13,7 @@ use routes_ports::settle::settle_ports;
 use sheet::Counts;
 
 // A bus in the buffers, and how many groups it was laid for.
-#[derive(Drop)]
+#[derive(Clone, Copy)]
 pub struct BusLaid {
     pub bus: BusCounts,
     pub groups: usize,

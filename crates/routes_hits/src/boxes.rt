@@ -9,7 +9,7 @@ use base::rows::RerouterRow;
 
 // H1: a page, a range of x and a range of y. The four numbers of the ranges are in two's complement.
 #[repr(C)]
-#[derive(Drop)]
+#[derive(Clone, Copy)]
 pub struct PageBox {
     pub page: u32,
     pub x0: u32,

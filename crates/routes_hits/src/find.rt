@@ -16,7 +16,7 @@ use sheet::Counts;
 pub const HITS_A_WIRE: usize = 21;
 
 // A refusal and its place; or the counts of hits, how many rows of the plan there are, and how many groups were laid.
-#[derive(Drop)]
+#[derive(Clone, Copy)]
 pub enum HitsFound {
     Refused {
         number: usize,
@@ -30,7 +30,7 @@ pub enum HitsFound {
 }
 
 // A sheet's board that is planned and has the box; or the first refusal.
-#[derive(Drop)]
+#[derive(Clone, Copy)]
 pub enum BoxPlan {
     Refused { number: usize, place: usize },
     Laned { counts: Counts, taps: usize },

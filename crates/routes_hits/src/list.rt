@@ -11,7 +11,7 @@ use base::rows::{BusWireRow, RerouterRow};
 
 // H5: how many rerouters and how many bus wires are hit.
 #[repr(C)]
-#[derive(Drop)]
+#[derive(Clone, Copy)]
 pub struct HitCounts {
     pub rerouters: usize,
     pub wires: usize,

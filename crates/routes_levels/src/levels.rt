@@ -9,7 +9,7 @@ use base::numbers::REROUTER_SIZE;
 pub const STAGGER_STEP: u32 = 2;
 
 // A level, or none.
-#[derive(Drop)]
+#[derive(Clone, Copy)]
 pub enum Found {
     None,
     At(u32),

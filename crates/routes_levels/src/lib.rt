@@ -1,4 +1,6 @@
 // The stops of a lane and their levels.
+#![tactic(auto)]
+
 pub mod finding;
 pub mod laying;
 pub mod levels;

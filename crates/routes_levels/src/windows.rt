@@ -13,7 +13,7 @@ use base::numbers::{MISSING, REROUTER_SIZE};
 pub const CLAIMED: u32 = MISSING;
 
 // The lightest level so far and its load, which is that of a claimed level where there is none.
-#[derive(Drop)]
+#[derive(Clone, Copy)]
 pub struct Lightest {
     pub level: Found,
     pub load: u32,

@@ -1,4 +1,6 @@
 // The finished plan as text: the buffers, counted and written.
+#![tactic(auto)]
+
 use base::numbers::MISSING;
 use base::rows::{BusWireRow, PageRow, PortRow, RerouterRow};
 

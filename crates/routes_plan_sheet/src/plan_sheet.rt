@@ -201,7 +201,7 @@ fn put_port_lines(out: &mut [u8], at: usize, ports: &[PortRow], n: usize) -> usi
 }
 
 // What the T line counts.
-#[derive(Drop)]
+#[derive(Clone, Copy)]
 pub struct Totals {
     pub rerouters: u32,
     pub bus_wires: u32,

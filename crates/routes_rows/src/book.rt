@@ -8,7 +8,7 @@ ghost use Rattle.routes_rows.specs.Booking.{cell_of, item_cell, order_at, begins
 use base::rows::WorkRow;
 
 // A cell, half-open.
-#[derive(Drop)]
+#[derive(Clone, Copy)]
 pub struct Cell {
     pub x0: u32,
     pub x1: u32,

@@ -16,7 +16,7 @@ use routes::levels::Level;
 pub const TAP_RESERVE: u32 = 5;
 
 // One wire that a lane carries, and where its target stands.
-#[derive(Drop)]
+#[derive(Clone, Copy)]
 pub struct Tap {
     pub page: u32,
     pub group: u32,
@@ -29,7 +29,7 @@ pub struct Tap {
 }
 
 // What every rerouter of a group's lane shares, the port that feeds it, and its source anchor: no x where that is unplaced, no row where it is not known.
-#[derive(Drop)]
+#[derive(Clone, Copy)]
 pub struct Lane {
     pub page: u32,
     pub lane: u32,
@@ -45,7 +45,7 @@ pub struct Lane {
 }
 
 // Where a tap stands among those before it.
-#[derive(Drop)]
+#[derive(Clone, Copy)]
 pub struct News {
     pub group: bool,
     pub row: bool,
@@ -53,7 +53,7 @@ pub struct News {
 }
 
 // How many stops are reached, and the level of the newest.
-#[derive(Drop)]
+#[derive(Clone, Copy)]
 pub struct Reached {
     pub stops: usize,
     pub level: Level,

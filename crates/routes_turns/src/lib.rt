@@ -1,1 +1,2 @@
 // Corners decided before they are written, row by row.
+#![tactic(auto)]

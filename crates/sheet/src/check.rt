@@ -10,14 +10,14 @@ use crate::table::COLUMNS;
 use base::rows::Record;
 
 // A sheet's refusal and its line, or how many lines it has and how many records of each section.
-#[derive(Drop)]
+#[derive(Clone, Copy)]
 pub enum Survey {
     Refused { number: usize, line: usize },
     Fine { lines: usize, counts: Counts },
 }
 
 // What the pass finds, and where the first line without a row starts.
-#[derive(Drop)]
+#[derive(Clone, Copy)]
 pub struct Surveyed {
     pub survey: Survey,
     pub rest: usize,

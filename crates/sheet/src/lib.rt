@@ -1,4 +1,6 @@
 // Everything about text: board sheets are read here and plan sheets are written, and refusals 1 to 3 are decided.
+#![tactic(auto)]
+
 ghost use Rattle.std.specs.Prelude.{◌≡◌, ◌≤◌, true, ◌++◌, length, drop};
 ghost use Rattle.sheet.specs.Reading.{reading, rows_from, sheet_lines, listed};
 ghost use Rattle.sheet.specs.Answer.{checked_of, read_of, rows_after, row_at, row_from, counts_from, HeldIf};
@@ -19,7 +21,7 @@ pub mod write;
 
 // How many records of each section: P, N, C, F, X, W. Of a sheet, or the most that a caller takes.
 #[repr(C)]
-#[derive(Drop)]
+#[derive(Clone, Copy)]
 pub struct Counts {
     pub pages: usize,
     pub nodes: usize,
@@ -30,21 +32,21 @@ pub struct Counts {
 }
 
 // What checking a sheet answers: a refusal with its line, or how many records of each section there are.
-#[derive(Drop)]
+#[derive(Clone, Copy)]
 pub enum Checked {
     Refused { number: usize, line: usize },
     Fine(Counts),
 }
 
 // What checking a sheet with rows lent for its lines answers, and where the first line without a row starts.
-#[derive(Drop)]
+#[derive(Clone, Copy)]
 pub struct RowsChecked {
     pub checked: Checked,
     pub rest: usize,
 }
 
 // What reading a sheet into rows answers. Short: fewer rows were lent than the sheet has lines.
-#[derive(Drop)]
+#[derive(Clone, Copy)]
 pub enum ReadAnswer {
     Refused { number: usize, line: usize },
     Short,
@@ -52,7 +54,7 @@ pub enum ReadAnswer {
 }
 
 // The row of one line, and where in the text a walk goes on after it.
-#[derive(Drop)]
+#[derive(Clone, Copy)]
 pub struct RowAt {
     pub row: [u32; 16],
     pub next: usize,

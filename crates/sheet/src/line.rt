@@ -13,7 +13,7 @@ use crate::walk::part_from;
 use base::numbers::{MISSING, NEWLINE, TAB};
 
 // What one field holds: the number held, a number that can be read and is out of range, or nothing that may stand there.
-#[derive(Drop)]
+#[derive(Clone, Copy)]
 pub enum Cell {
     Holds(u32),
     OutOfRange,
@@ -21,7 +21,7 @@ pub enum Cell {
 }
 
 // A line: whether it can be read and its numbers are in range, its section, and where the next line starts.
-#[derive(Drop)]
+#[derive(Clone, Copy)]
 pub struct LineAt {
     pub read: bool,
     pub fits: bool,

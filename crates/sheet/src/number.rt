@@ -6,7 +6,7 @@ ghost use Rattle.sheet.specs.Walk.{number_in, digits_read, DigitSays, FirstDigit
 use base::numbers::{DIGITS_MOST, MINUS, ZERO};
 
 // What a field says.
-#[derive(Drop)]
+#[derive(Clone, Copy)]
 pub enum Scanned {
     Bad,
     Missing,

@@ -5,7 +5,7 @@ ghost use Rattle.sheet.specs.Text.{part_of};
 ghost use Rattle.sheet.specs.Places.{part_end, behind_end, behind_part};
 
 // A text and a place in it. A place past the end stands for the end.
-#[derive(Drop)]
+#[derive(Clone, Copy)]
 pub struct SheetWalker<'a> {
     pub text: &'a [u8],
     pub at: usize,

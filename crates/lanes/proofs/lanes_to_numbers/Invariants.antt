@@ -1,0 +1,15 @@
+-- `lanes::lanes_to_numbers` meets its contract: a row is spread with each turn. Assumes nothing.
+use borrow.Author.Rules.{rules}
+use mathlib.Core.Path.{◌≡◌, refl, ◌∙◌}
+use Prim.Native.Nat.{ℕ, ◌≤◌, ◌<◌, ◌-◌}
+use native.Mathlib.Omega.{arith}
+use lib.ListN.{length, take, length-set}
+use Rattle.lanes.specs.Keys.{lanes_in, spread}
+use Rattle.lanes.proofs.SpreadLaws.{spread_more, spread_done}
+use Rattle.lanes.proofs.lanes_to_numbers.Given as goal
+
+abbrev pub invariant-loop-k : goal.invariant-loop-k
+invariant-loop-k l = (l.k ≤ length l.keys) × (length l.lanes ≡ length l.initial.lanes) × (l.lanes ≡ lanes_in (take l.k l.keys) l.initial.lanes)
+
+abbrev pub decreases-loop-k : goal.decreases-loop-k
+decreases-loop-k l = length l.keys - l.k
