@@ -49,7 +49,7 @@ packed_numbers-requires c = let l : length (take (length c.args.demands.now / 4)
 
 pub returns-in-Lanes : goal.returns-in-Lanes
 unfolding report_of
-returns-in-Lanes c = 
+returns-in-Lanes c =
     let called : lane_call c.args.demands.now (length c.args.lanes.now) (length c.args.work.now) (length c.args.spare.now) ≡ answer_to (packed (demands_of c.args.demands.now)) = call_packed c.args.demands.now c.args.lanes.now (length c.args.work.now) (length c.args.spare.now) c.if-demands-gt0.false c.if-n-gt-DEMAND_MOST.false c.first_fault-fault.result c.first_fault-fault.ensures c.if-fault-n.false
     c.if-lanes-n.false c.if-work-n.false c.if-spare-n.false in
     by_lanes c.args.demands.now c.args.lanes.now c.packed_numbers.new.lanes (length c.args.work.now) (length c.args.spare.now) (called) c.in-Lanes.count
@@ -57,7 +57,7 @@ returns-in-Lanes c =
 
 pub returns-in-Full : goal.returns-in-Full
 unfolding report_of
-returns-in-Full c = 
+returns-in-Full c =
     let called : lane_call c.args.demands.now (length c.args.lanes.now) (length c.args.work.now) (length c.args.spare.now) ≡ answer_to (packed (demands_of c.args.demands.now)) = call_packed c.args.demands.now c.args.lanes.now (length c.args.work.now) (length c.args.spare.now) c.if-demands-gt0.false c.if-n-gt-DEMAND_MOST.false c.first_fault-fault.result c.first_fault-fault.ensures c.if-fault-n.false
     c.if-lanes-n.false c.if-work-n.false c.if-spare-n.false in
     by_full c.args.demands.now c.args.lanes.now c.packed_numbers.new.lanes (length c.args.work.now) (length c.args.spare.now) (called) c.in-Full.index

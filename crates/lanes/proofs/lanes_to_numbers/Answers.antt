@@ -15,12 +15,12 @@ pub index_in-i-requires : goal.index_in-i-requires
 index_in-i-requires c = tt
 
 pub offset_bounds-lanes-i : goal.offset_bounds-lanes-i
-offset_bounds-lanes-i c = 
+offset_bounds-lanes-i c =
     let index_below : c.index_in-i.result < length c.loop-k.lanes = omega (arith, c.index_in-i.ensures, c.requires c.loop-k.k (omega arith)) in
     omega (arith, index_below)
 
 pub bounds-lanes-i : goal.bounds-lanes-i
-bounds-lanes-i c = 
+bounds-lanes-i c =
     let index_below : c.index_in-i.result < length c.loop-k.lanes = omega (arith, c.index_in-i.ensures, c.requires c.loop-k.k (omega arith)) in
     index_below
 

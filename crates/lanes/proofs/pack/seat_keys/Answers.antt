@@ -18,12 +18,12 @@ unfolding spread
 loop-k-init c = (search rules, refl, search rules, refl, (λ lanes. refl), search rules)
 
 pub overflow_cast-row : goal.overflow_cast-row
-overflow_cast-row c = 
+overflow_cast-row c =
     let fits : (get_or (get_or c.loop-k.keys c.loop-k.k []) 4 0 ≤ row_most) × (get_or (get_or c.loop-k.keys c.loop-k.k []) 5 0 ≤ row_most) = row_fits c.args.keys.now c.loop-k.keys c.loop-k.invariant.3 c.requires c.loop-k.k (omega arith) in
     omega (arith, (fits).0)
 
 pub overflow_cast-row-in-loop-k : goal.overflow_cast-row-in-loop-k
-overflow_cast-row-in-loop-k c = 
+overflow_cast-row-in-loop-k c =
     let fits : (get_or (get_or c.loop-k.keys c.loop-k.k []) 4 0 ≤ row_most) × (get_or (get_or c.loop-k.keys c.loop-k.k []) 5 0 ≤ row_most) = row_fits c.args.keys.now c.loop-k.keys c.loop-k.invariant.3 c.requires c.loop-k.k (omega arith) in
     omega (arith, (fits).1)
 

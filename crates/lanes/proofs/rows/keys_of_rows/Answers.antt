@@ -20,23 +20,22 @@ demand_in-requires c = tt
 
 pub key_row-requires : goal.key_row-requires
 unfolding demand_of
-key_row-requires c = 
+key_row-requires c =
     let demand-there : demand_in c.demand_in.result ≡ get_or (map demand_of c.args.demands.now) c.loop-i.i no_demand = c.demand_in.ensures.0 ∙ sym (get_or-map demand_of c.args.demands.now c.loop-i.i []) in
     ap faulty (demand-there) ∙ c.requires.2 c.loop-i.i (omega arith)
 
 pub loop-i-preserved : goal.loop-i-preserved
 unfolding demand_of
-loop-i-preserved c = 
-    let demand-there : demand_in c.demand_in.result ≡ get_or (map demand_of c.args.demands.now) c.loop-i.i no_demand = c.demand_in.ensures.0 ∙ sym (get_or-map demand_of c.args.demands.now c.loop-i.i []) in
-    (
-  omega arith,
-  length-set c.loop-i.keys c.loop-i.i c.key_row.result ∙ c.loop-i.invariant.1,
-  c.loop-i.invariant.2,
-  copied_more (map key_of (entries 0 (map demand_of c.args.demands.now))) c.loop-i.keys c.loop-i.i [] c.key_row.result
-      (key_at_lem (map demand_of c.args.demands.now) c.loop-i.i c.key_row.result (demand_in c.demand_in.result) (omega arith) c.key_row.ensures (demand-there))
-      (omega arith) (omega (arith, length_keys 0 (map demand_of c.args.demands.now))) c.loop-i.invariant.3,
-  below_more _ c.loop-i.i c.loop-i.invariant.4 c.demand_in.ensures.1,
-)
+loop-i-preserved c =
+    let demand-there : demand_in c.demand_in.result ≡ get_or (map demand_of c.args.demands.now) c.loop-i.i no_demand = c.demand_in.ensures.0 ∙ sym (get_or-map demand_of c.args.demands.now c.loop-i.i []) in (
+      omega arith,
+      length-set c.loop-i.keys c.loop-i.i c.key_row.result ∙ c.loop-i.invariant.1,
+      c.loop-i.invariant.2,
+      copied_more (map key_of (entries 0 (map demand_of c.args.demands.now))) c.loop-i.keys c.loop-i.i [] c.key_row.result
+          (key_at_lem (map demand_of c.args.demands.now) c.loop-i.i c.key_row.result (demand_in c.demand_in.result) (omega arith) c.key_row.ensures (demand-there))
+          (omega arith) (omega (arith, length_keys 0 (map demand_of c.args.demands.now))) c.loop-i.invariant.3,
+      below_more _ c.loop-i.i c.loop-i.invariant.4 c.demand_in.ensures.1,
+    )
 
 pub shape_of-keys : goal.shape_of-keys
 shape_of-keys c = c.loop-i.invariant.1

@@ -16,12 +16,12 @@ pub index_in-i-requires : goal.index_in-i-requires
 index_in-i-requires c = tt
 
 pub offset_bounds-demands-i : goal.offset_bounds-demands-i
-offset_bounds-demands-i c = 
+offset_bounds-demands-i c =
     let index_below : c.index_in-i.result < length c.loop-k.demands = omega (arith, c.index_in-i.ensures, c.requires c.loop-k.k (omega arith)) in
     omega (arith, index_below)
 
 pub bounds-demands-i : goal.bounds-demands-i
-bounds-demands-i c = 
+bounds-demands-i c =
     let index_below : c.index_in-i.result < length c.loop-k.demands = omega (arith, c.index_in-i.ensures, c.requires c.loop-k.k (omega arith)) in
     index_below
 

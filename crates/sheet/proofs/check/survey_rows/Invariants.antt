@@ -1,0 +1,15 @@
+-- `sheet::check::survey_rows` meets its contract. The pass keeps, at each line, the first line of each refusal so far, how many records there are, and the rows of
+-- the lines behind. Assumes nothing.
+use Rattle.std.proofs.Common.{◌≡◌, ◌+◌, ◌-◌, ◌<◌, length, sym, refl, ap, ◌∙◌, arith}
+use borrow.Author.Tests.{not-true, not-false}
+use Rattle.sheet.specs.Table.{SECTIONS}
+use Rattle.sheet.specs.Walk.{survey_of}
+use Rattle.sheet.proofs.Surveys.{Tallied, tally_start, tally_unread, tally_unordered, tally_step, tally_ends, line_read_lem}
+use Rattle.sheet.proofs.Keeping.{Keeping, keeping_start, keeping_step, keeping_ends, held_refused}
+use Rattle.sheet.proofs.check.survey_rows.Given as goal
+
+abbrev pub invariant-loop-at : goal.invariant-loop-at
+invariant-loop-at l = (length l.rows ≡ length l.initial.rows) × Tallied l.text l.most l.section l.counts l.over l.wide l.at (l.k + 1) × Keeping l.text l.rows l.k l.at l.rest
+
+abbrev pub decreases-loop-at : goal.decreases-loop-at
+decreases-loop-at l = length l.text - l.at

@@ -1,0 +1,14 @@
+-- `sheet::line::fields_at` meets its contract. The record is what the fields passed leave of it: the columns from `i` on, over the text from `next` on.
+-- Assumes nothing.
+use Rattle.std.proofs.Common.{◌≡◌, ℕ, ◌+◌, ◌-◌, ◌^◌, ◌<◌, ◌≤◌, length, drop, sym, ap, ◌∙◌, arith}
+use Rattle.sheet.specs.Text.{part_of}
+use Rattle.sheet.specs.Table.{columns_of}
+use Rattle.sheet.proofs.Columns.{spread, ranged}
+use Rattle.sheet.proofs.Turns.{Along, along_start, Taken, as_many, along_malformed, along_inside, along_turn, along_unended, along_done, says_unread}
+use Rattle.sheet.proofs.line.fields_at.Given as goal
+
+abbrev pub invariant-loop-i : goal.invariant-loop-i
+invariant-loop-i l = Along l.text l.at l.s l.row l.fits l.next l.i
+
+abbrev pub decreases-loop-i : goal.decreases-loop-i
+decreases-loop-i l = length l.columns - l.i

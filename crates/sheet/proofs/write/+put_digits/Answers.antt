@@ -1,0 +1,30 @@
+use Rattle.std.proofs.Common.{ℕ, ◌-◌, ◌/◌, ◌<◌, arith, rules}
+use Rattle.sheet.proofs.Writing.{wrote_none, wrote_one, wrote_last, digits_length}
+use Rattle.sheet.proofs.write.+put_digits.Goals as goal
+
+pub returns-then-most-eq0 : goal.returns-then-most-eq0
+returns-then-most-eq0 t c = wrote_none _ _ _ _ c.if-most-eq0.true
+
+pub put_byte-requires : goal.put_byte-requires
+put_byte-requires t c = omega (arith, c.if-most-eq0.false)
+
+pub returns-then-n-lt10 : goal.returns-then-n-lt10
+returns-then-n-lt10 t c = wrote_one _ _ _ _ _ _ c.if-most-eq0.false (search rules) c.put_byte.ensures
+
+pub overflow_sub-most : goal.overflow_sub-most
+overflow_sub-most t c = omega (arith, c.if-most-eq0.false)
+
+pub put_digits-last-requires : goal.put_digits-last-requires
+put_digits-last-requires t c = (omega (arith, c.if-most-eq0.false), omega (arith, c.if-most-eq0.false))
+
+pub put_byte-requires-2 : goal.put_byte-requires-2
+put_byte-requires-2 t c = omega (
+  arith,
+  c.if-most-eq0.false,
+  c.put_digits-last.ensures.place,
+  c.put_digits-last.auto.out,
+  digits_length (c.args.most - 1) (c.args.n / 10),
+)
+
+pub returns : goal.returns
+returns t c = wrote_last _ _ _ _ _ _ _ _ c.if-most-eq0.false c.if-n-lt10.false c.requires c.put_digits-last.ensures c.put_byte-2.ensures
