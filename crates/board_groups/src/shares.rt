@@ -33,7 +33,7 @@ fn fill_keys(wires: &[Record], taps: &[WorkRow], m: usize, keys: &mut [u64])
 }
 
 // Whether two taps are of one page, and their wires of one source node and port.
-fn same_key_lem(a: [u32; 8], b: [u32; 8], from: [u32; 16], other: [u32; 16]) -> bool
+fn same_key(a: [u32; 8], b: [u32; 8], from: [u32; 16], other: [u32; 16]) -> bool
     ensures { result ≡ (eqb (get_or a 0 0) (get_or b 0 0) && eqb (get_or from 1 0) (get_or other 1 0) && eqb (get_or from 2 0) (get_or other 2 0)) }
 {
     if a[0] != b[0] {
@@ -52,7 +52,7 @@ fn have_one_key(wires: &[Record], taps: &[WorkRow], j: usize, k: usize) -> bool
 {
     let a = taps[j];
     let b = taps[k];
-    same_key_lem(a, b, wires[a[7] as usize], wires[b[7] as usize])
+    same_key(a, b, wires[a[7] as usize], wires[b[7] as usize])
 }
 
 // The wire of the first tap with the key of tap k.

@@ -1,7 +1,7 @@
 -- S15: the plan fits into what is lent, and after `lay_bus` so does all that the corner pass may add.
 use Rattle.std.proofs.Common.{◌≡◌, ℕ, zero, suc, ◌+◌, ◌*◌, ◌<◌, ◌≤◌, Bool, true, false, ◌&&◌, ◌||◌, eqb, ltb, List, [], ◌∷◌, length, refl, ap, arith, eq-eqb, ne_eqb}
 use native.Mathlib.Decide.{ℕ_discrete}
-use mathlib.Core.Bool.{or_true}
+use mathlib.Core.Bool.{or-true}
 use Rattle.base.specs.Lists.{any, keep, fold, upto}
 use Rattle.board.specs.Board.{Board}
 use Rattle.board.specs.Accepted.{Accepted}
@@ -32,7 +32,7 @@ one_more p v zero h e = absurd (omega arith)
 one_more p v (suc n) h e = go (ℕ_discrete v n) (p n) refl (one_more p v n)
   where
     weaker : (w : ℕ) → p w ≡ true → or_this p v w ≡ true
-    weaker w q = rw q (or_true (eqb v w))
+    weaker w q = rw q (or-true (eqb v w))
 
     go : Dec (v ≡ n) → (t : Bool) → p n ≡ t → (v < n → p v ≡ false → length (keep p (upto n)) < length (keep (or_this p v) (upto n)))
         → length (keep p (n ∷ upto n)) < length (keep (or_this p v) (n ∷ upto n))

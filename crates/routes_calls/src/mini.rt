@@ -24,7 +24,7 @@ fn holds(held: BusCounts, rerouters: usize, bus_wires: usize, ports: usize) -> b
 }
 
 // Whether the buffers hold what is handed in, with room for all that may turn on a board whose records stand in rows.
-fn held_fits_lem(
+fn held_fits(
     held: BusCounts,
     records: &[Record],
     counts: Counts,
@@ -138,7 +138,7 @@ pub fn lay_mini_bus(
     ) {
         TextPlan::Refused { number, place } => BusPlan::Refused { number, place },
         TextPlan::Crowded { counts, place } => {
-            let fits = held_fits_lem(held, records, counts, facts, rerouters, bus_wires, ports);
+            let fits = held_fits(held, records, counts, facts, rerouters, bus_wires, ports);
             refuse_crowded(fits, place)
         }
         TextPlan::Laned { counts, taps: _ } => turn_held(

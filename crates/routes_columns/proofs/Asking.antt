@@ -100,11 +100,11 @@ module _ (t : Tap) (l : Lane) (news : News) (level : Level) {starts nexts xs nex
   tap_asked = record { more = two_more; told = told }
 
 -- The row of a tap's questions, number by number.
-pub row_is : (l : Lane) (news : News) (level : Level) (head link keeps : Bool) (a b c d s : ℕ) → keeps ≡ is_kept level → a ≡ flag head → b ≡ flag link → c ≡ flag (head && not (eqb l.source_row_lem MISSING))
+pub row_is : (l : Lane) (news : News) (level : Level) (head link keeps : Bool) (a b c d s : ℕ) → keeps ≡ is_kept level → a ≡ flag head → b ≡ flag link → c ≡ flag (head && not (eqb l.source_row MISSING))
     → d ≡ flag (news.column && keeps) → s ≡ served_at level
-    → ◌≡◌ {A = List ℕ} (a ∷ b ∷ c ∷ d ∷ l.source_row_lem ∷ l.source_x ∷ (l.source_y - 5) ∷ s ∷ []) (row_in l news level head link)
+    → ◌≡◌ {A = List ℕ} (a ∷ b ∷ c ∷ d ∷ l.source_row ∷ l.source_x ∷ (l.source_y - 5) ∷ s ∷ []) (row_in l news level head link)
 row_is l news level head link keeps a b c d s ek ea eb ec ed es =
-    λ i. ea i ∷ eb i ∷ ec i ∷ (ed ∙ ap (λ v. flag (news.column && v)) ek) i ∷ l.source_row_lem ∷ l.source_x ∷ (l.source_y - 5) ∷ es i ∷ []
+    λ i. ea i ∷ eb i ∷ ec i ∷ (ed ∙ ap (λ v. flag (news.column && v)) ek) i ∷ l.source_row ∷ l.source_x ∷ (l.source_y - 5) ∷ es i ∷ []
 
 -- A row that may not be known.
 row_known : (v : ℕ) (f : Found) → RowHeld v f → not (eqb v MISSING) ≡ found f
@@ -153,9 +153,9 @@ module _ (b : Board) (ts : List Groups.Tap) (ps : List PageLanes) (ls : List Gro
       λ i.
       flag ((eh ∙ head_same a.claims) i)
       ∷ flag ((el ∙ link_same a.claims) i)
-      ∷ flag ((eh ∙ head_same a.claims) i && row_known l.source_row_lem (source_row b t.group t.page) lane.row i)
+      ∷ flag ((eh ∙ head_same a.claims) i && row_known l.source_row (source_row b t.group t.page) lane.row i)
       ∷ flag (n.column i && is_kept level)
-      ∷ row_held l.source_row_lem (source_row b t.group t.page) lane.row i
+      ∷ row_held l.source_row (source_row b t.group t.page) lane.row i
       ∷ lane.source_x i
       ∷ (lane.source_y i - TAP_RESERVE)
       ∷ served_at level

@@ -128,9 +128,9 @@ abbrev pub row_in : Lane → News → Level → Bool → Bool → List ℕ
 row_in l news level head link =
     flag head
     ∷ flag link
-    ∷ flag (head && not (eqb l.source_row_lem MISSING))
+    ∷ flag (head && not (eqb l.source_row MISSING))
     ∷ flag (news.column && is_kept level)
-    ∷ l.source_row_lem
+    ∷ l.source_row
     ∷ l.source_x
     ∷ (l.source_y - TAP_RESERVE)
     ∷ served_at level

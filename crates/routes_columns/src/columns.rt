@@ -94,14 +94,14 @@ fn question_row(l: Lane, news: News, level: Level, head: bool, link: bool) -> [u
     requires { LaneRanges l }
     ensures { result ≡ row_in l news (stop_level_of level) head link }
 {
-    let asks_source = head & (l.source_row_lem != MISSING);
+    let asks_source = head & (l.source_row != MISSING);
     let asks_gate_side = news.column & is_kept(level);
     [
         number(head),
         number(link),
         number(asks_source),
         number(asks_gate_side),
-        l.source_row_lem,
+        l.source_row,
         l.source_x,
         l.source_y - TAP_RESERVE,
         served_at(level),

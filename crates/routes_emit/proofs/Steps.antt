@@ -104,16 +104,16 @@ module _ (b : Board) (ts : List Groups.Tap) (ps : List PageLanes) (t : Groups.Ta
   row_rerouter_lem row row' x x' y y' rotation role part er ex ey =
       λ i. record { x = ex i; y = ey i; z = k.z i; rotation = rotation; role = role; part = part; colour = k.colour i; page = k.page i; lane = MISSING; row = er i; depth = unfed }
 
-  row_held : l.source_row_lem ≡ held (source_row b t.group t.page)
+  row_held : l.source_row ≡ held (source_row b t.group t.page)
   row_held = go (source_row b t.group t.page) k.row
     where
-      go : (f : Found) → RowHeld l.source_row_lem f → l.source_row_lem ≡ held f
+      go : (f : Found) → RowHeld l.source_row f → l.source_row ≡ held f
       go none h = h
       go (at r) h = h.0
 
   -- R6: a source rerouter.
   module _ (s : Rerouters.Emission) (so : Bool) where
-    pub source_stands : (new : Rerouter) → rerouter_of new ≡ row_rerouter_of l l.source_row_lem l.source_x (l.source_y - TAP_RESERVE) 2 role_source part_source → so ≡ true → hung_on (rerouter_of new) s ≡ source_by b ts ps so s t
+    pub source_stands : (new : Rerouter) → rerouter_of new ≡ row_rerouter_of l l.source_row l.source_x (l.source_y - TAP_RESERVE) 2 role_source part_source → so ≡ true → hung_on (rerouter_of new) s ≡ source_by b ts ps so s t
     source_stands new e y =
         ap (λ x. hung_on x s) (e ∙ row_rerouter_lem _ _ _ _ (l.source_y - TAP_RESERVE) (y_of b (source b ts ps t) - TAP_RESERVE) 2 role_source part_source row_held k.source_x (ap (λ v. v - TAP_RESERVE) k.source_y))
         ∙ ap (λ v. source_by b ts ps v s t) (sym y)

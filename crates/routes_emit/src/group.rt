@@ -62,7 +62,7 @@ fn with_source(
             e,
             row_rerouter(
                 l,
-                l.source_row_lem,
+                l.source_row,
                 l.source_x,
                 y,
                 2,

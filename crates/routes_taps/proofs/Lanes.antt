@@ -210,7 +210,7 @@ pub lane_read_lem : (pages nodes wires facts groups : List (List ℕ)) (page gro
       port = field wires group 2;
       source_x = field nodes (field facts group 2) 8;
       source_y = field nodes (field facts group 2) 9;
-      source_row_lem = row;
+      source_row = row;
     })
     (lane_read pages nodes wires facts groups page group)
 lane_read_lem pages nodes wires facts groups page group y rotation row ey er ew =
@@ -226,7 +226,7 @@ lane_read_lem pages nodes wires facts groups page group y rotation row ey er ew 
       port = field wires group 2;
       source_x = field nodes (field facts group 2) 8;
       source_y = field nodes (field facts group 2) 9;
-      source_row_lem = ew i;
+      source_row = ew i;
     }
 
 -- A new row reaches the next stop.

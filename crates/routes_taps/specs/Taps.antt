@@ -42,7 +42,7 @@ pub record LaneOf (b : Board) (ts : List Groups.Tap) (ps : List PageLanes) (t : 
   pub port : l.port ≡ source_port b t.group
   pub source_x : l.source_x ≡ x_of b (source b ts ps t)
   pub source_y : l.source_y ≡ y_of b (source b ts ps t)
-  pub row : RowHeld l.source_row_lem (source_row b t.group t.page)
+  pub row : RowHeld l.source_row (source_row b t.group t.page)
 
 -- The numbers of a lane are in range: it is on a page, and has a number; a rerouter's place left of its source is no negative number.
 pub record LaneRanges (l : Lane) : Type 0 where
@@ -90,7 +90,7 @@ lane_read pages nodes wires facts groups page group =
       port = field wires group 2;
       source_x = field nodes s 8;
       source_y = field nodes s 9;
-      source_row_lem = row_on_page nodes facts s page;
+      source_row = row_on_page nodes facts s page;
     }
 
 abbrev pub tap_read : List ℕ → Tap

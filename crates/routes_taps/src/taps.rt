@@ -41,7 +41,7 @@ pub struct Lane {
     pub port: u32,
     pub source_x: u32,
     pub source_y: u32,
-    pub source_row_lem: u32,
+    pub source_row: u32,
 }
 
 // Where a tap stands among those before it.
@@ -78,7 +78,7 @@ fn chain_rotation(x: u32, low: u32) -> u32
 }
 
 // G10: the row of the source anchor, where that stands on the page.
-fn source_row_lem(nodes: &[Record], facts: &[WorkRow], s: usize, page: u32) -> u32
+fn source_row(nodes: &[Record], facts: &[WorkRow], s: usize, page: u32) -> u32
     requires { (s < length nodes.now) × (s < length facts.now) }
     ensures { result ≡ row_on_page nodes.now facts.now s page }
 {
@@ -108,7 +108,7 @@ pub fn lane_of(
     let x = nodes[s][8];
     let y = lane_y(pages[p][1], facts[p][6], lane);
     let rotation = chain_rotation(x, groups[g][5]);
-    let row = source_row_lem(nodes, facts, s, page);
+    let row = source_row(nodes, facts, s, page);
     Lane {
         page: page,
         lane: lane,
@@ -120,7 +120,7 @@ pub fn lane_of(
         port: wires[g][2],
         source_x: x,
         source_y: nodes[s][9],
-        source_row_lem: row,
+        source_row: row,
     }
 }
 

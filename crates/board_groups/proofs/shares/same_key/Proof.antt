@@ -1,8 +1,8 @@
 use borrow.Author.Rules.{rules}
 use borrow.Author.Tests.{eq-eqb, ne_eqb}
 use mathlib.Core.Path.{refl}
-use Rattle.board_groups.proofs.shares.same_key_lem.Statement.{statement}
-use Rattle.board_groups.proofs.shares.same_key_lem.Tie as tie
+use Rattle.board_groups.proofs.shares.same_key.Statement.{statement}
+use Rattle.board_groups.proofs.shares.same_key.Tie as tie
 
 array-read-if1 : tie.Need-array-read-if1
 array-read-if1 c = search rules

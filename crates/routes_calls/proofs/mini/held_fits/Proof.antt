@@ -6,8 +6,8 @@ use borrow.Author.Tests.{not-true, not-false}
 use Rattle.routes_corners.proofs.HandedLaws.{mutes_in}
 use Rattle.routes_calls.specs.Mini.{holds, bus_given}
 use Rattle.routes_calls.proofs.MiniLaws.{held_within, unheld, held_fits_lem}
-use Rattle.routes_calls.proofs.mini.held_fits_lem.Statement.{statement}
-use Rattle.routes_calls.proofs.mini.held_fits_lem.Tie as tie
+use Rattle.routes_calls.proofs.mini.held_fits.Statement.{statement}
+use Rattle.routes_calls.proofs.mini.held_fits.Tie as tie
 
 holds-requires : tie.Need-holds-requires
 holds-requires c κs = search rules

@@ -25,7 +25,7 @@ use Rattle.routes_calls.proofs.mini.lay_mini_bus.Reads as reads
 use Rattle.routes_calls.proofs.mini.lay_mini_bus.Lts as lts
 use Rattle.board_plan.proofs.ask.Reads as ask-reads
 use Rattle.board_plan.proofs.plan_text.Reads as plan-text-reads
-use Rattle.routes_calls.proofs.mini.held_fits_lem.Reads as held-fits-reads
+use Rattle.routes_calls.proofs.mini.held_fits.Reads as held-fits-reads
 use Rattle.routes_calls.proofs.mini.refuse_crowded.Reads as refuse-crowded-reads
 use Rattle.routes_calls.proofs.mini.turn_held.Reads as turn-held-reads
 
@@ -174,7 +174,7 @@ returns-2 c =
     let d = crowded-text e in
     let a = (start d).args in
     let t = (crowd e).2 in
-    let f = c.before.held_fits_lem in
+    let f = c.before.held_fits in
     called_same (sym (mini_tried a.rerouters.now a.bus-wires.now a.ports.now a.held (asked_of d).most (fits-of d) a.text.now t.on_board t.is) ∙ call_is d)
     (mini_crowded a.rerouters.now a.bus-wires.now a.ports.now a.held t.on_board (crowd e).0 _ t.lanes (crowd e).1 f.result (f.ensures t.on_board (rows_known (ready d _ _ t))) c.refuse-crowded.result c.refuse-crowded.ensures)
 

@@ -119,7 +119,7 @@ returns : tie.Need-returns
 returns c =
     let a = c.before.before.before.before.before.before.before.before.before.before.before.before.before.before.args in
     lane_read_lem a.pages.now a.nodes.now a.wires.now a.facts.now a.groups.now a.page a.group _ _ _
-    c.before.before.before.before.before.before.before.before.lane-y.ensures c.before.before.before.before.before.before.chain-rotation.ensures c.before.before.before.before.before.source_row_lem.ensures
+    c.before.before.before.before.before.before.before.before.lane-y.ensures c.before.before.before.before.before.before.chain-rotation.ensures c.before.before.before.before.before.source_row.ensures
 
 pub lane-of-spec : {M : Type 1} → statement M
 lane-of-spec =

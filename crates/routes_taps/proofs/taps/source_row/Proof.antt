@@ -1,4 +1,4 @@
--- `source_row_lem` meets its contract. Assumes nothing.
+-- `source_row` meets its contract. Assumes nothing.
 use Rattle.base.proofs.Bools.{pick_true, pick_false}
 use Rattle.board.specs.Board.{field}
 use Rattle.sheet.specs.Table.{MISSING}
@@ -6,8 +6,8 @@ use borrow.Author.Tests.{eq-eqb, ne_eqb}
 use lib.Dec.{eqb}
 use mathlib.Core.Path.{sym}
 use borrow.Author.Rules.{rules}
-use Rattle.routes_taps.proofs.taps.source_row_lem.Statement.{statement}
-use Rattle.routes_taps.proofs.taps.source_row_lem.Tie as tie
+use Rattle.routes_taps.proofs.taps.source_row.Statement.{statement}
+use Rattle.routes_taps.proofs.taps.source_row.Tie as tie
 
 mul-if1 : tie.Need-overflow-mul-if1
 mul-if1 c = search rules
