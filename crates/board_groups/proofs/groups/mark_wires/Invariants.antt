@@ -1,0 +1,17 @@
+use mathlib.Core.List.{List}
+use native.Mathlib.Omega.{arith}
+use borrow.Author.Rules.{rules}
+use Prim.Native.Nat.{ℕ, ◌-◌, ◌≤◌}
+use mathlib.Core.Path.{◌≡◌, refl, ap, ◌∙◌}
+use mathlib.Core.List.{[]}
+use lib.ListN.{length, get_or, length-set}
+use Rattle.board.specs.Board.{Board}
+use Rattle.board.specs.Tables.{NodeFacts, WireFacts}
+use Rattle.board_groups.proofs.TapLaws.{TargetsUpto, targets_more}
+use Rattle.board_groups.proofs.groups.mark_wires.Given as goal
+
+abbrev pub invariant-loop-w : goal.invariant-loop-w
+invariant-loop-w l = (l.w ≤ length l.wires) × (length l.facts ≡ length l.initial.facts) × ((b : Board) → b.nodes ≡ l.nodes → b.execs ≡ l.execs → b.wires ≡ l.wires → NodeFacts b l.initial.facts → WireFacts b l.initial.facts → TargetsUpto b l.facts l.w)
+
+abbrev pub decreases-loop-w : goal.decreases-loop-w
+decreases-loop-w l = length l.wires - l.w

@@ -1,0 +1,9 @@
+use borrow.Author.Rules.{rules}
+use Rattle.board_groups.proofs.ShareLaws.{starts_at_first, starts_behind}
+use Rattle.board_groups.proofs.shares.starts_run.Goals as goal
+
+pub returns-then-p-eq0 : goal.returns-then-p-eq0
+returns-then-p-eq0 c = starts_at_first c.args.keys.now c.args.p c.if-p-eq0.true
+
+pub returns : goal.returns
+returns c = starts_behind c.args.keys.now c.args.p c.if-p-eq0.false

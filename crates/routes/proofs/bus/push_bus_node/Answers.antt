@@ -1,0 +1,8 @@
+-- `push_bus_node` meets its contract: `placing`, from what its calls gave. Assumes nothing.
+use Rattle.std.proofs.Common.{rules}
+use Rattle.routes.proofs.Holding.{placing}
+use Rattle.routes.proofs.bus.push_bus_node.Goals as goal
+
+pub returns : goal.returns
+returns c = placing _ _ _ _ _ _ _ _ _ _
+    c.outward.ensures c.outward-2.ensures c.outward-3.ensures c.end_node.ensures c.end_port.ensures
