@@ -1,0 +1,21 @@
+use native.Mathlib.Omega.{arith}
+use borrow.Author.Rules.{rules}
+use Prim.Native.Nat.{ℕ, ◌+◌, ◌-◌, ◌≤◌, ◌<◌}
+use mathlib.Core.Path.{◌≡◌, refl, sym, ap, ◌∙◌, subst}
+use mathlib.Core.List.{List, [], ◌∷◌, Memᴰ}
+use lib.ListN.{length, get_or, length-set}
+use Rattle.board.specs.Board.{Board, field}
+use Rattle.board.specs.Groups.{Tap, taps_of}
+use Rattle.base.specs.Views.{view}
+use Rattle.board.specs.Tables.{tap_in, WireFacts}
+use Rattle.base.proofs.Views.{view_mem}
+use Rattle.board_groups.specs.Collecting.{head_page, GroupSums}
+use Rattle.board_groups.proofs.Filling.{filled_more}
+use Rattle.board_lanes.proofs.GroupLaws.{Known, known, source_held, source_below, row_first, row_last, row_crosses}
+use Rattle.board_lanes.proofs.needs.mark_heads.Given as goal
+
+abbrev pub invariant-loop-k : goal.invariant-loop-k
+invariant-loop-k l = (l.k ≤ l.m) × (length l.marks ≡ length l.initial.marks) × ((b : Board) → b.nodes ≡ l.nodes → b.wires ≡ l.wires → WireFacts b l.facts → view tap_in l.taps l.m ≡ taps_of b → GroupSums b (taps_of b) l.groups → (j : ℕ) → j < l.k → get_or l.marks j 0 ≡ head_page b (taps_of b) (tap_in (get_or l.taps j [])))
+
+abbrev pub decreases-loop-k : goal.decreases-loop-k
+decreases-loop-k l = l.m - l.k

@@ -1,0 +1,20 @@
+use Rattle.board_lanes.proofs.GroupLaws.{Known, known, row_none, row_in_lem, sums_more, counts_more}
+use native.Mathlib.Omega.{arith}
+use borrow.Author.Rules.{rules}
+use Prim.Native.Nat.{ℕ, ◌+◌, ◌-◌, ◌≤◌, ◌<◌}
+use mathlib.Core.Path.{◌≡◌, refl, sym, ap, ◌∙◌, subst}
+use mathlib.Core.List.{List, [], ◌∷◌, Memᴰ}
+use lib.ListN.{length, get_or, length-set}
+use Rattle.sheet.specs.Table.{MISSING}
+use Rattle.board.specs.Board.{Board, field}
+use Rattle.board.specs.Groups.{Tap, taps_of}
+use Rattle.base.specs.Views.{view}
+use Rattle.board.specs.Tables.{tap_in, group_row, WireFacts}
+use Rattle.base.proofs.Views.{view_mem}
+use Rattle.board_lanes.proofs.needs.sum_taps.Given as goal
+
+abbrev pub invariant-loop-k : goal.invariant-loop-k
+invariant-loop-k l = (l.k ≤ l.m) × (length l.groups ≡ length l.initial.groups) × ((g : ℕ) → g < length l.wires → field l.groups g 2 ≤ l.k) × ((b : Board) → b.nodes ≡ l.nodes → b.wires ≡ l.wires → WireFacts b l.facts → view tap_in l.taps l.m ≡ taps_of b → (g : ℕ) → g < length l.wires → get_or l.groups g [] ≡ group_row b (view tap_in l.taps l.k) g MISSING)
+
+abbrev pub decreases-loop-k : goal.decreases-loop-k
+decreases-loop-k l = l.m - l.k
