@@ -1,0 +1,13 @@
+-- The record by its fields.
+use Prim.Native.Nat.{ℕ}
+use mathlib.Core.Path.{◌≡◌}
+use lib.ListN.{get_or}
+use Rattle.board_plan.specs.TextPlan.{lent_of}
+use borrow.Author.Rules.{rules}
+use Rattle.board_plan.proofs.shortest_of.Reads as shortest-of-reads
+use Rattle.sheet.proofs.library_most.Reads as library-most-reads
+use Rattle.board_plan.proofs.ask.Goals as goal
+
+pub returns : goal.returns
+returns c = let l = c.args.buffers in
+    λ i. record { most = c.library_most.ensures i; lent = lent_of (get_or l 0 0) (get_or l 1 0) (get_or l 2 0) (get_or l 3 0) (c.shortest_of.ensures i) }

@@ -1,0 +1,24 @@
+use Prim.Native.Nat.{ℕ, ◌-◌, ◌≤◌}
+use native.Mathlib.Omega.{arith}
+use mathlib.Core.Path.{◌≡◌, refl, sym, ap, ◌∙◌}
+use lib.ListN.{length, length-set}
+use borrow.Author.Rules.{rules}
+use Rattle.board_plan.proofs.PageRows.{PagesUpto, pages_more, pages_done}
+use Rattle.board_plan.proofs.write_pages.Reads as reads
+use Rattle.board_plan.proofs.write_pages.Lts as lts
+use Rattle.board_plan.proofs.band.Reads as band-reads
+use Rattle.board_plan.proofs.write_pages.Goals as goal
+
+pub loop-p-init : goal.loop-p-init
+loop-p-init c = (omega arith, refl, λ ps size facts. refl)
+
+pub band-requires : goal.band-requires
+band-requires c = c.requires.by_index c.loop-p.p c.loop-p-test.true
+
+pub loop-p-preserved : goal.loop-p-preserved
+loop-p-preserved c = let inv = c.loop-p.invariant in
+    (search rules, simp length-set inv.1, pages_more c.args.facts.now c.args.n c.args.answers.now c.loop-p.p c.loop-p.answers c.band.result c.loop-p-test.true (omega arith) c.band.ensures inv.2)
+
+pub returns : goal.returns
+returns c = let e : c.loop-p.p ≡ c.args.n = omega arith in
+    pages_done c.args.facts.now c.args.n c.args.answers.now c.loop-p.p c.loop-p.answers e c.loop-p.invariant.2

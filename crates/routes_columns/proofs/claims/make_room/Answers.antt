@@ -1,0 +1,37 @@
+-- `make_room` meets its contract: the counts of stops and taps summed up. Assumes nothing.
+use Prim.Native.Nat.{◌+◌, ◌*◌}
+use mathlib.Core.Path.{◌∙◌}
+use native.Mathlib.Omega.{arith}
+use Rattle.base.proofs.RunLaws.{having_most}
+use Rattle.routes_columns.specs.Columns.{stop_key}
+use Rattle.routes_columns.proofs.Rooms.{counts_room, room_most}
+use borrow.Author.Rules.{rules}
+use Rattle.base.proofs.runs.sum_up.Reads as sum-up-reads
+use Rattle.routes_columns.proofs.claims.count_stops.Reads as count-stops-reads
+use Rattle.routes_columns.proofs.claims.count_taps.Reads as count-taps-reads
+use Rattle.routes_columns.proofs.claims.make_room.Goals as goal
+
+pub count_taps-requires : goal.count_taps-requires
+count_taps-requires c = let a = c.args in
+    let p = c.requires.s_in_bounds in
+    let k = c.count_stops in record {
+  n_bound = (p.2, omega (arith, p.4, k.auto.counts), p.5);
+  by_index = λ j. omega (arith, k.ensures j, having_most (stop_key a.pages a.stops.now) j a.s, p.1, p.2);
+}
+
+pub sum_up-requires : goal.sum_up-requires
+sum_up-requires c = let a = c.args in
+    let p = c.requires.s_in_bounds in
+    let k = c.count_stops in
+    let l = c.count_taps in
+    let sum = counts_room a.pages a.groups.now a.laid.now a.n a.stops.now a.s k.new.counts l.new.counts k.ensures l.ensures (a.pages * 512 + 2) in
+    let most = room_most a.pages a.groups.now a.laid.now a.n a.stops.now a.s (a.pages * 512 + 2) in
+    (omega (arith, p.3, p.4, k.auto.counts, l.auto.counts), omega (arith, sum, most, p.1, p.2))
+
+pub returns : goal.returns
+returns c = let a = c.args in
+    let k = c.count_stops in
+    let l = c.count_taps in
+    λ j h.
+    c.sum_up.ensures.by_index j (omega arith)
+    ∙ counts_room a.pages a.groups.now a.laid.now a.n a.stops.now a.s k.new.counts l.new.counts k.ensures l.ensures j

@@ -1,0 +1,9 @@
+-- `deliver` meets its contract. Assumes nothing.
+use Rattle.routes_emit.proofs.Steps.{delivered}
+use borrow.Author.Rules.{rules}
+use Rattle.routes_emit.proofs.serve.deliver.Goals as goal
+
+pub returns : goal.returns
+returns c = let p = c.push_delivery-count in
+    let a = c.args in
+    delivered a.bus_wires.now _ a.e a.t p.result p.auto.bus_wires p.ensures

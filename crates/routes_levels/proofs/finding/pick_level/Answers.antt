@@ -1,0 +1,9 @@
+-- A window as long as it needs to be.
+use native.Mathlib.Omega.{arith}
+use mathlib.Core.Path.{sym, ◌∙◌}
+use Rattle.routes_levels.proofs.Picking.{picked_first}
+use borrow.Author.Rules.{rules}
+use Rattle.routes_levels.proofs.finding.pick_level.Goals as goal
+
+pub returns-in-At : goal.returns-in-At
+returns-in-At c = picked_first _ _ _ _ 64 _ (omega arith) (sym c.in-At.is ∙ c.free_in_few.ensures)

@@ -1,0 +1,27 @@
+-- The stops of the laid taps, page by page. The invariant: the stops so far are those of the taps passed, and none is of the page that comes.
+use Prim.Native.Nat.{◌-◌, ◌<◌, ◌≤◌}
+use native.Mathlib.Omega.{arith}
+use mathlib.Core.Path.{◌≡◌, refl, ◌∙◌}
+use mathlib.Core.List.{List}
+use lib.ListN.{length}
+use Rattle.base.specs.Views.{view}
+use Rattle.board.specs.Board.{Board, field}
+use Rattle.board.specs.Demands.{PageLanes}
+use Rattle.board.specs.Tables.{tap_in}
+use Rattle.routes.specs.Levels.{stops_of}
+use Rattle.routes.specs.Tables.{stop_in}
+use Rattle.routes_levels.specs.Laying.{StopIndex, LaidFacts}
+use Rattle.routes_levels.specs.Pages.{NoneFrom}
+use Rattle.routes_levels.proofs.LayLaws.{no_stops, stops_all}
+use Rattle.routes_levels.proofs.PageLaws.{none_yet}
+use Rattle.routes_levels.proofs.Paging.{fits_fewer, facts_fewer, index_fewer, index_kept, next_page}
+use Rattle.routes_levels.proofs.laying.fill_stops.Given as goal
+
+abbrev pub invariant-loop-k : goal.invariant-loop-k
+invariant-loop-k l = (l.k ≤ l.n) × (l.count ≤ l.k) × ((length l.stops ≡ length l.initial.stops) × (length l.ends ≡ length l.initial.ends))
+    × StopIndex l.n l.stops l.ends l.count
+    × (l.k < l.n → NoneFrom (field l.laid l.k 0) (view stop_in l.stops l.count))
+    × ((b : Board) (ps : List PageLanes) → LaidFacts b ps l.facts l.groups l.laid l.n → view stop_in l.stops l.count ≡ stops_of b ps (view tap_in l.laid l.k))
+
+abbrev pub decreases-loop-k : goal.decreases-loop-k
+decreases-loop-k l = l.n - l.k

@@ -1,0 +1,15 @@
+-- `copy_along` meets its contract: the front copied grows by one with each turn. Assumes nothing.
+use native.Mathlib.Omega.{arith}
+use Prim.Native.Nat.{◌%◌, ◌-◌, ◌≤◌, ◌<◌}
+use mathlib.Core.Path.{◌≡◌, refl, ◌∙◌}
+use mathlib.Core.List.{map}
+use lib.ListN.{length, get_or, take, length-set}
+use Rattle.routes_levels.specs.Laying.{WIRES_MOST, row_at}
+use Rattle.routes_levels.proofs.NearLaws.{along_more, along_all}
+use Rattle.routes_levels.proofs.stops.copy_along.Given as goal
+
+abbrev pub invariant-loop-p : goal.invariant-loop-p
+invariant-loop-p l = (l.p ≤ l.n) × (length l.to ≡ length l.initial.to) × (take l.p l.to ≡ map (row_at l.from) (take l.p l.keys))
+
+abbrev pub decreases-loop-p : goal.decreases-loop-p
+decreases-loop-p l = l.n - l.p

@@ -1,0 +1,23 @@
+-- The taps of laid groups, newest first. The loop's invariant: the rows picked so far, then those of the laid taps below row k, are the rows of all laid taps.
+use Prim.Native.Nat.{◌≤◌, ◌<◌, ◌+◌, ◌-◌}
+use mathlib.Core.Path.{◌≡◌, refl, sym, ◌∙◌}
+use mathlib.Core.List.{List, []}
+use native.Mathlib.Omega.{arith}
+use lib.ListN.{length, length-set, get_or}
+use Rattle.board.specs.Board.{Board}
+use Rattle.board.specs.Demands.{PageLanes}
+use Rattle.base.specs.Views.{view}
+use Rattle.board.specs.Tables.{tap_in}
+use Rattle.base.proofs.Views.{view_mem}
+use Rattle.routes.specs.Stops.{is_laid}
+use Rattle.routes_levels.specs.Laying.{Tabled}
+use Rattle.routes_levels.proofs.PickLaws.{Picked, picked_more, picked_less, picked_all}
+use borrow.Author.Rules.{rules}
+use Rattle.routes_levels.proofs.stops.pick_laid.Given as goal
+
+abbrev pub invariant-loop-k : goal.invariant-loop-k
+invariant-loop-k l = (l.n + l.k ≤ l.m) × (length l.laid ≡ length l.initial.laid)
+    × ((b : Board) (ps : List PageLanes) → Tabled b (view tap_in l.taps l.m) ps l.nodes l.facts l.groups → Picked (is_laid b (view tap_in l.taps l.m) ps) l.taps l.m l.laid l.n l.k)
+
+abbrev pub decreases-loop-k : goal.decreases-loop-k
+decreases-loop-k l = l.k

@@ -1,0 +1,18 @@
+-- The lightest level along a window, from the highest down. The invariant: the best of the levels from the j-th of the window on.
+use Prim.Native.Nat.{ℕ, ◌*◌, ◌+◌, ◌<◌, ◌≤◌}
+use native.Mathlib.Omega.{arith}
+use mathlib.Core.Path.{◌≡◌}
+use mathlib.Core.List.{List}
+use lib.ListN.{length}
+use Rattle.routes.specs.Levels.{STAGGER_STEP}
+use Rattle.sheet.specs.Table.{MISSING}
+use Rattle.routes_levels.specs.Search.{load_in, open_in, Weighed, Best}
+use Rattle.routes_levels.proofs.WindowLaws.{window_passed, window_heavier, window_lighter, window_done}
+use borrow.Author.Rules.{rules}
+use Rattle.routes_levels.proofs.windows.lightest_in.Given as goal
+
+abbrev pub invariant-loop-j : goal.invariant-loop-j
+invariant-loop-j l = (l.j ≤ l.size) × ((row lane : List ℕ) (base count k : ℕ) → length row < MISSING → Weighed row lane l.start l.loads → l.start ≡ base + STAGGER_STEP * k → k + l.size ≤ count → Best (open_in lane) (load_in row) base count (k + l.size) l.initial.level l.initial.least → Best (open_in lane) (load_in row) base count (k + l.j) l.level l.least)
+
+abbrev pub decreases-loop-j : goal.decreases-loop-j
+decreases-loop-j l = l.j
