@@ -1,0 +1,12 @@
+use Rattle.std.proofs.Common.{◌≡◌, ◌-◌, ◌≤◌, refl, ap, ◌∙◌, arith, rules}
+use Rattle.routes_plan_sheet.specs.Held.{delivery_rows}
+use Rattle.routes_plan_sheet.proofs.Deliveries.{one_delivers, one_passed}
+use Rattle.routes_plan_sheet.proofs.count_deliveries.Reads as reads
+use Rattle.routes_plan_sheet.proofs.count_deliveries.Lts as lts
+use Rattle.routes_plan_sheet.proofs.count_deliveries.Given as goal
+
+abbrev pub invariant-loop-i : goal.invariant-loop-i
+invariant-loop-i l = (l.i ≤ l.k) × (l.count ≤ l.i) × (l.count ≡ delivery_rows l.bus_wires l.i)
+
+abbrev pub decreases-loop-i : goal.decreases-loop-i
+decreases-loop-i l = l.k - l.i
