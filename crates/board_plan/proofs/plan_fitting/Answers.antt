@@ -14,12 +14,12 @@ fits-requires c = let b = c.requires.board_checked in counts_few b.0 c.args.coun
 
 pub returns-then-not-fits : goal.returns-then-not-fits
 returns-then-not-fits c b checked = let a = c.args in
-    let e : fits_counts a.lent a.counts ≡ false = sym c.fits2.ensures ∙ c.if-not-fits.true in
+    let e : fits_counts a.lent a.counts ≡ false = sym c.fits.ensures ∙ c.if-not-fits.true in
     rw (lent_unfit (fits_lent a.lent) b (fits_counted a.lent b a.counts false checked.counted e)) refl
 
 pub plan_rows-requires : goal.plan_rows-requires
 plan_rows-requires c = 
-    let enough : fits_counts c.args.lent c.args.counts ≡ true = sym c.fits2.ensures ∙ c.if-not-fits.false in
+    let enough : fits_counts c.args.lent c.args.counts ≡ true = sym c.fits.ensures ∙ c.if-not-fits.false in
     (c.requires.board_checked.0, board_read c.requires.board_checked.1 c.args.lent (enough) c.requires.work_lent)
 
 pub shape_of-facts : goal.shape_of-facts
@@ -42,7 +42,7 @@ shape_of-spare c = c.plan_rows.auto.spare
 
 pub returns : goal.returns
 returns c b checked = 
-    let enough : fits_counts c.args.lent c.args.counts ≡ true = sym c.fits2.ensures ∙ c.if-not-fits.false in
+    let enough : fits_counts c.args.lent c.args.counts ≡ true = sym c.fits.ensures ∙ c.if-not-fits.false in
     let fits = enough in
     rw (lent_fits (fits_lent c.args.lent) b (fits_counted c.args.lent b c.args.counts true checked.counted fits))
     (c.plan_rows.ensures b (board_read checked c.args.lent fits c.requires.work_lent))
