@@ -1,12 +1,9 @@
 pub mod InTurn
-pub mod Again
 pub mod Blocking
 pub mod Cells
 pub mod Deciding
 pub mod EntryLaws
 pub mod LoadLaws
-pub mod Local
 pub mod NoteLaws
 pub mod Standings
 pub mod Turns
-pub mod Typed

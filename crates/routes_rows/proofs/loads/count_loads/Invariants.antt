@@ -1,0 +1,16 @@
+-- The loop's invariant: the first q corners listed are counted.
+use Prim.Native.Nat.{ℕ, ◌-◌, ◌≤◌, ◌<◌}
+use mathlib.Core.Path.{◌≡◌, refl, sym, subst}
+use native.Mathlib.Omega.{arith}
+use native.Mathlib.Numerals.{add-one}
+use lib.ListN.{length}
+use Rattle.routes_rows.specs.Notes.{listed}
+use Rattle.routes_rows.proofs.LoadLaws.{only_self, Counting, counting_other, counting_more, counting_small}
+use borrow.Author.Rules.{rules}
+use Rattle.routes_rows.proofs.loads.count_loads.Given as goal
+
+abbrev pub invariant-loop-q : goal.invariant-loop-q
+invariant-loop-q l = (l.q ≤ l.n) × Counting l.initial.notes l.sink l.x0 l.q l.notes
+
+abbrev pub decreases-loop-q : goal.decreases-loop-q
+decreases-loop-q l = l.n - l.q
