@@ -1,0 +1,33 @@
+-- `brick_item` meets its contract. Assumes nothing.
+use Rattle.routes_beside.proofs.Filled.{item_absent, missing, brick_key, brick_ends, brick_is}
+use Rattle.board.specs.Board.{field}
+use mathlib.Core.Bool.{true, false}
+use borrow.Author.Rules.{rules}
+use Rattle.routes_beside.proofs.items.brick_item.Goals as goal
+
+pub returns-then-page : goal.returns-then-page
+returns-then-page c = item_absent _ _ _ _ _ (missing (field c.args.nodes.now c.args.i 10) c.if-page.true) c.no_item.ensures
+
+pub item-requires : goal.item-requires
+item-requires c = let a = c.args in
+    let there = c.if-page.false in record {
+  page_in_bounds = brick_key a.nodes.now a.facts.now a.bases.now a.i c.requires.bricks_askable c.requires.bases.0 c.requires.bases.1 there;
+  half_x_bound = brick_ends a.nodes.now a.facts.now a.bases.now a.i c.requires.bricks_askable c.requires.bases.0 c.requires.bases.1 there true c.if-rotation.true;
+}
+
+pub returns-then-rotation : goal.returns-then-rotation
+returns-then-rotation c = let a = c.args in
+    let there = c.if-page.false in
+    brick_is a.nodes.now a.facts.now a.bases.now a.i c.requires.bricks_askable c.requires.bases.0 c.requires.bases.1 there true c.if-rotation.true c.item.result c.item.ensures
+
+pub item-requires-2 : goal.item-requires-2
+item-requires-2 c = let a = c.args in
+    let there = c.if-page.false in record {
+  page_in_bounds = brick_key a.nodes.now a.facts.now a.bases.now a.i c.requires.bricks_askable c.requires.bases.0 c.requires.bases.1 there;
+  half_x_bound = brick_ends a.nodes.now a.facts.now a.bases.now a.i c.requires.bricks_askable c.requires.bases.0 c.requires.bases.1 there false c.if-rotation.false;
+}
+
+pub returns : goal.returns
+returns c = let a = c.args in
+    let there = c.if-page.false in
+    brick_is a.nodes.now a.facts.now a.bases.now a.i c.requires.bricks_askable c.requires.bases.0 c.requires.bases.1 there false c.if-rotation.false c.item-2.result c.item-2.ensures
