@@ -1,0 +1,7 @@
+-- A tap begins a group where the tap before it is of another.
+use Rattle.routes_gutter.proofs.Loops.{group_after}
+use borrow.Author.Rules.{rules}
+use Rattle.routes_gutter.proofs.lay.is_new_group.Goals as goal
+
+pub returns : goal.returns
+returns c = let a = c.args in group_after a.laid.now a.k c.if-k-eq0.false
