@@ -113,5 +113,5 @@ answers_told b bus class facts items first ws known held' n count o e answers ro
             let p : ℕ = page_of b (sink_of b w) in
             let r : ℕ = row_of b (sink_of b w) in
             let key = qs.0.key in
-            let below = key_below b.nodes p r (row_there b p r qs.0.on_Row) in
+            let below = key_below b.nodes p r (row_there b p r qs.0.on_row) in
             omega arith
