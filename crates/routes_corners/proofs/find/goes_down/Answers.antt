@@ -1,0 +1,6 @@
+-- The tests on two nodes of the table.
+use Rattle.std.proofs.Common.{[], get_or, ap, rules}
+use Rattle.routes_corners.proofs.find.goes_down.Goals as goal
+
+pub returns : goal.returns
+returns c = λ b same. c.turns_down.ensures b c.args.s c.args.t (ap (λ x. get_or x c.args.s []) same) (ap (λ x. get_or x c.args.t []) same)

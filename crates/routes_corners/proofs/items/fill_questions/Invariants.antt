@@ -1,0 +1,12 @@
+-- The questions' items, stored one behind the other, each read off its sink's brick.
+use Rattle.std.proofs.Common.{◌≡◌, ℕ, ◌+◌, ◌-◌, ◌<◌, ◌≤◌, List, [], length, get_or, refl, ◌∙◌, arith, length-set}
+use Rattle.routes_corners.specs.Listing.{question_row}
+use Rattle.routes_corners.proofs.Listing.{stored_at, kept_below, question_same}
+use Rattle.routes_corners.proofs.items.fill_questions.Given as goal
+
+abbrev pub invariant-loop-q : goal.invariant-loop-q
+invariant-loop-q l = (l.q ≤ l.n) × (length l.items ≡ length l.initial.items) × ((j : ℕ) → j < l.q → get_or l.items (l.first + j) [] ≡ question_row l.nodes l.facts l.classes l.initial.items (get_or l.list j 0))
+    × ((j : ℕ) → j < l.first → get_or l.items j [] ≡ get_or l.initial.items j [])
+
+abbrev pub decreases-loop-q : goal.decreases-loop-q
+decreases-loop-q l = l.n - l.q

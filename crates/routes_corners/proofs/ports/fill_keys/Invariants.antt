@@ -1,0 +1,10 @@
+use Rattle.std.proofs.Common.{◌≡◌, ℕ, ◌+◌, ◌-◌, ◌*◌, ◌<◌, ◌≤◌, length, get_or, refl, ◌∙◌, arith, length-set}
+use Rattle.board_groups.proofs.Filling.{filled_more}
+use Rattle.routes_corners.specs.Ports.{wire_key}
+use Rattle.routes_corners.proofs.ports.fill_keys.Given as goal
+
+abbrev pub invariant-loop-w : goal.invariant-loop-w
+invariant-loop-w l = (l.w ≤ length l.wires) × (length l.keys ≡ length l.initial.keys) × ((v : ℕ) → v < l.w → get_or l.keys v 0 ≡ wire_key l.wires v * 8192 + v)
+
+abbrev pub decreases-loop-w : goal.decreases-loop-w
+decreases-loop-w l = length l.wires - l.w

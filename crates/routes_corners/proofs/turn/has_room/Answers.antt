@@ -1,0 +1,8 @@
+-- The three tests.
+use Rattle.std.proofs.Common.{refl, rules}
+use Rattle.routes_corners.specs.Turning.{has_room}
+use Rattle.routes_corners.proofs.turn.has_room.Goals as goal
+
+pub returns : goal.returns
+unfolding has_room
+returns c = refl

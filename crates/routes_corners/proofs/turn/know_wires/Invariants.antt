@@ -1,0 +1,11 @@
+-- Row after row.
+use Rattle.std.proofs.Common.{◌≡◌, ℕ, ◌-◌, ◌≤◌, subst, add-one, arith, rules}
+use Rattle.routes.proofs.Rows.{rows_none, rows_more}
+use Rattle.routes.specs.Buffers.{Rows}
+use Rattle.routes_corners.proofs.turn.know_wires.Given as goal
+
+abbrev pub invariant-loop-i : goal.invariant-loop-i
+invariant-loop-i l = (l.i ≤ l.k) × Rows 6 l.bus_wires l.i
+
+abbrev pub decreases-loop-i : goal.decreases-loop-i
+decreases-loop-i l = l.k - l.i

@@ -1,0 +1,8 @@
+-- A corner's numbers, read off the tables.
+use Rattle.routes_corners.proofs.Writing.{corner_read}
+use Rattle.std.proofs.Common.{rules}
+use Rattle.routes_corners.proofs.write.corner_at.Goals as goal
+
+pub returns : goal.returns
+returns c = let a = c.args in
+    λ b wires is. corner_read b a.pages.now a.nodes.now wires a.facts.now a.w a.level c.requires is
