@@ -1,0 +1,38 @@
+-- The plan within what is asked, by the lengths that are lent.
+use native.Mathlib.Omega.{arith}
+use mathlib.Core.Path.{sym, ap, subst}
+use lib.ListN.{length}
+use Rattle.board_plan.specs.TextPlan.{work_rows}
+use Rattle.board_plan.specs.declared.Asked.{Asked}
+use Rattle.board_plan.proofs.Calling.{asked_room}
+use Rattle.routes_gutter.proofs.Planned.{bus_lent}
+use Rattle.routes_gutter.specs.declared.bus.BusPlan.{BusPlan}
+use Rattle.routes_calls.specs.Route.{plan_fits, route_call, PlanCalled}
+use Rattle.routes_calls.proofs.Routing.{route_called}
+use borrow.Author.Rules.{rules}
+use Rattle.routes_calls.proofs.route.route.Reads as reads
+use Rattle.routes_calls.proofs.route.route.Lts as lts
+use Rattle.board_plan.proofs.ask.Reads as ask-reads
+use Rattle.routes_calls.proofs.route.route_within.Reads as route-within-reads
+use Rattle.routes_calls.proofs.route.without_counts.Reads as without-counts-reads
+use Rattle.routes_calls.proofs.route.route.Goals as goal
+
+pub route_within-requires : goal.route_within-requires
+route_within-requires c = let a = c.args in
+    let q = c.ask-asked in
+    let room = asked_room q.result a.records.now a.facts.now a.taps.now a.groups.now a.demands.now a.keys.now a.marks.now q.ensures in
+    let answers = ap (λ (z : Asked). z.lent.answers) q.ensures in record {
+  work_lent = room.0.lent;
+  within_library = (room.1, bus_lent q.result _ a.marks.now a.rerouters.now a.bus_wires.now a.ports.now q.ensures room.0.fivefold, omega arith);
+}
+
+pub returns : goal.returns
+returns c = let a = c.args in
+    let r = c.route_within in
+    let q = c.ask-asked in
+    subst
+    (λ (answer : BusPlan).
+    PlanCalled (route_call a.text.now (plan_fits (length a.rerouters.now) (length a.bus_wires.now) (length a.ports.now) (length a.answers.now) (work_rows a.records.now a.facts.now a.taps.now a.groups.now a.demands.now a.keys.now a.marks.now)))
+    a.rerouters.now a.bus_wires.now a.ports.now a.answers.now r.new.rerouters r.new.bus_wires r.new.ports r.new.answers answer)
+    (sym c.without_counts.ensures)
+    (route_called a.rerouters.now a.bus_wires.now a.ports.now a.answers.now r.new.rerouters r.new.bus_wires r.new.ports r.new.answers a.text.now q.result (length a.rerouters.now) (length a.bus_wires.now) (length a.ports.now) (length a.answers.now) _ q.ensures r.result r.ensures)
