@@ -1,0 +1,11 @@
+use mathlib.Core.Path.{refl}
+use Rattle.routes_hits.specs.Hits.{on_board}
+use borrow.Author.Rules.{rules}
+use Rattle.routes_hits.proofs.boxes.is_on_board.Reads as reads
+use Rattle.routes_hits.proofs.boxes.is_on_board.Lts as lts
+use Rattle.routes_hits.proofs.boxes.lifted.Reads as lifted-reads
+use Rattle.routes_hits.proofs.boxes.is_on_board.Goals as goal
+
+pub returns : goal.returns
+unfolding on_board
+returns c = rw (c.lifted-4.ensures, c.lifted-3.ensures, c.lifted-2.ensures, c.lifted.ensures) refl

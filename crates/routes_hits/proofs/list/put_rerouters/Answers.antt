@@ -1,0 +1,32 @@
+use Prim.Native.Nat.{ℕ, ◌+◌, ◌*◌, ◌-◌, ◌≤◌}
+use native.Mathlib.Omega.{arith}
+use mathlib.Core.Path.{◌≡◌, refl}
+use lib.ListN.{length}
+use borrow.Author.Rules.{rules}
+use Rattle.base.specs.Views.{view}
+use Rattle.sheet.specs.Written.{Wrote}
+use Rattle.sheet.proofs.Writing.{wrote_nothing}
+use Rattle.routes.specs.Buffers.{rerouter_in}
+use Rattle.routes_hits.specs.Hits.{rerouters_hit}
+use Rattle.routes_hits.proofs.Listing.{rerouters_step}
+use Rattle.routes_hits.proofs.list.put_rerouters.Reads as reads
+use Rattle.routes_hits.proofs.list.put_rerouters.Lts as lts
+use Rattle.routes_hits.proofs.list.put_rerouter.Reads as put-rerouter-reads
+use Rattle.routes_hits.proofs.list.put_rerouters.Goals as goal
+
+pub loop-i-init : goal.loop-i-init
+unfolding rerouters_hit
+loop-i-init c = (omega arith, refl, omega arith, wrote_nothing _ _)
+
+pub loop-i-preserved : goal.loop-i-preserved
+loop-i-preserved c = let put = c.put_rerouter-next.ensures in
+    let l = c.loop-i in
+    let a = c.args in
+    let room : length l.hits ≡ length a.hits.now = l.invariant.1 in
+    (search rules, search rules, omega arith, rerouters_step a.q a.rerouters.now l.i a.hits.now l.hits _ l.next _ (omega arith) l.invariant.3 put.0)
+
+pub returns : goal.returns
+returns c = let l = c.loop-i in
+    let a = c.args in
+    let all : l.i ≡ a.n = omega arith in
+    (rw (← all) l.invariant.3, omega arith)
