@@ -74,7 +74,6 @@ finish_plan-laid-requires c =
     ((told).on_board, (told).lanes, ready)
 
 pub list_hits-found-requires : goal.list_hits-found-requires
-unfolding told
 list_hits-found-requires c = 
     let asked_is : c.ask-asked.result ≡ asked_for (length c.args.rerouters.now ∷ length c.args.bus_wires.now ∷ min (length c.args.ports.now) (length c.args.hits.now / HITS_A_WIRE) ∷ length c.args.answers.now ∷ []) (work_rows c.args.records.now c.args.facts.now c.args.taps.now c.args.groups.now c.args.demands.now c.args.keys.now c.args.marks.now) = let a = c.args in
     c.ask-asked.ensures
@@ -166,7 +165,6 @@ pub shape_of-marks-in-Laned : goal.shape_of-marks-in-Laned
 shape_of-marks-in-Laned c = c.finish_plan-laid.auto.marks ∙ c.plan_text-planned.auto.spare
 
 pub returns-in-Laned : goal.returns-in-Laned
-unfolding told
 returns-in-Laned c = 
     let asked_is : c.ask-asked.result ≡ asked_for (length c.args.rerouters.now ∷ length c.args.bus_wires.now ∷ min (length c.args.ports.now) (length c.args.hits.now / HITS_A_WIRE) ∷ length c.args.answers.now ∷ []) (work_rows c.args.records.now c.args.facts.now c.args.taps.now c.args.groups.now c.args.demands.now c.args.keys.now c.args.marks.now) = let a = c.args in
     c.ask-asked.ensures
