@@ -1,5 +1,5 @@
 -- What stands in a list: kept elements, numbers below n, mapped and sorted lists.
-use Prim.Native.Nat.{ℕ, zero, suc, ◌+◌, ◌≤◌, ◌<◌}
+use Prim.Native.Nat.{ℕ, zero, suc, ◌<◌}
 use native.Mathlib.Omega.{arith}
 use mathlib.Core.Path.{◌≡◌, refl, sym, ap, ◌∙◌, subst}
 use mathlib.Core.Logic.{◌⊎◌, inl, inr, ⊎_elim}
@@ -10,9 +10,9 @@ use mathlib.Core.List.Memᴰ.{not-nil as nowhere}
 use mathlib.Core.List.Memᴰ.{tail as there}
 use mathlib.Core.List.{List, [], ◌∷◌, map, Memᴰ as Mem}
 use lib.ListN.{length, get_or}
-use Rattle.base.specs.Sort.{inserted, sorted, lex_less, sorted_rows}
+use Rattle.base.specs.Sort.{inserted, sorted, lex_less}
 use Rattle.base.proofs.Bools.{clash}
-use Rattle.base.proofs.SortLaws.{Order, inserted_past, inserted_here, lex_order}
+use Rattle.base.proofs.SortLaws.{Order}
 use Rattle.base.specs.Lists.{keep, upto}
 
 module _ {A : Type 0} where

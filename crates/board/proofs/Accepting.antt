@@ -1,16 +1,15 @@
 -- The board of a sheet that refusals 1 to 6 leave is accepted, and its rows are the sheet's.
-use Prim.Native.Nat.{ℕ, zero, suc, ◌+◌, ◌*◌, ◌≤◌, ◌<◌}
+use Prim.Native.Nat.{ℕ, zero, suc, ◌≤◌, ◌<◌}
 use native.Mathlib.Omega.{arith}
 use native.Mathlib.Decide.{ℕ_discrete, dec_lt}
 use mathlib.Core.Path.{◌≡◌, refl, ap, sym, subst, ◌∙◌}
 use mathlib.Core.Bool.{Bool, true, false, not, ◌&&◌}
-use mathlib.Core.List.{List, [], ◌∷◌}
+use mathlib.Core.List.{List, []}
 use lib.Dec.{eqb, leb}
 use lib.ListN.{length, get_or, get_or-eq_default}
 use borrow.Author.Tests.{eqb-true, not-true, leb-false}
 use Rattle.sheet.specs.declared.Counts.{Counts}
 use Rattle.sheet.specs.Table.{MISSING, ID_MOST, PORT_MOST, HALF_MOST, PAGE_MOST, library_most, program_most}
-use Rattle.sheet.specs.Reading
 use Rattle.sheet.specs.Reading.{Reading, rows, reading, rows_from}
 use Rattle.sheet.proofs.Accepted.{COORDINATE_LOW, MayBe, NodeRow, PageRow, WireRow, accepted}
 use Rattle.base.specs.Lists.{Found, none, at, or_else, oldest}
@@ -18,7 +17,7 @@ use Rattle.board.specs.Board.{Board, board_of, field, given, has_row, page_of, p
 use Rattle.board.specs.Refusals
 use Rattle.board.specs.Refusals.{Judged, board, judged, judged_board, id_twice, not_there, page_missing, unplaced, row_unplaced, node_line, first_line}
 use Rattle.board.specs.Walk.{WithinLibrary}
-use Rattle.board.specs.Accepted.{COORDINATE_HIGH, Y_LOW, Y_HIGH, Accepted, AcceptedNodes}
+use Rattle.board.specs.Accepted.{COORDINATE_HIGH, Y_LOW, Accepted, AcceptedNodes}
 use Rattle.base.proofs.Bools.{never}
 use Rattle.board.proofs.Sections.{Sections, sections}
 

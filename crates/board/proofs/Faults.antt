@@ -15,13 +15,13 @@ use Rattle.sheet.specs.Answer.{row_from}
 use Rattle.sheet.proofs.Accepted.{Accepted, zeros_at, accepted, accepted_more}
 use Rattle.sheet.proofs.Along.{row_of_row, row_of_next}
 use Rattle.base.specs.Lists.{Found, none, at, found, or_else, newest, oldest}
-use Rattle.board.specs.Board.{Board, field, given, kind_chip, id_of, kind_of, chip_id, parent_of, inner_id, inner_chip}
-use Rattle.board.specs.Refusals.{first_line, node_line, chip_line, inner_line, body_of, chip_at, inner_of, body_chip, node_twice, chip_twice, inner_twice, page_missing, parent_missing, chip_missing, row_unplaced, id_twice, not_there, unplaced, Judged, turned_away, board, judged_board}
+use Rattle.board.specs.Board.{Board, field, given, kind_chip, id_of, kind_of, chip_id, parent_of, inner_id}
+use Rattle.board.specs.Refusals.{first_line, node_line, chip_line, inner_line, body_of, chip_at, inner_of, body_chip, node_twice, chip_twice, inner_twice, page_missing, parent_missing, chip_missing, row_unplaced, id_twice, not_there, unplaced, turned_away, board, judged_board}
 use Rattle.board.specs.Index.{Index, BUCKETS, link, entry_of, column}
 use Rattle.sheet.specs.declared.Counts.{Counts}
 use Rattle.sheet.specs.Answer.{counts_of}
 use Rattle.board.specs.declared.refusals.Fault.{Fault}
-use Rattle.board.specs.declared.refusals.Fault.TheVariants.{Refused, Fine}
+use Rattle.board.specs.declared.refusals.Fault.TheVariants.{Refused}
 use Rattle.board.specs.Walk.{verdict_of, fault_of, line_or, line_if, earlier, line_from, sheet_board, is_chip, Ids, Entered, Fresh, Ready, Walked}
 use Rattle.board.specs.declared.walks.Walk.{Walk}
 use Rattle.board.proofs.Sections.{Part, part_at, part_below, Sections, sections}

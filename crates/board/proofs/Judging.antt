@@ -1,11 +1,9 @@
 -- A sheet judged: by reading it, and then by its board's faults.
-use Prim.Native.Nat.{ℕ, ◌≤◌}
-use mathlib.Core.Path.{◌≡◌, refl, ap, sym, subst, ◌∙◌}
+use Prim.Native.Nat.{ℕ}
+use mathlib.Core.Path.{◌≡◌, refl, ap, sym, ◌∙◌}
 use mathlib.Core.List.{List}
-use lib.ListN.{length}
 use Rattle.sheet.specs.declared.Counts.{Counts}
 use Rattle.sheet.specs.declared.Checked.TheVariants.{Refused as NotTaken, Fine as Taken}
-use Rattle.sheet.specs.Table.{library_most}
 use Rattle.sheet.specs.Reading.{Reading, refused, rows, reading, rows_from}
 use Rattle.sheet.specs.Answer.{counts_of, checked_of, HeldIf}
 use Rattle.base.proofs.Bools.{never}

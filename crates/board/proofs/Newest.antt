@@ -8,7 +8,7 @@ use lib.Dec.{eqb}
 use lib.ListN.{length, get_or, set, length-set, length-map}
 use lib.Seq.{get_or-set_same, get_or-set_other}
 use borrow.Author.Tests.{eq-eqb, ne_eqb, eqb-true, eqb-false}
-use Rattle.base.specs.Lists.{Found, none, at, newest}
+use Rattle.base.specs.Lists.{none, at, newest}
 use Rattle.board.specs.Index.{Chained, link, Index, BUCKETS, bucket_of, column}
 use Rattle.board.specs.Board.{field}
 use Rattle.base.proofs.Bools.{clash, pick_true, pick_false}

@@ -1,20 +1,19 @@
 -- An accepted sheet's rows, section by section: they stand in the order of the sections, each section's records are counted, and each row has its
 -- section's ranges.
 use Prim.Native.Nat.{ℕ, zero, suc, ◌+◌, ◌≤◌, ◌<◌}
-use mathlib.Core.Path.{◌≡◌, refl, ap, ap₂, sym, subst, ◌∙◌}
+use mathlib.Core.Path.{◌≡◌, refl, ap, ap₂, sym, ◌∙◌}
 use mathlib.Core.Bool.{Bool, true, false}
 use mathlib.Core.List.{List, [], ◌∷◌, ◌++◌, append_assoc}
 use native.Mathlib.Omega.{arith}
-use lib.Dec.{eqb, ltb}
-use lib.ListN.{length, get_or, set, take, drop, replicate, length-set, length-append, get_or-append}
+use lib.Dec.{eqb}
+use lib.ListN.{length, get_or, take, drop, replicate, length-set, length-append, get_or-append}
 use lib.Seq.{get_or-set_same, get_or-set_other, get_or-append-add, take-append_seam, drop-append_seam}
-use borrow.Author.Tests.{eq-eqb, ne_eqb, eqb-true, eqb-false, ltb-true, ltb-false}
+use borrow.Author.Tests.{eq-eqb, ne_eqb, eqb-true, eqb-false}
 use Rattle.sheet.specs.declared.Counts.{Counts}
-use Rattle.sheet.specs.Table.{SECTIONS, PAGES, NODES, CHIPS, INNER, EXECS, WIRES}
+use Rattle.sheet.specs.Table.{SECTIONS}
 use Rattle.sheet.specs.Reading.{section_in, counted, listed}
 use Rattle.sheet.specs.Answer.{counted_all, counts_of}
 use Rattle.sheet.proofs.Accepted.{Accepted, Each, each_at, zeros_at, Rising, RowHeld, PageRow, NodeRow, ChipRow, InnerRow, ExecRow, WireRow, page_row_lem, node_row, chip_row, inner_row, exec_row, wire_row_lem}
-use Rattle.base.specs.Lists.{keep}
 use Rattle.board.specs.Board.{Board, board_of, section}
 use Rattle.base.proofs.Bools.{pick_true, pick_false}
 

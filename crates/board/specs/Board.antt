@@ -1,6 +1,6 @@
 -- S, the board sheet: a board's records by section, a row of numbers each, and what each field says.
 -- Column 0 of a row is its section; the fields follow in the sheet's order. A coordinate c is held as c + ORIGIN.
-use Rattle.std.specs.Prelude.{ℕ, suc, ◌+◌, Bool, not, ◌&&◌, ◌||◌, List, [], eqb, length, get_or}
+use Rattle.std.specs.Prelude.{ℕ, Bool, not, List, [], eqb, get_or}
 use Rattle.sheet.specs.Table.{MISSING, PAGES, NODES, CHIPS, INNER, EXECS, WIRES}
 use Rattle.sheet.specs.Reading.{section_in}
 use Rattle.base.specs.Lists.{keep}

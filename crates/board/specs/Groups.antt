@@ -1,7 +1,6 @@
 -- G, groups (`collect_bus_groups`): which wires a lane may carry, and which of them share one.
 use Rattle.std.specs.Prelude.{ℕ, zero, suc, Bool, true, false, not, ◌&&◌, ◌||◌, List, [], ◌∷◌, eqb, length}
-use Rattle.base.specs.Lists.{Found, none, at, found, any, keep, fold, upto, newest}
-use Rattle.board.specs.Board
+use Rattle.base.specs.Lists.{Found, none, at, any, keep, fold, upto}
 use Rattle.board.specs.Board.{Board, given, kind_chip, kind_input, kind_coerce, class_storage, class_inline, port_layout, id_of, kind_of, class_of, pin_of, x_of, y_of, page_of, has_row, chip_id, parent_of, inner_chip, inner_class, exec_node, exec_port, source_node, source_port, target_node, target_port}
 use Rattle.board.specs.Refusals.{body_of, inner_of}
 use Rattle.board.specs.Rows.{row_of}

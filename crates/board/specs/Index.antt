@@ -1,5 +1,5 @@
 -- How the code finds the record that an id names: entries chained by bucket, stated by place and not by following links. No rule stands here.
-use Rattle.std.specs.Prelude.{ℕ, zero, suc, ◌%◌, ◌≤◌, ◌<◌, ◌≡◌, Bool, List, map, eqb, length, get_or}
+use Rattle.std.specs.Prelude.{ℕ, zero, suc, ◌%◌, ◌≤◌, ◌<◌, ◌≡◌, List, map, eqb, length, get_or}
 use Rattle.base.specs.Lists.{Found, none, at, newest}
 use Rattle.board.specs.Board.{field}
 use Rattle.board.specs.declared.ids.Found.{Found as FoundId}

@@ -1,7 +1,7 @@
 -- E, what turns a board away: refusals 4 to 6 in their order, each with the first line that meets it.
-use Rattle.std.specs.Prelude.{ℕ, suc, ◌+◌, Bool, true, false, not, ◌&&◌, ◌||◌, List, [], eqb, ltb, leb, length}
+use Rattle.std.specs.Prelude.{ℕ, suc, ◌+◌, Bool, true, false, not, ◌&&◌, ◌||◌, List, eqb, leb, length}
 use Rattle.sheet.specs.declared.Counts.{Counts}
-use Rattle.sheet.specs.Reading.{Reading, refused, rows, reading}
+use Rattle.sheet.specs.Reading.{refused, rows, reading}
 use Rattle.base.specs.Lists.{Found, none, at, found, or_else, newest, oldest}
 use Rattle.board.specs.Board.{Board, board_of, given, kind_chip, id_of, kind_of, page_of, has_row, placed, chip_id, parent_of, inner_id, inner_chip}
 

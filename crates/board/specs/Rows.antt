@@ -1,6 +1,6 @@
 -- C, cells and rows: cells, the rows of a page, their tops.
-use Rattle.std.specs.Prelude.{ℕ, suc, zero, ◌+◌, ◌*◌, Bool, true, false, not, ◌&&◌, ◌||◌, List, [], ◌∷◌, map, eqb, ltb, leb, length}
-use Rattle.base.specs.Lists.{upto, keep, fold, any, greatest}
+use Rattle.std.specs.Prelude.{ℕ, suc, zero, ◌+◌, ◌*◌, Bool, true, false, ◌&&◌, ◌||◌, List, [], ◌∷◌, map, eqb, ltb, length}
+use Rattle.base.specs.Lists.{upto, keep, fold, greatest}
 use Rattle.board.specs.Board.{Board, page_of, down_of, has_row, half_x_of, half_y_of, rotation_of, x_of, y_of}
 
 -- C2: a rerouter's extent in x and in y, `2 * REROUTER_HALF`.

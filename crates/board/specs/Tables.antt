@@ -1,12 +1,12 @@
 -- How the code holds what the rules speak of, in tables of rows of numbers. No rule stands here.
-use Rattle.std.specs.Prelude.{ℕ, zero, suc, ◌-◌, ◌<◌, ◌≡◌, Bool, true, false, length, get_or}
+use Rattle.std.specs.Prelude.{ℕ, ◌<◌, ◌≡◌, Bool, true, false, length, get_or}
 use mathlib.Core.List.{List, [], ◌∷◌, map, Memᴰ}
 use Rattle.sheet.specs.Table.{MISSING}
 use Rattle.base.specs.Lists.{Found, none, at, least, greatest}
 use Rattle.board.specs.Board.{Board, field, has_row, page_of, source_node, target_node}
 use Rattle.board.specs.Rows.{row_of, row_top}
 use Rattle.board.specs.Groups.{Tap, anchor_of, wire_open, anchors_open, taps_of, taps_in, crosses}
-use Rattle.board.specs.Demands.{PageLanes, planned, no_lanes, lane_of}
+use Rattle.board.specs.Demands.{PageLanes, no_lanes, lane_of}
 
 -- An index that may not be there, as one number.
 abbrev pub held : Found → ℕ

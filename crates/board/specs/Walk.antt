@@ -5,13 +5,13 @@ use Rattle.sheet.specs.declared.Checked.{Checked}
 use Rattle.sheet.specs.declared.Checked.TheVariants.{Refused as NotTaken, Fine as Taken}
 use Rattle.sheet.specs.Table.{library_most}
 use Rattle.sheet.specs.Reading.{rows_from, listed, rows, reading}
-use Rattle.sheet.specs.Answer.{AtRow, RowsHeld, counts_of}
+use Rattle.sheet.specs.Answer.{AtRow, RowsHeld}
 use Rattle.board.specs.declared.walks.Walk.{Walk}
 use Rattle.board.specs.declared.refusals.Fault.{Fault}
 use Rattle.board.specs.declared.refusals.Fault.TheVariants.{Refused, Fine}
 use Rattle.base.specs.Lists.{Found, none, at, found}
 use Rattle.board.specs.Board.{Board, board_of, kind_chip, id_of, kind_of, chip_id, inner_id}
-use Rattle.board.specs.Refusals.{first_line, node_twice, chip_twice, inner_twice, page_missing, parent_missing, chip_missing, row_unplaced, Judged, turned_away, board, judged_board, judged}
+use Rattle.board.specs.Refusals.{first_line, node_twice, chip_twice, inner_twice, page_missing, parent_missing, chip_missing, row_unplaced, Judged, turned_away, board}
 use Rattle.board.specs.Index.{Index, column, entry_of}
 pub use Rattle.board.specs.Index.{Ids}
 

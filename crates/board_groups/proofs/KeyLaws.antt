@@ -1,13 +1,13 @@
 -- The key rows of nodes, sorted: each node's key stands among them, they rise by page, down and falling x end, and a walk over them numbers the rows.
-use Prim.Native.Nat.{ℕ, zero, suc, ◌+◌, ◌-◌, ◌*◌, ◌≤◌, ◌<◌}
+use Prim.Native.Nat.{ℕ, zero, suc, ◌+◌, ◌-◌, ◌≤◌, ◌<◌}
 use native.Mathlib.Omega.{arith}
 use native.Mathlib.Decide.{dec_lt}
 use native.Mathlib.Numerals.{add-one}
 use mathlib.Core.Path.{◌≡◌, refl, sym, ap, ◌∙◌, subst}
-use mathlib.Core.Bool.{Bool, true, false, not, ◌||◌}
+use mathlib.Core.Bool.{Bool, true, false, not}
 use mathlib.Core.List.{List, [], ◌∷◌, ◌++◌, Memᴰ}
 use lib.Dec.{eqb}
-use lib.ListN.{length, get_or, set, take, drop, length-set, length-append, length-drop}
+use lib.ListN.{length, get_or, set, take, drop, length-append, length-drop}
 use lib.Seq.{get_or-set_same, get_or-set_other, get_or-take, length-take-le, take_at}
 use borrow.Author.Tests.{eq-eqb, ne_eqb, eqb-true, eqb-false, lt-ltb, le-ltb}
 use Rattle.sheet.specs.Table.{MISSING, HALF_MOST}

@@ -1,32 +1,30 @@
 -- What is known of every tap, and what the taps of a group add up to.
-use Prim.Native.Nat.{ℕ, zero, suc, ◌+◌, ◌-◌, ◌≤◌, ◌<◌, min, max}
+use Prim.Native.Nat.{ℕ, zero, suc, ◌+◌, ◌≤◌, ◌<◌, min, max}
 use native.Mathlib.Omega.{arith}
 use native.Mathlib.Numerals.{add-one}
 use mathlib.Core.Path.{◌≡◌, refl, sym, ap, ◌∙◌, subst}
 use mathlib.Core.Logic.{◌⊎◌, inl, inr, ⊎_elim}
-use mathlib.Core.Bool.{Bool, true, false, not, ◌&&◌, ◌||◌}
+use mathlib.Core.Bool.{Bool, true, false, ◌&&◌, ◌||◌}
 use mathlib.Core.List.Memᴰ.{cases_cons as cases}
 use mathlib.Core.List.Memᴰ.{head as here}
 use mathlib.Core.List.Memᴰ.{not-nil as nowhere}
 use mathlib.Core.List.Memᴰ.{tail as there}
 use mathlib.Core.List.{List, [], ◌∷◌, map, Memᴰ as Mem}
-use lib.Dec.{eqb, ltb}
+use lib.Dec.{eqb}
 use lib.ListN.{length, get_or, set}
 use lib.Seq.{get_or-set_same, get_or-set_other}
-use borrow.Author.Tests.{eq-eqb, ne_eqb, eqb-true, eqb-false, lt-ltb, le-ltb}
+use borrow.Author.Tests.{eq-eqb, ne_eqb, eqb-true, eqb-false}
 use Rattle.sheet.specs.Table.{MISSING}
 use Rattle.base.specs.Lists.{Found, none, at, any, keep, fold, upto, least, greatest}
-use Rattle.board.specs.Board.{Board, field, has_row, page_of, source_node, target_node, source_port}
+use Rattle.board.specs.Board.{Board, field, page_of, source_node, target_node}
 use Rattle.board.specs.Rows.{row_of}
-use Rattle.board.specs.Groups.{Tap, anchor_of, group_for, tap_for, add_wire, taps_of, taps_in, source_anchor, target_anchor, crosses, crosses_at, is_bus_worthy}
-use Rattle.board.specs.Demands.{first_row, last_row, needs_lane}
+use Rattle.board.specs.Groups.{Tap, anchor_of, group_for, tap_for, add_wire, taps_of, taps_in, source_anchor, target_anchor, crosses, crosses_at}
+use Rattle.board.specs.Demands.{first_row, last_row}
 use Rattle.base.specs.Views.{view}
-use Rattle.board.specs.Tables.{held, flag, tap_in, tap_target, group_row, WireFacts}
-use Rattle.board_groups.specs.Collecting.{head_page, GroupSums}
+use Rattle.board.specs.Tables.{held, flag, tap_in, tap_target, group_row}
 use Rattle.base.proofs.Members.{keep_in, keep_from, map_in, map_from}
 use Rattle.board_groups.proofs.RowLaws.{On, row_below}
-use Rattle.board_groups.proofs.Ends.{held_there}
-use Rattle.board_groups.proofs.TapLaws.{Carried, carried, carried_row, carried_below, add_none, add_some, anchor_below}
+use Rattle.board_groups.proofs.TapLaws.{carried, carried_row, carried_below, add_none, add_some, anchor_below}
 
 -- A tap of one of the first n wires: where its wire goes, and where the first wire of its group goes.
 pub record Known (b : Board) (n : ℕ) (t : Tap) : Type 0 where

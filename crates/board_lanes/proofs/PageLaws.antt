@@ -11,7 +11,7 @@ use mathlib.Core.List.Memᴰ.{not-nil as nowhere}
 use mathlib.Core.List.Memᴰ.{tail as there}
 use mathlib.Core.List.{List, [], ◌∷◌, ◌++◌, map, reverse, reverse_aux, reverse-cons, map-append, Memᴰ as Mem}
 use lib.Dec.{eqb, ltb}
-use lib.ListN.{length, get_or, set, take, drop, length-set, length-append, length-drop}
+use lib.ListN.{length, get_or, set, take, drop, length-append, length-drop}
 use lib.Seq.{get_or-set_same, get_or-set_other, take-suc, drop-cons, take_at, length-take-le}
 use borrow.Author.Tests.{eq-eqb, ne_eqb, eqb-true, eqb-false, lt-ltb, le-ltb, ltb-true, ltb-false}
 use Rattle.sheet.specs.Table.{MISSING}
@@ -23,9 +23,9 @@ use Rattle.lanes.specs.LaneCall.{faulty, Sound}
 use Rattle.lanes.specs.Keys.{demand_of, lane_column, with_lane, each_with, rows_after, result_of, PackedRows}
 use Rattle.base.proofs.Bools.{never, clash, or_left, or_right, pick_true, pick_false}
 use Rattle.lanes.proofs.Promise.{lanes_apart}
-use Rattle.base.specs.Lists.{Found, none, at, any, keep, upto}
+use Rattle.base.specs.Lists.{Found, none, at, keep, upto}
 use Rattle.board.specs.Board.{Board, field, source_node, target_node, kind_chip, kind_input, class_storage}
-use Rattle.board.specs.Groups.{Tap, anchor_of, taps_of, source_anchor, target_anchor, crosses, crosses_at, is_bus_worthy}
+use Rattle.board.specs.Groups.{Tap, anchor_of, source_anchor, target_anchor, crosses, crosses_at, is_bus_worthy}
 use Rattle.board.specs.Demands.{lane_in, first_row, last_row, needs_lane}
 use Rattle.base.specs.Views.{view}
 use Rattle.board.specs.Tables.{held, flag, tap_in, tap_target}

@@ -4,32 +4,27 @@ use native.Mathlib.Omega.{arith}
 use native.Mathlib.Decide.{dec_lt, ℕ_discrete}
 use native.Mathlib.Numerals.{add-one}
 use mathlib.Core.Path.{◌≡◌, refl, sym, ap, ◌∙◌, subst}
-use mathlib.Core.Logic.{◌⊎◌, inl, inr, ⊎_elim}
-use mathlib.Core.Bool.{Bool, true, false, not, ◌&&◌, ◌||◌}
-use mathlib.Core.List.Memᴰ.{cases_cons as cases}
+use mathlib.Core.Bool.{Bool, true, false, ◌&&◌}
 use mathlib.Core.List.Memᴰ.{head as here}
 use mathlib.Core.List.Memᴰ.{not-nil as nowhere}
 use mathlib.Core.List.Memᴰ.{tail as there}
 use mathlib.Core.List.{List, [], ◌∷◌, ◌++◌, map, reverse, Memᴰ as Mem}
-use lib.Dec.{eqb, ltb}
-use lib.ListN.{length, get_or, set, replicate, length-append, get_or-append, get_or-eq_default}
+use lib.Dec.{eqb}
+use lib.ListN.{length, get_or, set, length-append, get_or-append, get_or-eq_default}
 use lib.Seq.{get_or_at}
-use borrow.Author.Tests.{eq-eqb, ne_eqb, eqb-true, eqb-false}
+use borrow.Author.Tests.{eqb-true}
 use Rattle.sheet.specs.Table.{MISSING}
 use Rattle.base.specs.Sort.{sorted}
-use Rattle.lanes.specs.Lanes.{Demand, Packed, full, laned, packed, pack_in, ranked, entries}
-use Rattle.lanes.specs.declared.pack.Packing.{Packing}
+use Rattle.lanes.specs.Lanes.{full, laned, packed, pack_in, ranked, entries}
 use Rattle.lanes.specs.declared.pack.Packing.TheVariants.{Lanes, Full}
 use Rattle.base.proofs.Bools.{never, clash}
 use Rattle.base.specs.Lists.{Found, none, at, keep}
 use Rattle.board.specs.Board.{Board, field, given, has_gutter, min_y_of, page_of}
-use Rattle.board.specs.Groups.{Tap, taps_of, taps_in}
-use Rattle.board.specs.Demands.{PageLanes, Planned, crowded, planned, no_lanes, lane_in, lane_of, first_row, last_row, needs_lane, demand_of, groups_on, packed_on, plan_upto, plan_lanes}
-use Rattle.base.specs.Views.{view}
+use Rattle.board.specs.Groups.{Tap, taps_of}
+use Rattle.board.specs.Demands.{PageLanes, crowded, planned, no_lanes, lane_in, lane_of, needs_lane, demand_of, groups_on, packed_on, plan_upto, plan_lanes}
 use Rattle.board.specs.Tables.{held, tap_in, tap_target, group_row, NodeFacts, WireFacts, GroupFacts, PageFacts}
-use Rattle.board_groups.specs.Collecting.{relaned, head_page, GroupSums, Packable}
-use Rattle.board_lanes.specs.PagePlan.{PlanHeld}
-use Rattle.board_lanes.specs.PagePlan.{group_demand, asking, PagePacked, GutterPacked, Surveyed, Collected}
+use Rattle.board_groups.specs.Collecting.{relaned, GroupSums, Packable}
+use Rattle.board_lanes.specs.PagePlan.{group_demand, asking, GutterPacked, Surveyed, Collected}
 use Rattle.base.proofs.Members.{keep_from, map_from}
 use Rattle.base.proofs.Views.{view_mem, length-view}
 use Rattle.board_groups.proofs.Facts.{column_kept, column_more, same_nodes, same_wires_lem}

@@ -1,5 +1,5 @@
 -- How the code plans a page, from the taps, the page that each asks for a lane on, and the groups' rows. No rule stands here.
-use Rattle.std.specs.Prelude.{ℕ, ◌+◌, ◌≤◌, ◌<◌, ◌-◌, ◌≡◌, Bool, true, false, List, [], ◌∷◌, map, reverse, eqb, length, get_or}
+use Rattle.std.specs.Prelude.{ℕ, ◌+◌, ◌≤◌, ◌<◌, ◌≡◌, true, false, List, [], ◌∷◌, map, reverse, eqb, length, get_or}
 use Rattle.sheet.specs.Table.{library_most}
 use Rattle.lanes.specs.Lanes.{Demand, full, laned, packed, lane_most}
 use Rattle.lanes.specs.Keys.{demand_of}

@@ -1,10 +1,9 @@
 -- From planning a text to `plan_bus`.
-use Prim.Native.Nat.{ℕ, zero, suc, ◌+◌, ◌*◌, ◌≤◌, ◌<◌, min}
+use Prim.Native.Nat.{ℕ, zero, suc, ◌+◌, ◌*◌, ◌≤◌, ◌<◌}
 use native.Mathlib.Omega.{arith}
 use mathlib.Core.Path.{◌≡◌, refl, sym, ap, ◌∙◌, subst}
-use mathlib.Core.Bool.{Bool, true, false, ◌&&◌}
+use mathlib.Core.Bool.{Bool, true, false}
 use mathlib.Core.List.{List, [], ◌∷◌, ◌++◌, map}
-use lib.Dec.{leb}
 use lib.ListN.{length, get_or, drop}
 use borrow.Author.Tests.{le-leb}
 use Rattle.sheet.specs.declared.Counts.{Counts}
@@ -14,8 +13,8 @@ use Rattle.board.specs.Refusals
 use Rattle.board.specs.Refusals.{Judged, board, judged}
 use Rattle.board.specs.Demands
 use Rattle.board.specs.Demands.{PageLanes, plan_lanes, no_lanes}
-use Rattle.board.specs.Planning.{Planning, refused, lanes_for, planning, fits_pages, crowding, records, page_row, pages_after, fitted}
-use Rattle.board.specs.Walk.{WithinLibrary, counts_in}
+use Rattle.board.specs.Planning.{Planning, refused, lanes_for, planning, fits_pages, crowding, records, page_row, pages_after}
+use Rattle.board.specs.Walk.{WithinLibrary}
 use Rattle.lanes.specs.Lanes.{lane_most}
 use Rattle.board_plan.specs.declared.Asked.{Asked}
 use Rattle.board_plan.specs.declared.Lent.{Lent}

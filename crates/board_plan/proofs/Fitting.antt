@@ -1,28 +1,18 @@
 -- Room for a plan: what the test of the lent lengths says.
-use Prim.Native.Nat.{ℕ, zero, suc, ◌+◌, ◌*◌, ◌≤◌, ◌<◌, min}
+use Prim.Native.Nat.{ℕ, suc, ◌+◌, ◌*◌, ◌≤◌, ◌<◌, min}
 use native.Mathlib.Omega.{arith}
-use mathlib.Core.Path.{◌≡◌, refl, sym, ap, ◌∙◌, subst}
-use mathlib.Core.Bool.{Bool, true, false, not, ◌&&◌}
-use mathlib.Core.List.{List, [], ◌∷◌, ◌++◌}
+use mathlib.Core.Path.{◌≡◌, refl, sym}
+use mathlib.Core.Bool.{true, false}
+use mathlib.Core.List.{List, [], ◌∷◌}
 use lib.Dec.{leb}
 use lib.ListN.{length, get_or, drop, length-drop, drop_of_length-le}
 use lib.Seq.{drop-cons}
-use borrow.Author.Tests.{le-leb, lt-leb, leb-true, leb-false}
-use Rattle.sheet.specs.declared.Counts.{Counts}
-use Rattle.sheet.specs.Table.{library_most}
-use Rattle.sheet.specs.Reading
-use Rattle.sheet.specs.Reading.{Reading, rows, reading, rows_from}
-use Rattle.sheet.specs.Answer.{rows_after}
+use borrow.Author.Tests.{le-leb, lt-leb, leb-true}
 use Rattle.board.specs.Board.{Board}
-use Rattle.board.specs.Refusals
-use Rattle.board.specs.Refusals.{Judged, judged}
-use Rattle.board.specs.Demands.{plan_lanes}
-use Rattle.board.specs.Planning.{Planning, refused, planning, crowding, fits_pages, records, fitted}
-use Rattle.board_lanes.specs.PagePlan.{Room}
-use Rattle.board.specs.Walk.{WithinLibrary, counts_in}
+use Rattle.board.specs.Planning.{records}
 use Rattle.base.proofs.Bools.{and_left, and_right}
 use Rattle.board_plan.specs.declared.Lent.{Lent}
-use Rattle.board_plan.specs.TextPlan.{LINE_MOST, has_room, fits_counts, fits_lent, shortest, WorkLent}
+use Rattle.board_plan.specs.TextPlan.{LINE_MOST, has_room, fits_counts, fits_lent, shortest}
 
 -- What a board that fits finds lent.
 pub record Fits (lent : Lent) (b : Board) : Type 0 where

@@ -1,14 +1,13 @@
 -- The page answers, written row by row.
-use Prim.Native.Nat.{ℕ, suc, ◌+◌, ◌*◌, ◌≤◌, ◌<◌}
+use Prim.Native.Nat.{ℕ, suc, ◌+◌, ◌*◌, ◌<◌}
 use native.Mathlib.Omega.{arith}
 use native.Mathlib.Numerals.{add-one}
 use mathlib.Core.Path.{◌≡◌, refl, sym, ap, ap₂, ◌∙◌}
 use mathlib.Core.List.{List, [], ◌∷◌, ◌++◌, map, append_assoc, map-append}
 use lib.ListN.{length, get_or, set, take, drop, length-map}
-use lib.Seq.{take-suc, drop-cons, set_at, length-take-le, append_snoc, take-length}
+use lib.Seq.{take-suc, drop-cons, set_at, length-take-le, take-length}
 use borrow.Author.Tests.{eq-eqb, ne_eqb}
-use Rattle.lanes.specs.Lanes.{lane_most}
-use Rattle.board.specs.Board.{Board, field}
+use Rattle.board.specs.Board.{field}
 use Rattle.board.specs.Demands.{PageLanes, no_lanes, band}
 use Rattle.board.specs.Tables.{PageFacts}
 use Rattle.board.specs.Planning.{page_row}

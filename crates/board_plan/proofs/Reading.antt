@@ -1,14 +1,12 @@
 -- A text that is checked, fitted and read.
-use Prim.Native.Nat.{ℕ, zero, suc, ◌+◌, ◌*◌, ◌≤◌, ◌<◌}
+use Prim.Native.Nat.{ℕ, ◌≤◌, ◌<◌}
 use native.Mathlib.Omega.{arith}
 use mathlib.Core.Path.{◌≡◌, refl, sym, ap, ◌∙◌, subst}
 use mathlib.Core.Bool.{Bool, true, false, ◌&&◌}
-use mathlib.Core.List.{List, [], ◌∷◌, ◌++◌}
-use lib.Dec.{ltb}
+use mathlib.Core.List.{List, [], ◌++◌}
 use lib.ListN.{length, take, drop, take-append-drop}
 use lib.Seq.{length-take-le, get_or-take, ext_get_or}
 use Rattle.sheet.specs.declared.Counts.{Counts}
-use Rattle.sheet.specs.declared.Checked.{Checked}
 use Rattle.sheet.specs.declared.Checked.TheVariants.{Refused as NotTaken, Fine as Taken}
 use Rattle.sheet.specs.Table.{library_most}
 use Rattle.sheet.specs.Reading.{rows_from}
@@ -16,11 +14,10 @@ use Rattle.sheet.specs.Answer.{RowsHeld}
 use Rattle.board.specs.Board.{Board}
 use Rattle.board.specs.Refusals
 use Rattle.board.specs.Refusals.{Judged, board, judged}
-use Rattle.board.specs.Demands.{PageLanes, Planned, crowded, planned, plan_lanes}
-use Rattle.board.specs.Planning.{Planning, refused, lanes_for, planning, crowding, records, fitted, judged_for}
-use Rattle.board_groups.specs.Collecting.{Indexes}
+use Rattle.board.specs.Demands.{plan_lanes}
+use Rattle.board.specs.Planning.{Planning, refused, planning, crowding, records, judged_for}
 use Rattle.board_lanes.specs.PagePlan.{Room}
-use Rattle.board.specs.Walk.{WithinLibrary, counts_in, board_checked, Indexed, IndexedIf, RowsIf}
+use Rattle.board.specs.Walk.{WithinLibrary, counts_in, board_checked, IndexedIf, RowsIf}
 use Rattle.base.proofs.Bools.{never}
 use Rattle.board.proofs.Planning.{planning_refused, planning_fine}
 use Rattle.board_plan.specs.declared.Lent.{Lent}

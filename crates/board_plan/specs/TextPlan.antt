@@ -3,15 +3,14 @@ use Rattle.std.specs.Prelude.{ℕ, suc, ◌+◌, ◌*◌, ◌/◌, ◌≤◌, mi
 use Rattle.sheet.specs.declared.Counts.{Counts}
 use Rattle.sheet.specs.Table.{library_most}
 use Rattle.board.specs.Board.{Board}
-use Rattle.board.specs.Refusals
 use Rattle.board.specs.Refusals.{Judged, turned_away, board, judged}
 use Rattle.board.specs.Groups.{taps_of}
 use Rattle.board.specs.Demands.{PageLanes, Planned, crowded, planned, plan_lanes}
-use Rattle.board.specs.Planning.{Planning, refused, lanes_for, planning, fits_pages, crowding, records}
+use Rattle.board.specs.Planning.{records}
 use Rattle.base.specs.Views.{view}
 use Rattle.board.specs.Tables.{tap_in, NodeFacts, WireFacts, GroupFacts, PageFacts}
 use Rattle.board_groups.specs.Collecting.{Indexes}
-use Rattle.board.specs.Walk.{counts_in, Indexed}
+use Rattle.board.specs.Walk.{counts_in}
 use Rattle.board.specs.Accepted.{Accepted}
 use Rattle.board_lanes.specs.PagePlan.{Room}
 use Rattle.board_plan.specs.declared.Lent.{Lent}

@@ -1,8 +1,8 @@
 -- The program's limits: what it lends is enough for every board that it takes, and what it is told to write has room.
-use Prim.Native.Nat.{ℕ, zero, suc, ◌+◌, ◌*◌, ◌≤◌, ◌<◌}
+use Prim.Native.Nat.{ℕ, ◌+◌, ◌*◌, ◌≤◌, ◌<◌}
 use native.Mathlib.Omega.{arith}
-use mathlib.Core.Path.{◌≡◌, refl, sym, ap, ◌∙◌, subst}
-use mathlib.Core.Bool.{Bool, true, false}
+use mathlib.Core.Path.{◌≡◌, refl, sym, ap, subst}
+use mathlib.Core.Bool.{Bool, true}
 use mathlib.Core.List.{List}
 use lib.Dec.{ltb}
 use lib.ListN.{length}
@@ -11,8 +11,7 @@ use Rattle.sheet.specs.declared.Counts.{Counts}
 use Rattle.sheet.specs.Table.{program_most}
 use Rattle.board.specs.Board.{Board}
 use Rattle.board.specs.Refusals.{board, judged}
-use Rattle.board.specs.Planning.{Planning, planning}
-use Rattle.board.specs.Walk.{WithinLibrary}
+use Rattle.board.specs.Planning.{Planning}
 use Rattle.board_plan.specs.TextPlan.{LINE_MOST, has_room, fits_counts, fits_lent}
 use Rattle.board.proofs.Accepting.{from_sheet}
 use Rattle.routes_promise.proofs.ThreeCalls.{planning_all}

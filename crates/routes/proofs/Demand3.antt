@@ -1,10 +1,9 @@
 -- Demand 3 of the finished plan.
-use Rattle.std.proofs.Common.{◌≡◌, ℕ, suc, ◌-◌, ◌<◌, ◌≤◌, true, List, [], ◌∷◌, length, sym, refl, ap, ◌∙◌, arith, eq-eqb}
+use Rattle.std.proofs.Common.{◌≡◌, ℕ, suc, ◌<◌, true, List, [], ◌∷◌, length, sym, refl, ap, ◌∙◌, arith, eq-eqb}
 use mathlib.Core.List.Memᴰ
 use mathlib.Core.List.{Memᴰ}
 use Rattle.base.specs.Lists.{keep}
-use Rattle.sheet.specs.Table.{ORIGIN, COORDINATE_MOST}
-use Rattle.board.specs.Board.{Board, has_gutter, min_y_of}
+use Rattle.board.specs.Board.{Board}
 use Rattle.board.specs.Accepted.{Accepted}
 use Rattle.board.specs.Demands.{PageLanes, planned, plan_lanes}
 use Rattle.base.proofs.Bools.{never, clash}

@@ -1,9 +1,8 @@
 -- The buffers hold a bus: one rerouter and one bus wire more.
-use Rattle.std.proofs.Common.{◌≡◌, ℕ, zero, suc, ◌+◌, ◌<◌, ◌≤◌, List, [], ◌∷◌, length, set, sym, refl, ap, ◌∙◌, subst, add-one}
+use Rattle.std.proofs.Common.{◌≡◌, ℕ, suc, ◌+◌, List, [], ◌∷◌, length, set, sym, refl, ap, ◌∙◌, add-one}
 use Rattle.sheet.specs.Table.{MISSING}
-use Rattle.board.specs.Board.{Board, target_node, target_port}
-use Rattle.routes.specs.Bus
-use Rattle.routes.specs.Bus.{Bus, BusWire, port, rerouter, onward, delivery, fed_by, place, deliver}
+use Rattle.board.specs.Board.{target_node, target_port}
+use Rattle.routes.specs.Bus.{port, rerouter, onward, delivery, fed_by}
 use Rattle.routes.specs.Buffers.{outward, rerouter_row, wire_row}
 use Rattle.routes.specs.Tables.{written_over}
 use Rattle.routes.specs.declared.bus.End.{End}
@@ -11,8 +10,7 @@ use Rattle.routes.specs.declared.bus.End.TheVariants.{Port, Rerouter as AtRerout
 use Rattle.routes.specs.declared.bus.Feed.{Feed}
 use Rattle.routes.specs.declared.bus.Rerouter.{Rerouter}
 use Rattle.routes.specs.declared.bus.BusCount.{BusCount}
-use Rattle.routes.specs.declared.bus.Placed.{Placed}
-use Rattle.routes.specs.Holding.{end_node, end_port, end_of, feed_of, rerouter_of, BusHeld, Placing, Delivering}
+use Rattle.routes.specs.Holding.{end_node, end_port, end_of, feed_of, rerouter_of, Placing, Delivering}
 
 onward_row : (e : End) (n : ℕ) → wire_row (record { source = end_of e; target = rerouter n; carries = onward }) ≡ end_node e ∷ end_port e ∷ n ∷ MISSING ∷ MISSING ∷ MISSING ∷ []
 onward_row (Port m p) n = refl

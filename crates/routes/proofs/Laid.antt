@@ -6,7 +6,7 @@ use lib.ListN.{length-reverse}
 use borrow.Author.Tests.{not-false}
 use Rattle.base.specs.Sort.{sorted, lex_less}
 use Rattle.base.proofs.SortLaws.{Order, lex_order}
-use Rattle.base.specs.Lists.{at, found, any, keep}
+use Rattle.base.specs.Lists.{found, any, keep}
 use Rattle.board.specs.Board.{Board, page_of}
 use Rattle.board.specs.Groups.{Tap, taps_of, target_anchor}
 use Rattle.board.specs.Demands.{PageLanes, lane_of}

@@ -3,15 +3,14 @@ use Rattle.std.proofs.Common.{◌≡◌, ℕ, Bool, List, refl}
 use Rattle.sheet.specs.declared.Counts.{Counts}
 use Rattle.board.specs.Board.{Board}
 use Rattle.board.specs.Demands.{PageLanes}
-use Rattle.board.specs.Planning
 use Rattle.board.specs.Planning.{Planning, lanes_for, planning}
 use Rattle.board.specs.Walk.{WithinLibrary}
 use Rattle.base.proofs.Bools.{never}
 use Rattle.board.proofs.Accepting.{sheet_accepted}
 use Rattle.board.proofs.Planning.{lanes_from}
 use Rattle.routes.specs.Bus.{Bus}
-use Rattle.routes.specs.Plan.{finished, laid_groups}
-use Rattle.routes.specs.Route.{Routed, turned_away, plan, routed, routed_by}
+use Rattle.routes.specs.Plan.{finished}
+use Rattle.routes.specs.Route.{plan, routed, routed_by}
 use Rattle.routes.specs.Demand3.{Demand3}
 use Rattle.routes.proofs.Demand3.{demand3}
 

@@ -1,9 +1,9 @@
 -- Rows of the buffers: what was written is read back, and what was read is written back.
-use Rattle.std.proofs.Common.{◌≡◌, ℕ, zero, suc, ◌+◌, ◌-◌, ◌%◌, ◌<◌, ◌≤◌, Bool, true, false, ◌&&◌, eqb, List, [], ◌∷◌, ◌++◌, map, reverse, length, get_or, take, drop, set, sym, refl, ap, ◌∙◌, subst, arith, length-set, take-append-drop, drop-set-lt, ne_eqb, eqb-true}
+use Rattle.std.proofs.Common.{◌≡◌, ℕ, zero, suc, ◌<◌, ◌≤◌, Bool, true, false, ◌&&◌, eqb, List, [], ◌∷◌, ◌++◌, map, length, get_or, take, drop, set, sym, refl, ap, ◌∙◌, subst, arith, take-append-drop, drop-set-lt, ne_eqb, eqb-true}
 use mathlib.Core.List.{Memᴰ}
 use lib.Seq.{set-get_or}
 use borrow.Author.Tests.{eqb-false}
-use Rattle.sheet.specs.Table.{ORIGIN, MISSING}
+use Rattle.sheet.specs.Table.{MISSING}
 use Rattle.base.specs.Views.{view}
 use Rattle.base.proofs.Lists.{same_two}
 use Rattle.base.proofs.Views.{view_more, length-view}

@@ -2,14 +2,14 @@
 use Rattle.std.proofs.Common.{◌≡◌, ℕ, zero, suc, ◌<◌, ◌≤◌, Bool, true, false, not, ◌&&◌, ◌||◌, eqb, ltb, List, [], ◌∷◌, length, refl, ap, ◌∙◌, subst, arith, eq-eqb, ne_eqb}
 use native.Mathlib.Decide.{ℕ_discrete}
 use mathlib.Core.List.Memᴰ
-use Rattle.base.specs.Lists.{at, any, fold, upto}
+use Rattle.base.specs.Lists.{any, fold, upto}
 use Rattle.board.specs.Board.{Board, source_node, target_node}
 use Rattle.board.specs.Groups.{wire_open}
 use Rattle.board.specs.Refusals.{body_of}
 use Rattle.board.specs.Demands.{PageLanes}
 use Rattle.base.proofs.Bools.{clash}
 use Rattle.base.proofs.Lists.{by_test, by_found, keep_no}
-use Rattle.routes.specs.Bus.{Bus, Feed, Port, insert_port, same_port, port_of, port_feed, placed_feed, fed_by, place, deliver, muted, port}
+use Rattle.routes.specs.Bus.{Bus, Feed, Port, insert_port, same_port, port_of, port_feed, placed_feed, fed_by, place, deliver, muted}
 use Rattle.routes.specs.Demand3.{here, names, times_delivered, at_port, through}
 use Rattle.routes.specs.Corners.{Cornering, turns_down, turns, turn_wire, with_corner, corner_level, corner_rerouter, corners}
 use Rattle.routes.proofs.Made.{Made, nothing, placing, serving, aside, cornered, delivery_wire, onward_wire}

@@ -1,5 +1,5 @@
 -- Lists sorted by the rows that hold them, and lists written over a table.
-use Rattle.std.proofs.Common.{◌≡◌, ℕ, zero, suc, ◌<◌, ◌≤◌, Bool, true, false, List, [], ◌∷◌, ◌++◌, map, reverse, length, get_or, take, set, sym, refl, ap, ◌∙◌, arith, length-set, take-suc-set, ext_get_or}
+use Rattle.std.proofs.Common.{◌≡◌, ℕ, zero, suc, ◌<◌, ◌≤◌, Bool, true, false, List, [], ◌∷◌, ◌++◌, map, reverse, length, get_or, take, sym, refl, ap, ◌∙◌, arith, length-set, take-suc-set, ext_get_or}
 use mathlib.Core.List.{reverse-cons}
 use Rattle.base.specs.Sort.{sorted, inserted, lex_less, sorted_rows}
 use Rattle.board.specs.Groups.{Tap}

@@ -13,7 +13,7 @@ use Rattle.board.proofs.Taps.{taps_of_lem}
 use Rattle.board.proofs.LanesFit.{planned_fits}
 use Rattle.routes.specs.Stops.{laid_taps, new_group, new_row, new_column}
 use Rattle.routes.specs.Levels.{Level, dropped, shared, own, Stop, kept_at, unclaimed, stop_for, stops_of, lane_for}
-use Rattle.routes.specs.Bus.{Bus, Rerouter, Feed, port, place, placed_feed, port_feed, deliver}
+use Rattle.routes.specs.Bus.{Bus, Rerouter, Feed, place, placed_feed, port_feed, deliver}
 use Rattle.routes.specs.Rerouters.{Emission, column_free, rerouter_near, level_here, source, lane_rerouter, row_rerouter, head_rerouter, link_rerouter, tap_rerouter, source_rerouter, gate_side_rerouter, clear_for, hang_on, with_source, start_group, with_link, start_row, with_gate_side, serve, emit_tap, emit}
 use Rattle.routes.specs.Plan.{bus_of}
 use Rattle.routes.specs.Demand3.{at_port}

@@ -1,5 +1,5 @@
 -- Demand 3 of the board of example (a): the conditions of `demand3` are met there.
-use Rattle.std.proofs.Common.{◌≡◌, ℕ, zero, suc, ◌+◌, ◌*◌, ◌<◌, ◌≤◌, true, List, [], ◌∷◌, refl, arith}
+use Rattle.std.proofs.Common.{◌≡◌, List, [], ◌∷◌, refl}
 use Rattle.sheet.specs.Table.{program_most}
 use Rattle.board.specs.Board
 use Rattle.board.specs.Groups

@@ -1,5 +1,5 @@
 -- The rerouters and bus wires, and the two operations that every rerouter and bus wire of a plan comes from.
-use Rattle.std.specs.Prelude.{ℕ, zero, suc, ◌+◌, Bool, true, false, not, ◌&&◌, ◌||◌, List, [], ◌∷◌, length, ◌==◌, nat_lt}
+use Rattle.std.specs.Prelude.{ℕ, zero, suc, Bool, true, false, not, ◌&&◌, ◌||◌, List, [], ◌∷◌, length, ◌==◌, nat_lt}
 use Rattle.base.specs.Lists.{any}
 use Rattle.board.specs.Board.{Board, source_node, source_port, target_node, target_port}
 use Rattle.board.specs.Rows.{Cell, cells_overlap, rerouter_cell, brick_cell, bricks_in}

@@ -1,5 +1,5 @@
 -- K, corners (`lay_mini_bus`): which wires turn, and where.
-use Rattle.std.specs.Prelude.{ℕ, zero, suc, ◌+◌, ◌-◌, Bool, true, false, not, ◌&&◌, ◌||◌, List, [], ◌∷◌, length, ◌==◌, nat_lt}
+use Rattle.std.specs.Prelude.{ℕ, Bool, true, false, not, ◌&&◌, List, [], ◌∷◌, length, ◌==◌, nat_lt}
 use Rattle.base.specs.Lists.{Found, none, at, keep, fold, upto}
 use Rattle.sheet.specs.Table.{MISSING}
 use Rattle.board.specs.Board.{Board, id_of, x_of, y_of, z_of, page_of, down_of, line_of, rotation_of, has_line, has_row, source_node, target_node}

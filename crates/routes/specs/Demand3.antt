@@ -1,11 +1,11 @@
 -- W, demand 3: what holds of the finished plan of every accepted board, said of its rerouters, its bus wires and the board alone.
-use Rattle.std.specs.Prelude.{◌≡◌, ℕ, zero, suc, ◌+◌, ◌*◌, ◌<◌, ◌≤◌, Bool, true, false, not, ◌&&◌, ◌||◌, List, [], ◌∷◌, map, length, ◌==◌, ◌≢◌, nat_eq, nat_le}
+use Rattle.std.specs.Prelude.{◌≡◌, ℕ, zero, suc, ◌+◌, ◌<◌, ◌≤◌, Bool, true, false, ◌&&◌, ◌||◌, List, [], ◌∷◌, map, length, ◌==◌, ◌≢◌, nat_eq, nat_le}
 use mathlib.Core.List.{Memᴰ}
 use Rattle.base.specs.Lists.{any, keep}
 use Rattle.board.specs.Board.{Board, source_node, source_port, target_node, target_port}
 use Rattle.board.specs.Rows.{REROUTER_SIZE}
 use Rattle.board.specs.Groups.{Tap, taps_of}
-use Rattle.routes.specs.Bus.{Bus, Rerouter, BusWire, End, port, rerouter, Carries, onward, delivery, part_head, part_link, part_tap, part_corner}
+use Rattle.routes.specs.Bus.{Bus, Rerouter, BusWire, End, port, rerouter, onward, delivery, part_head, part_link, part_tap, part_corner}
 use Rattle.routes.specs.Plan.{is_delivery, deliveries}
 
 -- S13: the rerouter of that number: lists hold the newest first, and numbers count from 0.

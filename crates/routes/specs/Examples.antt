@@ -1,6 +1,5 @@
 -- The worked examples (a) to (h) and the sheet without records, in one theorem.
-use Rattle.std.specs.Prelude.{◌≡◌, ℕ, zero, suc, ◌+◌, ◌*◌, Bool, true, false, List, [], ◌∷◌, map, reverse, replicate, refl}
-use Prim.Native.String
+use Rattle.std.specs.Prelude.{◌≡◌, ℕ, suc, ◌+◌, ◌*◌, Bool, true, false, List, [], ◌∷◌, map, reverse, replicate, refl}
 use Prim.Native.String.{String}
 use Prim.Native.Char.{code}
 use Rattle.sheet.specs.Number

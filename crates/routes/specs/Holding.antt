@@ -1,5 +1,5 @@
 -- How the code holds the bus and a stop's level: the buffers' rows, counts by value, feeds. No rule stands here.
-use Rattle.std.specs.Prelude.{◌≡◌, ℕ, zero, suc, ◌+◌, ◌%◌, ◌<◌, ◌≤◌, Bool, true, false, List, [], ◌∷◌, length, slice_set}
+use Rattle.std.specs.Prelude.{◌≡◌, ℕ, suc, ◌<◌, List, length, slice_set}
 use Rattle.sheet.specs.Table.{MISSING}
 use Rattle.board.specs.Board.{Board, target_node, target_port}
 use Rattle.routes.specs.Levels

@@ -1,6 +1,6 @@
 -- V, levels (`lay_bus`): the level of each stop.
-use Rattle.std.specs.Prelude.{ℕ, zero, suc, ◌+◌, ◌-◌, ◌/◌, Bool, true, false, not, ◌&&◌, ◌||◌, List, [], ◌∷◌, map, length, ◌==◌, nat_eq, nat_le}
-use Rattle.base.specs.Lists.{Found, none, at, found, or_else, any, keep}
+use Rattle.std.specs.Prelude.{ℕ, zero, suc, ◌+◌, ◌-◌, ◌/◌, Bool, true, false, not, ◌&&◌, List, [], ◌∷◌, length, ◌==◌, nat_eq, nat_le}
+use Rattle.base.specs.Lists.{Found, none, at, found, any, keep}
 use Rattle.board.specs.Board.{Board}
 use Rattle.board.specs.Rows.{row_top}
 use Rattle.board.specs.Groups.{Tap}

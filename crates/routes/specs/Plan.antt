@@ -1,12 +1,12 @@
 -- The finished plan: what `plan_bus`, `lay_bus` and `lay_mini_bus`, run in that order, give.
-use Rattle.std.specs.Prelude.{ℕ, zero, suc, ◌+◌, ◌-◌, Bool, true, false, not, ◌&&◌, ◌||◌, List, [], ◌∷◌, map, length}
-use Rattle.base.specs.Lists.{Found, none, at, keep}
+use Rattle.std.specs.Prelude.{ℕ, zero, suc, Bool, true, false, List, [], ◌∷◌, length}
+use Rattle.base.specs.Lists.{keep}
 use Rattle.board.specs.Board.{Board}
 use Rattle.board.specs.Groups.{Tap, taps_of}
 use Rattle.board.specs.Demands.{PageLanes}
 use Rattle.routes.specs.Stops.{laid_taps, new_group}
-use Rattle.routes.specs.Levels.{Stop, stops_of}
-use Rattle.routes.specs.Bus.{Bus, BusWire, Carries, onward, delivery, End, port, rerouter}
+use Rattle.routes.specs.Levels.{stops_of}
+use Rattle.routes.specs.Bus.{Bus, BusWire, onward, delivery}
 use Rattle.routes.specs.Rerouters.{emit}
 use Rattle.routes.specs.Corners.{corners}
 

@@ -1,5 +1,5 @@
 -- P, the plan sheet: the finished plan as text.
-use Rattle.std.specs.Prelude.{ℕ, zero, suc, ◌+◌, ◌-◌, Bool, true, false, List, [], ◌∷◌, ◌++◌, reverse, length}
+use Rattle.std.specs.Prelude.{ℕ, suc, ◌-◌, List, [], ◌∷◌, ◌++◌, reverse, length}
 use Prim.Native.Char.{code}
 use Rattle.sheet.specs.Table.{MISSING}
 use Rattle.sheet.specs.Text.{NEWLINE}

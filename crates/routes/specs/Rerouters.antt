@@ -1,6 +1,6 @@
 -- R, rerouters (`emit_lane`): heads, source rerouters, links, taps, gate-sides and deliveries, tap by tap in the order of laying.
-use Rattle.std.specs.Prelude.{ℕ, zero, suc, ◌+◌, ◌-◌, Bool, true, false, not, ◌&&◌, ◌||◌, List, [], ◌∷◌, length, ◌==◌, nat_lt, slice_index_or}
-use Rattle.base.specs.Lists.{Found, none, at, any}
+use Rattle.std.specs.Prelude.{ℕ, ◌+◌, ◌-◌, Bool, true, false, not, ◌&&◌, ◌||◌, List, [], ◌∷◌, ◌==◌, nat_lt, slice_index_or}
+use Rattle.base.specs.Lists.{none, at, any}
 use Rattle.sheet.specs.Table.{MISSING}
 use Rattle.board.specs.Board.{Board, placed, id_of, x_of, y_of, z_of, min_y_of}
 use Rattle.board.specs.Rows.{REROUTER_SIZE, rerouter_cell}

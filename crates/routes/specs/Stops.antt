@@ -1,5 +1,5 @@
 -- T, stops: the groups that are laid, their taps in order, and where a lane stops on each row.
-use Rattle.std.specs.Prelude.{ℕ, zero, suc, ◌+◌, ◌-◌, Bool, true, false, not, ◌&&◌, ◌||◌, List, [], ◌∷◌, map, reverse, length, ◌==◌, nat_le, nat_lt}
+use Rattle.std.specs.Prelude.{ℕ, ◌+◌, ◌-◌, Bool, true, false, not, ◌&&◌, List, [], ◌∷◌, map, reverse, ◌==◌, nat_le, nat_lt}
 use Rattle.base.specs.Sort.{sorted, lex_less}
 use Rattle.base.specs.Lists.{Found, none, at, found, keep, least, greatest}
 use Rattle.board.specs.Board.{Board, placed, x_of}

@@ -1,5 +1,5 @@
 -- How the code holds stops, rerouters and bus wires in tables of rows of numbers. Of the rules only P8 stands here.
-use Rattle.std.specs.Prelude.{◌≡◌, ℕ, zero, suc, ◌+◌, Bool, true, false, List, [], ◌∷◌, map, length, get_or, set, ◌==◌}
+use Rattle.std.specs.Prelude.{◌≡◌, ℕ, true, false, List, [], ◌∷◌, map, length, get_or, set, ◌==◌}
 use mathlib.Core.List.{Memᴰ}
 use Rattle.base.specs.Lists.{least, greatest}
 use Rattle.board.specs.Board.{Board, field}

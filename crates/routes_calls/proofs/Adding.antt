@@ -1,16 +1,16 @@
 -- Corners added to the lanes' bus: there is room, and what is left is the finished plan.
-use Prim.Native.Nat.{ℕ, zero, suc, ◌+◌, ◌-◌, ◌*◌, ◌≤◌, ◌<◌}
+use Prim.Native.Nat.{ℕ, ◌≤◌}
 use native.Mathlib.Omega.{arith}
-use mathlib.Core.Path.{◌≡◌, refl, sym, ap, ◌∙◌, subst}
-use mathlib.Core.Bool.{Bool, true, false}
-use mathlib.Core.List.{List, [], ◌∷◌, ◌++◌, map}
-use lib.ListN.{length, drop, length-append, length-map, length-drop}
+use mathlib.Core.Path.{◌≡◌, sym, ap, ◌∙◌, subst}
+use mathlib.Core.Bool.{true}
+use mathlib.Core.List.{List}
+use lib.ListN.{length}
 use Rattle.sheet.specs.declared.Counts.{Counts}
 use Rattle.board.specs.Board.{Board}
 use Rattle.board.specs.Demands.{PageLanes}
 use Rattle.base.proofs.Bools.{never, clash}
-use Rattle.routes.specs.Bus.{Bus, Port}
-use Rattle.routes.specs.Buffers.{port_row, ports_held}
+use Rattle.routes.specs.Bus.{Port}
+use Rattle.routes.specs.Buffers.{ports_held}
 use Rattle.routes.specs.Corners.{turnable, corners}
 use Rattle.routes.specs.Plan.{bus_of, finished}
 use Rattle.routes.specs.Holding.{BusHeld}

@@ -9,7 +9,6 @@ use lib.ListN.{length, get_or, take}
 use lib.Seq.{take-suc}
 use borrow.Author.Tests.{leb-true}
 use Rattle.sheet.specs.declared.Counts.{Counts}
-use Rattle.sheet.specs.Table.{library_most}
 use Rattle.board.specs.Board.{Board}
 use Rattle.board.specs.Demands.{PageLanes, Planned, crowded, planned, plan_lanes}
 use Rattle.board.specs.Planning.{Planning, refused, planning, crowding, records, judged_for}

@@ -60,15 +60,7 @@ fn with_source(
             rerouters,
             bus_wires,
             e,
-            row_rerouter(
-                l,
-                l.source_row,
-                l.source_x,
-                y,
-                2,
-                ROLE_SOURCE,
-                PART_SOURCE,
-            ),
+            row_rerouter(l, l.source_row, l.source_x, y, 2, ROLE_SOURCE, PART_SOURCE),
         );
     }
     e

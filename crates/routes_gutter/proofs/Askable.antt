@@ -1,8 +1,8 @@
 -- What the laid taps ask of rows can be answered: the rows are there, and all numbers are in range.
-use Prim.Native.Nat.{ℕ, zero, suc, ◌+◌, ◌-◌, ◌*◌, ◌≤◌, ◌<◌}
+use Prim.Native.Nat.{ℕ, ◌+◌, ◌*◌, ◌≤◌, ◌<◌}
 use native.Mathlib.Omega.{arith}
-use mathlib.Core.Path.{◌≡◌, refl, sym, ap, subst, ◌∙◌}
-use mathlib.Core.Bool.{Bool, true, false, not, ◌&&◌}
+use mathlib.Core.Path.{◌≡◌, sym, ap, subst}
+use mathlib.Core.Bool.{Bool, true, false, ◌&&◌}
 use mathlib.Core.List.{List, [], Memᴰ as Mem}
 use lib.Dec.{eqb}
 use lib.ListN.{length, get_or}
@@ -11,7 +11,7 @@ use Rattle.base.specs.Lists.{Found, none, at}
 use Rattle.base.specs.Views.{view}
 use Rattle.base.proofs.Bools.{never}
 use Rattle.base.proofs.Lists.{by_test}
-use Rattle.board.specs.Board.{Board, field, given, has_row, page_of, x_of, y_of}
+use Rattle.board.specs.Board.{Board, field, given, has_row, page_of}
 use Rattle.board.specs.Rows.{row_of, nodes_on, turned, size_y, brick_cell}
 use Rattle.board.specs.Accepted.{Accepted, Y_HIGH}
 use Rattle.board.specs.Groups.{Tap, taps_of, source_row, source_anchor}
@@ -22,16 +22,14 @@ use Rattle.board_groups.proofs.TapLaws.{carried_row, carried_below}
 use Rattle.board_lanes.proofs.GroupLaws.{known, known_row, source_below}
 use Rattle.routes.specs.Stops.{laid_taps}
 use Rattle.routes.specs.Levels.{stops_of}
-use Rattle.routes.specs.Rerouters.{TAP_RESERVE, source}
 use Rattle.routes.specs.Tables.{stop_in}
-use Rattle.routes_taps.specs.Taps.{LaidInRange}
 use Rattle.routes_taps.specs.Asking.{QuestionsIn, source_in, gate_side_in}
 use Rattle.routes_taps.proofs.Answering.{RowsThere}
-use Rattle.routes_taps.proofs.Questions.{Question, SourceThere, all_low, question_at, source_there, gate_side_low}
-use Rattle.routes_beside.specs.Beside.{count_on, BrickInRange, AskedInRange, BricksAskable, TapAskable, TapsAskable, RowsAskable}
+use Rattle.routes_taps.proofs.Questions.{Question, all_low, question_at, source_there, gate_side_low}
+use Rattle.routes_beside.specs.Beside.{count_on, BrickInRange, AskedInRange, BricksAskable, TapAskable, RowsAskable}
 use Rattle.routes_beside.proofs.Keys.{row_below_page}
 use Rattle.routes_gutter.specs.Lay.{LanesReady}
-use Rattle.routes_gutter.proofs.Boards.{Stands, tap_stands}
+use Rattle.routes_gutter.proofs.Boards.{tap_stands}
 use Rattle.routes_gutter.proofs.Supply.{few_nodes, few_wires, laid_at, laid_range, y_high}
 
 module _ (b : Board) (a : Accepted b) where

@@ -1,7 +1,7 @@
 -- From planning a text to its lanes' bus, and from there to `lay_bus`.
 use Prim.Native.Nat.{ℕ, ◌+◌, ◌*◌, ◌≤◌}
 use native.Mathlib.Omega.{arith}
-use mathlib.Core.Path.{◌≡◌, refl, sym, ap, ◌∙◌, subst}
+use mathlib.Core.Path.{◌≡◌, refl, sym, ap, ◌∙◌}
 use mathlib.Core.List.{List, [], ◌∷◌}
 use lib.ListN.{length}
 use borrow.Author.Tests.{le-leb}
@@ -9,7 +9,7 @@ use Rattle.sheet.specs.declared.Counts.{Counts}
 use Rattle.sheet.specs.Table.{library_most}
 use Rattle.board.specs.Board.{Board}
 use Rattle.board.specs.Demands.{PageLanes}
-use Rattle.board.specs.Planning.{Planning, refused, lanes_for, planning, records}
+use Rattle.board.specs.Planning.{refused, lanes_for, planning, records}
 use Rattle.board.specs.Walk.{WithinLibrary}
 use Rattle.board.proofs.Accepting.{sheet_accepted}
 use Rattle.board.proofs.Planning.{lanes_from}
@@ -20,10 +20,10 @@ use Rattle.board_plan.proofs.Fitting.{fits_all}
 use Rattle.board_plan.proofs.Surveying.{LanesTold}
 use Rattle.board_plan.proofs.Calling.{planning_same}
 use Rattle.routes.specs.Plan.{bus_of, laid_groups}
-use Rattle.routes.specs.Route.{Routed, routed_by, fits_bus, laid}
+use Rattle.routes.specs.Route.{routed_by, fits_bus, laid}
 use Rattle.routes.specs.declared.bus.BusCounts.{BusCounts}
 use Rattle.routes_gutter.specs.Bus.{BusLent, RowsReady, BusStands}
-use Rattle.routes_gutter.specs.Calls.{BusCalled, lay_call, bus_fits, bus_answer}
+use Rattle.routes_gutter.specs.Calls.{BusCalled, lay_call, bus_fits}
 use Rattle.routes_gutter.specs.declared.bus.BusPlan.TheVariants.{Refused, Laid}
 
 -- Work space stays as long as it is.

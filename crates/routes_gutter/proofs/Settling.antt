@@ -8,7 +8,7 @@ use Rattle.sheet.specs.declared.Counts.{Counts}
 use Rattle.board.specs.Board.{Board}
 use Rattle.board.specs.Accepted.{Accepted}
 use Rattle.board.specs.Demands.{PageLanes, planned, plan_lanes}
-use Rattle.routes.specs.Bus.{Bus, empty_bus}
+use Rattle.routes.specs.Bus.{empty_bus}
 use Rattle.routes.specs.Plan.{bus_of}
 use Rattle.routes.specs.Holding.{BusHeld}
 use Rattle.routes.specs.declared.bus.BusCount.{BusCount}

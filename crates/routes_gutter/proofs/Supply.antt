@@ -1,26 +1,23 @@
 -- What the steps of laying ask for, of a planned board of an accepted sheet.
-use Prim.Native.Nat.{ℕ, ◌-◌, ◌≤◌, ◌<◌}
+use Prim.Native.Nat.{ℕ, ◌≤◌, ◌<◌}
 use native.Mathlib.Omega.{arith}
 use native.Mathlib.Decide.{dec_lt}
 use mathlib.Core.Path.{◌≡◌, refl, sym, ap, subst, ◌∙◌}
-use mathlib.Core.Bool.{Bool, true, false, not}
-use mathlib.Core.List.Memᴰ.{head as here}
-use mathlib.Core.List.Memᴰ.{tail as there}
-use mathlib.Core.List.{List, [], ◌∷◌, map, Memᴰ as Mem}
-use lib.Dec.{eqb}
+use mathlib.Core.Bool.{true, not}
+use mathlib.Core.List.{List, [], map, Memᴰ as Mem}
 use lib.ListN.{length, get_or, get_or-eq_default}
 use borrow.Author.Tests.{ne_eqb}
 use Rattle.sheet.specs.Table.{MISSING}
-use Rattle.base.specs.Lists.{Found, none, at, found, greatest}
-use Rattle.board.specs.Board.{Board, field, given, has_row, page_of, x_of, y_of, half_x_of, half_y_of, min_y_of}
+use Rattle.base.specs.Lists.{Found, none, at, found}
+use Rattle.board.specs.Board.{Board, field, has_row, page_of, min_y_of}
 use Rattle.board.specs.Groups.{Tap, taps_of, taps_in, source_anchor}
 use Rattle.board.specs.Demands.{PageLanes, no_lanes, lane_of}
 use Rattle.board.specs.Tables
 use Rattle.base.specs.Views.{view}
 use Rattle.board.specs.Tables.{held, tap_in, group_row}
 use Rattle.base.proofs.Bools.{never, and_left}
-use Rattle.base.proofs.Members.{map_in, map_from, keep_from}
-use Rattle.board_groups.proofs.RowLaws.{On, on_from, row_below}
+use Rattle.base.proofs.Members.{map_in}
+use Rattle.board_groups.proofs.RowLaws.{row_below}
 use Rattle.board_groups.proofs.TapLaws.{carried_row, carried_below}
 use Rattle.board_lanes.proofs.GroupLaws.{Known, known, known_row, source_held, source_below, target_held, target_below, least_any, in_group}
 use Rattle.board.proofs.LanesFit.{planned_fits}

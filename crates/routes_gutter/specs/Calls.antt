@@ -1,16 +1,11 @@
 -- `lay_bus`, `lay_mini_bus`, and the three in order (`route`): what they answer and what they leave in the buffers.
-use Rattle.std.specs.Prelude.{ℕ, ◌+◌, ◌*◌, ◌≤◌, ◌≡◌, Bool, true, false, ◌&&◌, List, [], ◌∷◌, ◌++◌, map, leb, length, drop}
-use Rattle.sheet.specs.declared.Counts.{Counts}
+use Rattle.std.specs.Prelude.{ℕ, ◌≡◌, Bool, List, ◌++◌, map, length, drop}
 use Rattle.sheet.specs.Table.{library_most}
 use Rattle.board.specs.Board.{Board}
-use Rattle.board.specs.Demands.{PageLanes}
-use Rattle.board.specs.Planning.{Planning, refused, lanes_for, planning, page_row}
-use Rattle.board.specs.Walk.{counts_in}
+use Rattle.board.specs.Planning.{page_row}
 use Rattle.board_plan.specs.TextPlan.{shortest}
-use Rattle.routes.specs.Bus.{Bus}
-use Rattle.routes.specs.Buffers.{rerouter_row, wire_row, port_row}
+use Rattle.routes.specs.Buffers.{rerouter_row, wire_row}
 use Rattle.routes.specs.Tables.{written_over}
-use Rattle.routes.specs.Plan.{bus_of, finished, laid_groups}
 use Rattle.routes.specs.Route.{Routed, turned_away, plan, fits_bus, laid}
 use Rattle.routes_ports.specs.Settling.{ports_over}
 use Rattle.routes_gutter.specs.declared.bus.BusPlan.{BusPlan}

@@ -1,7 +1,7 @@
 -- `find_hits` with what it finds lent: what planning tells of the call, and what the rows of the plan tell of the hits.
-use Prim.Native.Nat.{ℕ, ◌+◌, ◌*◌, ◌/◌, ◌≤◌, ◌<◌, min}
+use Prim.Native.Nat.{ℕ, ◌+◌, ◌*◌, ◌/◌, ◌≤◌, min}
 use native.Mathlib.Omega.{arith}
-use mathlib.Core.Path.{◌≡◌, refl, sym, ap, ◌∙◌, subst}
+use mathlib.Core.Path.{◌≡◌, refl, sym, ap, ◌∙◌}
 use mathlib.Core.Bool.{Bool, true, false, ◌&&◌}
 use mathlib.Core.List.{List, [], ◌∷◌, ◌++◌, map}
 use lib.Dec.{leb}
@@ -13,8 +13,7 @@ use Rattle.sheet.specs.declared.Counts.{Counts}
 use Rattle.sheet.specs.Table.{library_most}
 use Rattle.board.specs.Board.{Board}
 use Rattle.board.specs.Demands.{PageLanes}
-use Rattle.board.specs.Planning.{Planning, refused, lanes_for, planning, records, page_row}
-use Rattle.board.specs.Walk.{counts_in}
+use Rattle.board.specs.Planning.{Planning, planning, records, page_row}
 use Rattle.board_plan.specs.declared.Asked.{Asked}
 use Rattle.board_plan.specs.declared.TextPlan.{TextPlan}
 use Rattle.board_plan.specs.declared.TextPlan.TheVariants as plans
@@ -23,9 +22,8 @@ use Rattle.board_plan.proofs.Fitting.{fits_all}
 use Rattle.board_plan.proofs.Surveying.{LanesTold, text_refusal, text_crowded, text_lanes}
 use Rattle.board_plan.proofs.Calling.{planning_same}
 use Rattle.board.proofs.Planning.{lanes_from}
-use Rattle.routes.specs.Bus.{Bus, Rerouter, BusWire}
-use Rattle.routes.specs.Buffers.{rerouter_row, wire_row, rerouter_in, wire_in, bus_held}
-use Rattle.routes.specs.Tables.{written_over}
+use Rattle.routes.specs.Bus.{Bus}
+use Rattle.routes.specs.Buffers.{rerouter_in, wire_in, bus_held}
 use Rattle.routes.specs.Plan.{finished, laid_groups}
 use Rattle.routes.specs.Route.{Routed, turned_away, plan, routed_by, fits_plan, routed}
 use Rattle.routes.specs.declared.bus.BusCounts.{BusCounts}
@@ -34,11 +32,9 @@ use Rattle.routes_calls.specs.Finish.{PlanReady}
 use Rattle.routes_promise.proofs.ReadBack.{done_few, done_back}
 use Rattle.routes_hits.specs.declared.boxes.PageBox.{PageBox}
 use Rattle.routes_hits.specs.declared.list.HitCounts.{HitCounts}
-use Rattle.routes_hits.specs.declared.find.HitsFound.{HitsFound}
 use Rattle.routes_hits.specs.declared.find.HitsFound.TheVariants as answers
-use Rattle.routes_hits.specs.declared.find.BoxPlan.{BoxPlan}
 use Rattle.routes_hits.specs.declared.find.BoxPlan.TheVariants.{Refused, Laned}
-use Rattle.routes_hits.specs.Hits.{on_board, hits, rerouters_under, wires_under}
+use Rattle.routes_hits.specs.Hits.{on_board}
 use Rattle.routes_hits.specs.Listing.{Listed}
 use Rattle.routes_hits.specs.Finding.{HITS_A_WIRE, boxed, hits_fit, hits_call, HitsCalled}
 use Rattle.routes_hits.specs.Boxing.{box_plan}

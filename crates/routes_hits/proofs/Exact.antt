@@ -1,16 +1,16 @@
 -- The lists are exact: each hit stands there once, in order, and nothing else does.
-use Prim.Native.Nat.{ℕ, ◌+◌, ◌*◌, ◌≤◌, ◌<◌}
+use Prim.Native.Nat.{ℕ, ◌+◌, ◌*◌, ◌<◌}
 use native.Mathlib.Omega.{arith}
 use mathlib.Core.Path.{◌≡◌, refl, sym, ap, ◌∙◌}
-use mathlib.Core.Bool.{Bool, true, false}
-use mathlib.Core.List.{List, [], ◌∷◌, ◌++◌}
+use mathlib.Core.Bool.{Bool, true}
+use mathlib.Core.List.{List, ◌++◌}
 use lib.ListN.{length, get_or}
 use lib.Seq.{get_or-append-add}
 use Rattle.base.specs.Views.{view}
-use Rattle.routes.specs.Bus.{Rerouter, BusWire}
+use Rattle.routes.specs.Bus.{Rerouter}
 use Rattle.routes.specs.Buffers.{rerouter_in, wire_in}
 use Rattle.routes_hits.specs.declared.boxes.PageBox.{PageBox}
-use Rattle.routes_hits.specs.Hits.{is_under, wire_under, rerouters_hit, wires_hit, rerouters_under, wires_under}
+use Rattle.routes_hits.specs.Hits.{rerouters_hit, wires_hit, rerouters_under, wires_under}
 use Rattle.routes_hits.specs.Promise.{ReroutersListed, WiresListed}
 use Rattle.routes_hits.proofs.Picking.{listed, count, at_place, count_past, earlier, entry_in}
 use Rattle.routes_hits.proofs.Listing.{rerouters_length, wires_length, under_at, said_at, rerouters_picked, rerouters_counted, wire_under_at, number_at, wires_picked, wires_counted}

@@ -1,17 +1,17 @@
 -- What a box hits, by the rows of the buffers.
-use Prim.Native.Nat.{ℕ, zero, suc, ◌+◌, ◌≤◌, ◌<◌}
+use Prim.Native.Nat.{ℕ, zero, suc, ◌≤◌, ◌<◌}
 use native.Mathlib.Omega.{arith}
-use mathlib.Core.Path.{◌≡◌, refl, sym, ap, ◌∙◌}
+use mathlib.Core.Path.{◌≡◌, refl, ap, ◌∙◌}
 use mathlib.Core.Bool.{Bool, true, false, ◌&&◌, ◌||◌}
-use mathlib.Core.List.{List, [], ◌∷◌}
+use mathlib.Core.List.{List, []}
 use lib.Dec.{eqb}
-use lib.ListN.{length, get_or}
+use lib.ListN.{get_or}
 use borrow.Author.Tests.{eqb-true, eqb-false, eq-eqb, ne_eqb}
 use Rattle.base.specs.Views.{view}
 use Rattle.base.proofs.Views.{length-view}
 use Rattle.sheet.specs.Table.{MISSING}
-use Rattle.board.specs.Rows.{Cell, cells_overlap, rerouter_cell}
-use Rattle.routes.specs.Bus.{Rerouter, BusWire, End, port, rerouter}
+use Rattle.board.specs.Rows.{cells_overlap, rerouter_cell}
+use Rattle.routes.specs.Bus.{Rerouter, rerouter}
 use Rattle.routes.specs.Buffers.{outward, inward, rerouter_in, end_in, wire_in}
 use Rattle.routes_hits.specs.declared.boxes.PageBox.{PageBox}
 use Rattle.routes_hits.specs.Hits.{lifted, rectangle, x_shown, y_shown, is_under, meets, run_under, test_at, ends_under, wire_under}

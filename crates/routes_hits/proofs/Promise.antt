@@ -1,5 +1,5 @@
 -- What a user of `find_hits` may rely on, from its promise alone.
-use Prim.Native.Nat.{ℕ, ◌+◌, ◌*◌, ◌≤◌}
+use Prim.Native.Nat.{ℕ, ◌*◌}
 use native.Mathlib.Omega.{arith}
 use mathlib.Core.Path.{◌≡◌, refl, sym, ap, ◌∙◌, subst}
 use mathlib.Core.Bool.{Bool, true, false, ◌&&◌}
@@ -14,14 +14,14 @@ use Rattle.board.specs.Board.{Board}
 use Rattle.board.specs.Demands.{PageLanes}
 use Rattle.board.specs.Planning.{Planning, refused, lanes_for, planning, records}
 use Rattle.board.proofs.Accepting.{sheet_accepted}
-use Rattle.board.proofs.Planning.{LanesFrom, lanes_from}
+use Rattle.board.proofs.Planning.{lanes_from}
 use Rattle.board_plan.specs.TextPlan.{shortest}
 use Rattle.board_plan.proofs.Calling.{within_library}
-use Rattle.routes.specs.Bus.{Bus, Rerouter, BusWire}
+use Rattle.routes.specs.Bus.{Bus}
 use Rattle.routes.specs.Buffers.{rerouter_row, wire_row, rerouter_in, wire_in, bus_held}
 use Rattle.routes.specs.Tables.{written_over}
 use Rattle.routes.specs.Plan.{finished, laid_groups}
-use Rattle.routes.specs.Route.{Routed, turned_away, plan, routed_by, fits_plan, routed}
+use Rattle.routes.specs.Route.{turned_away, plan, routed_by, fits_plan, routed}
 use Rattle.routes.specs.declared.bus.BusCounts.{BusCounts}
 use Rattle.routes_ports.specs.Settling.{ports_over}
 use Rattle.routes_straight.specs.Straight.{Straight}

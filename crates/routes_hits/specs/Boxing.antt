@@ -1,5 +1,5 @@
 -- A planned sheet with the box tested against it. No rule stands here.
-use Rattle.std.specs.Prelude.{Bool, true, false}
+use Rattle.std.specs.Prelude.{true, false}
 use Rattle.board_plan.specs.declared.TextPlan.{TextPlan}
 use Rattle.board_plan.specs.declared.TextPlan.TheVariants as plans
 use Rattle.routes_hits.specs.declared.boxes.PageBox.{PageBox}

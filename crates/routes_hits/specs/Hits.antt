@@ -1,5 +1,5 @@
 -- H, hits: which rerouters and bus wires of a plan lie under a box of a page, and the list of them.
-use Rattle.std.specs.Prelude.{ℕ, zero, suc, ◌+◌, ◌%◌, min, max, Bool, true, false, ◌&&◌, ◌||◌, List, [], ◌∷◌, ◌++◌, eqb, ltb, leb, length}
+use Rattle.std.specs.Prelude.{ℕ, ◌+◌, ◌%◌, min, max, Bool, true, false, ◌&&◌, ◌||◌, List, [], ◌∷◌, ◌++◌, eqb, ltb, leb, length}
 use Rattle.base.specs.Lists.{keep}
 use Rattle.board.specs.Rows.{Cell, cells_overlap, rerouter_cell}
 use Rattle.routes.specs.Bus.{Rerouter, BusWire, End, port, rerouter}

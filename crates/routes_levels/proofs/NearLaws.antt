@@ -12,7 +12,7 @@ use lib.Seq.{take-suc, take-suc-set, take_at, length-take-le, get_or-take, get_o
 use Rattle.base.specs.Sort.{inserted, sorted, lex_less, sorted_rows, sorted_keys}
 use Rattle.base.proofs.Bools.{clash}
 use Rattle.base.proofs.Members.{mem_at, at_mem, sorted_from_lem, length-sorted, lex_alone}
-use Rattle.base.proofs.SortLaws.{Order, Compared, below, same, above, compared, inserted_past, inserted_here, lex_lt, lex_eq, lex_gt, lex_order}
+use Rattle.base.proofs.SortLaws.{Order, Compared, below, same, above, compared, inserted_past, inserted_here, lex_lt, lex_eq, lex_order}
 use Rattle.base.proofs.Views.{map_snoc}
 use Rattle.routes_levels.specs.Laying.{WIRES_MOST, row_at, Numbered}
 

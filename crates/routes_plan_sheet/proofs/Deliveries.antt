@@ -1,5 +1,5 @@
 -- Deliveries counted by the rows of the bus wires.
-use Rattle.std.proofs.Common.{◌≡◌, ℕ, suc, ◌+◌, ◌-◌, ◌≤◌, Bool, true, false, not, eqb, List, [], ◌∷◌, ◌++◌, length, get_or, sym, refl, ap, ◌∙◌, add-one, arith, eq-eqb, ne_eqb}
+use Rattle.std.proofs.Common.{◌≡◌, ℕ, suc, ◌+◌, ◌≤◌, Bool, true, false, not, eqb, List, [], ◌∷◌, ◌++◌, length, get_or, sym, refl, ap, ◌∙◌, add-one, arith, eq-eqb, ne_eqb}
 use mathlib.Core.List.Memᴰ
 use Rattle.sheet.specs.Table.{MISSING}
 use Rattle.base.specs.Lists.{keep}
@@ -9,7 +9,7 @@ use Rattle.base.proofs.Views.{view_more}
 use Rattle.routes.specs.Bus.{BusWire, End, port, rerouter, Carries, onward, delivery}
 use Rattle.routes.specs.Buffers.{end_row, carries_row, wire_row}
 use Rattle.routes.specs.Tables.{written_over}
-use Rattle.routes.specs.Plan.{is_delivery, deliveries}
+use Rattle.routes.specs.Plan.{is_delivery}
 use Rattle.routes.proofs.Rows.{CarriesFit, WireFits}
 use Rattle.routes.proofs.Views.{rows_written}
 use Rattle.routes_plan_sheet.specs.Held.{names_wire, delivery_rows}

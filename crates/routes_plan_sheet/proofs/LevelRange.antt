@@ -1,5 +1,5 @@
 -- The numbers of the taps and of the levels of their stops.
-use Rattle.std.proofs.Common.{◌≡◌, ℕ, zero, suc, ◌+◌, ◌-◌, ◌*◌, ◌<◌, ◌≤◌, Bool, true, not, ◌&&◌, ◌||◌, eqb, leb, List, [], ◌∷◌, length, refl, ◌∙◌, arith}
+use Rattle.std.proofs.Common.{◌≡◌, ℕ, zero, suc, ◌+◌, ◌*◌, ◌<◌, ◌≤◌, Bool, true, not, ◌&&◌, ◌||◌, eqb, leb, List, [], ◌∷◌, length, refl, ◌∙◌, arith}
 use mathlib.Core.List.Memᴰ
 use Rattle.sheet.specs.Table.{PAGE_MOST}
 use Rattle.board.specs.Accepted.{COORDINATE_HIGH, Y_HIGH, Accepted}

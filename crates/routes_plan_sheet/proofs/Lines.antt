@@ -1,12 +1,12 @@
 -- The lines of the plan sheet, field by field and line by line.
 use Prim.Native.Char.{code}
-use Rattle.std.proofs.Common.{◌≡◌, ℕ, zero, suc, ◌+◌, ◌-◌, ◌*◌, ◌%◌, ◌<◌, ◌≤◌, Bool, true, false, eqb, List, [], ◌∷◌, ◌++◌, map, length, get_or, take, sym, refl, ap, ◌∙◌, append_assoc, append-nil, add-zero, add-suc, add-one, arith, length-append, length-take, take_all, take-suc, eq-eqb, ne_eqb}
+use Rattle.std.proofs.Common.{◌≡◌, ℕ, suc, ◌+◌, ◌%◌, ◌<◌, ◌≤◌, Bool, true, false, eqb, List, [], ◌∷◌, ◌++◌, map, length, get_or, take, sym, refl, ap, ◌∙◌, append_assoc, append-nil, add-zero, add-one, arith, length-append, length-take, take_all, take-suc, eq-eqb, ne_eqb}
 use lib.ListN.{length-map, get_or-map}
 use Rattle.sheet.specs.Text.{NEWLINE}
 use Rattle.sheet.specs.Table.{MISSING}
 use Rattle.sheet.specs.Written.{Wrote, decimal, coordinate_text, number_text, tabbed}
 use Rattle.base.proofs.Bools.{pick_true, pick_false}
-use Rattle.sheet.proofs.Writing.{wrote_more, decimal-length, coordinate_below, coordinate_above, number_missing, number_given, wrote_nothing, coordinate-length, number-length}
+use Rattle.sheet.proofs.Writing.{wrote_more, decimal-length, wrote_nothing, coordinate-length, number-length}
 use Rattle.routes.specs.PlanSheet.{line, fields, numbered, rerouter_line}
 use Rattle.routes.specs.Buffers.{inward}
 use Rattle.routes_plan_sheet.specs.Fields.{field_text, rerouter_line_in, letter_of, wire_text, lines_in, WroteLines}

@@ -1,7 +1,7 @@
 -- The emission and the corner pass, walked once: each keeps a plan's numbers in range.
-use Rattle.std.proofs.Common.{◌≡◌, ℕ, zero, suc, ◌+◌, ◌-◌, ◌*◌, ◌<◌, ◌≤◌, Bool, true, false, not, ◌&&◌, eqb, ltb, List, [], ◌∷◌, length, sym, refl, ap, ◌∙◌, subst, arith}
+use Rattle.std.proofs.Common.{◌≡◌, ℕ, zero, suc, ◌+◌, ◌*◌, ◌<◌, ◌≤◌, Bool, true, false, not, ◌&&◌, eqb, ltb, List, [], ◌∷◌, length, sym, refl, ap, ◌∙◌, subst, arith}
 use mathlib.Core.List.Memᴰ
-use Rattle.board.specs.Accepted.{COORDINATE_HIGH, Y_HIGH, Accepted}
+use Rattle.board.specs.Accepted.{Y_HIGH, Accepted}
 use Rattle.base.specs.Lists.{Found, none, at, found, any, fold, upto}
 use Rattle.board.specs.Board.{Board, placed, has_line, has_row, line_of, x_of, y_of, down_of, page_of, rotation_of, source_node, target_node}
 use Rattle.board.specs.Refusals.{body_of}

@@ -1,20 +1,17 @@
 -- The text that the buffers' rows give is the plan sheet of the plan that they hold.
 use Prim.Native.Char.{code}
-use Rattle.std.proofs.Common.{◌≡◌, ℕ, zero, suc, ◌+◌, ◌-◌, ◌%◌, ◌<◌, ◌≤◌, Bool, true, false, eqb, List, [], ◌∷◌, ◌++◌, map, reverse, length, get_or, take, drop, set, sym, refl, ap, ◌∙◌, append_assoc, arith, length-append, length-set, take_all, take-suc-set, take_at, eq-eqb, ne_eqb}
-use mathlib.Core.List.{reverse-cons, Memᴰ}
-use lib.ListN.{length-reverse}
-use Rattle.sheet.specs.Table.{ORIGIN, MISSING}
+use Rattle.std.proofs.Common.{◌≡◌, ℕ, suc, ◌-◌, List, [], ◌∷◌, ◌++◌, map, reverse, length, get_or, take, sym, refl, ap, ◌∙◌, append_assoc, arith}
+use mathlib.Core.List.{Memᴰ}
+use Rattle.sheet.specs.Table.{MISSING}
 use Rattle.sheet.specs.Written.{decimal, number_text}
-use Rattle.sheet.proofs.Writing.{number_missing, number_given}
+use Rattle.sheet.proofs.Writing.{number_given}
 use Rattle.board.specs.Board.{Board}
 use Rattle.board.specs.Demands.{PageLanes}
 use Rattle.board.specs.Planning.{page_row}
 use Rattle.routes.specs.Bus.{Bus, Rerouter, BusWire, End, port, rerouter, Carries, onward, delivery, Port}
-use Rattle.routes.specs.Buffers.{outward, rerouter_row, end_row, carries_row, wire_row, port_row}
+use Rattle.routes.specs.Buffers.{rerouter_row, end_row, carries_row, wire_row, port_row}
 use Rattle.routes.specs.Plan.{deliveries}
 use Rattle.routes_plan_sheet.specs.declared.plan_sheet.Totals.{Totals}
-use Rattle.routes.specs.Tables.{written_over}
-use Rattle.routes.proofs.Views.{rows_written}
 use Rattle.routes.proofs.Rows.{RerouterFits, EndFit, CarriesFit, WireFits, rerouter_back}
 use Rattle.routes.specs.PlanSheet.{line, numbered, lane_line, rerouter_line, wire_line, port_line, end_fields, carries_fields, plan_sheet, total_line}
 use Rattle.routes_plan_sheet.proofs.Lines.{letter_port}

@@ -1,5 +1,5 @@
 -- The buffers of a finished plan give its plan sheet.
-use Rattle.std.proofs.Common.{◌≡◌, ℕ, zero, suc, ◌+◌, ◌-◌, ◌*◌, ◌<◌, ◌≤◌, List, [], ◌∷◌, ◌++◌, map, length, take, sym, refl, ap, ◌∙◌, subst, arith, length-append, length-set, take_at}
+use Rattle.std.proofs.Common.{◌≡◌, ℕ, zero, suc, ◌+◌, ◌*◌, ◌<◌, ◌≤◌, List, [], ◌∷◌, ◌++◌, map, length, take, sym, refl, ap, ◌∙◌, subst, arith, length-append, length-set, take_at}
 use lib.ListN.{length-map}
 use Rattle.sheet.specs.Table.{MISSING}
 use Rattle.sheet.specs.Written.{Wrote}

@@ -12,7 +12,7 @@ use Rattle.sheet.specs.Table.{MISSING}
 use borrow.Author.Tests.{eq-eqb, ne_eqb, not-true, not-false}
 use Rattle.base.proofs.Bools.{clash}
 use Rattle.routes.specs.Bus.{BusWire, port, rerouter, onward, delivery, Port}
-use Rattle.routes.specs.Buffers.{port_row, wire_in, port_in, ports_held}
+use Rattle.routes.specs.Buffers.{port_row, wire_in, port_in}
 use Rattle.routes_ports.specs.Ports.{sent_to, targets}
 use Rattle.routes_ports.specs.Settling.{delivers_in, wires_from, key_port, again, unique, ports_over}
 use Rattle.routes_ports.proofs.SetLaws.{unique_again, unique_last, keys_same}

@@ -1,30 +1,27 @@
 -- Demand 3 of the rows that `route` leaves in the buffers.
-use Prim.Native.Nat.{ℕ, ◌*◌, ◌≤◌}
-use native.Mathlib.Omega.{arith}
-use mathlib.Core.Path.{◌≡◌, refl, sym, ap, ◌∙◌, subst}
-use mathlib.Core.Bool.{Bool, true, ◌&&◌}
+use Prim.Native.Nat.{ℕ, ◌*◌}
+use mathlib.Core.Path.{◌≡◌, refl, sym, ◌∙◌}
+use mathlib.Core.Bool.{Bool, ◌&&◌}
 use mathlib.Core.List.{List}
 use lib.Dec.{leb}
 use lib.ListN.{length}
 use borrow.Author.Tests.{leb-true}
 use Rattle.sheet.specs.Table.{library_most}
 use Rattle.board.specs.Board.{Board}
-use Rattle.board.specs.Demands.{PageLanes}
 use Rattle.board.specs.Planning.{Planning, refused, lanes_for, planning, records}
 use Rattle.board.proofs.Accepting.{sheet_accepted}
 use Rattle.base.proofs.Bools.{never, and_left, and_right}
 use Rattle.board_plan.specs.TextPlan.{shortest}
-use Rattle.board.proofs.Planning.{LanesFrom, lanes_from}
+use Rattle.board.proofs.Planning.{lanes_from}
 use Rattle.board_plan.proofs.Calling.{within_library}
 use Rattle.routes.specs.Bus.{Bus}
 use Rattle.routes.specs.Buffers.{rerouter_row, wire_row}
 use Rattle.routes.specs.Tables.{written_over}
 use Rattle.routes.specs.Plan.{finished, laid_groups}
-use Rattle.routes.specs.Route.{Routed, plan, routed_by, fits_plan, routed}
+use Rattle.routes.specs.Route.{routed_by, fits_plan, routed}
 use Rattle.routes_ports.specs.Settling.{ports_over}
 use Rattle.routes_gutter.specs.declared.bus.BusPlan.{BusPlan}
 use Rattle.routes_gutter.specs.declared.bus.BusPlan.TheVariants.{Refused, Laid}
-use Rattle.routes_gutter.specs.Calls.{bus_answer}
 use Rattle.routes_calls.specs.Route.{plan_fits, route_call, PlanCalled}
 use Rattle.routes_promise.specs.Promise.{Promised, RoutePromised}
 use Rattle.routes_promise.proofs.ReadBack.{done_promised}

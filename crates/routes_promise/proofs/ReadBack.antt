@@ -1,5 +1,5 @@
 -- The rows of a plan, read back from the buffers, are the plan: of the bus that `lay_bus` leaves, and of the finished one.
-use Prim.Native.Nat.{ℕ, ◌*◌, ◌≤◌, ◌<◌}
+use Prim.Native.Nat.{ℕ, ◌*◌, ◌≤◌}
 use native.Mathlib.Omega.{arith}
 use mathlib.Core.Path.{◌≡◌, refl, sym, ap, ◌∙◌, subst}
 use mathlib.Core.List.{List, [], Memᴰ}
@@ -10,7 +10,6 @@ use Rattle.board.specs.Demands.{PageLanes, planned, plan_lanes}
 use Rattle.routes.specs.Bus.{Bus, Rerouter, BusWire}
 use Rattle.routes.specs.Buffers.{rerouter_row, wire_row, rerouter_in, wire_in, bus_held}
 use Rattle.routes.specs.Tables.{written_over}
-use Rattle.routes.specs.Corners.{corners}
 use Rattle.routes.specs.Plan.{bus_of, finished}
 use Rattle.routes.specs.Demand3.{Demand3, Deepening}
 use Rattle.routes.proofs.Demand3.{demand3, deepening}

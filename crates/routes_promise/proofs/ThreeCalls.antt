@@ -1,9 +1,9 @@
 -- The three calls one after the other, from their promises alone: they leave the finished plan, as `route` does, or all refuse alike.
-use Prim.Native.Nat.{ℕ, zero, suc, ◌+◌, ◌*◌, ◌≤◌, ◌<◌}
+use Prim.Native.Nat.{ℕ, zero, suc, ◌+◌, ◌*◌, ◌≤◌}
 use native.Mathlib.Omega.{arith}
 use mathlib.Core.Path.{◌≡◌, refl, sym, ap, ◌∙◌, subst}
 use mathlib.Core.Bool.{Bool, true, false, ◌&&◌}
-use mathlib.Core.List.{List, [], ◌∷◌, ◌++◌, map}
+use mathlib.Core.List.{List, ◌∷◌}
 use lib.Dec.{leb}
 use lib.ListN.{length, length-append}
 use borrow.Author.Tests.{le-leb, leb-true}
@@ -13,13 +13,13 @@ use Rattle.base.specs.Lists.{keep, upto}
 use Rattle.board.specs.Board.{Board}
 use Rattle.board.specs.Refusals
 use Rattle.board.specs.Refusals.{Judged, board, judged}
-use Rattle.board.specs.Demands.{PageLanes, planned, plan_lanes}
+use Rattle.board.specs.Demands.{PageLanes, plan_lanes}
 use Rattle.board.specs.Planning.{Planning, refused, lanes_for, planning, fits_pages, crowding, records, pages_after}
 use Rattle.board.specs.Accepted.{Accepted}
 use Rattle.board.proofs.Accepting.{sheet_accepted}
 use Rattle.base.proofs.Bools.{and_left, and_right}
 use Rattle.board_plan.specs.TextPlan.{shortest}
-use Rattle.board_plan.specs.PagesPlan.{plan_call, pages_plan, PagesPlanned}
+use Rattle.board_plan.specs.PagesPlan.{plan_call, PagesPlanned}
 use Rattle.board_plan.specs.declared.PagesPlan.{PagesPlan}
 use Rattle.board.proofs.Planning.{planning_refused, planning_fine, LanesFrom, lanes_from}
 use Rattle.board_plan.proofs.Calling.{within_library}
@@ -28,20 +28,20 @@ use Rattle.routes.specs.Buffers.{rerouter_row, wire_row}
 use Rattle.routes.specs.Tables.{written_over}
 use Rattle.routes.specs.Corners.{corners, turns, turnable}
 use Rattle.routes.specs.Plan.{bus_of, finished, laid_groups}
-use Rattle.routes.specs.Route.{Routed, turned_away, plan, routed_by, fits_bus, fits_plan, laid, routed}
+use Rattle.routes.specs.Route.{turned_away, plan, routed_by, fits_bus, laid, routed}
 use Rattle.routes.proofs.Rows.{written_again}
 use Rattle.routes_corners.specs.Turning.{has_room}
 use Rattle.routes_ports.specs.Settling.{ports_over}
 use Rattle.routes_ports.proofs.Laid.{cornered}
 use Rattle.routes_gutter.specs.declared.bus.BusPlan.{BusPlan}
-use Rattle.routes_gutter.specs.declared.bus.BusPlan.TheVariants.{Refused, Laid}
+use Rattle.routes_gutter.specs.declared.bus.BusPlan.TheVariants.{Refused}
 use Rattle.routes_gutter.specs.Calls.{bus_answer, bus_fits, lay_call, BusCalled}
 use Rattle.routes.specs.declared.bus.BusCounts.{BusCounts}
 use Rattle.routes_calls.specs.Mini.{holds, bus_given, held_fits, mini_by, mini_fits, mini_call}
 use Rattle.routes_calls.specs.Route.{plan_fits, route_call, PlanCalled}
 use Rattle.routes_promise.specs.Promise.{Promised}
 use Rattle.routes_promise.specs.ThreeCalls.{Buffers, counts_left, fits_in, AsNamed, CalledInTurn, PlanLeft, AllRefuse, Outcome, decided, route_answer}
-use Rattle.routes_calls.proofs.Finishing.{length-written, ports_length, ports_finished, ports_grow, laid_room_lem, laid_few, corners_longer}
+use Rattle.routes_calls.proofs.Finishing.{length-written, ports_length, ports_finished, laid_room_lem, laid_few, corners_longer}
 use Rattle.routes_promise.proofs.ReadBack.{laid_back, done_few, done_promised}
 use Rattle.routes_calls.proofs.MiniLaws.{called_same}
 

@@ -10,7 +10,6 @@ use borrow.Author.Tests.{lt-ltb, le-ltb}
 use Rattle.sheet.specs.Table.{MISSING}
 use Rattle.base.specs.Lists.{Found, none, at, any}
 use Rattle.base.proofs.Bools.{never, and_false, pick_true, pick_false}
-use Rattle.board.specs.Rows
 use Rattle.board.specs.Rows.{cells_overlap}
 use Rattle.board.specs.Tables.{held}
 use Rattle.routes.specs.Levels.{lowest, lighter, lightest}

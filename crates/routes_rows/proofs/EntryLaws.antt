@@ -10,7 +10,7 @@ use lib.ListN.{length, get_or, set}
 use lib.Seq.{get_or-set_other}
 use borrow.Author.Tests.{eqb-true, eqb-false, ne_eqb, ltb-false, lt-ltb, le-ltb, lt-leb}
 use Rattle.sheet.specs.Table.{MISSING}
-use Rattle.base.specs.Lists.{at, keep}
+use Rattle.base.specs.Lists.{keep}
 use Rattle.base.proofs.Bools.{false_first, neither, clash, pick_true, pick_false}
 use Rattle.board.specs.Rows
 use Rattle.board.specs.Rows.{cells_overlap}

@@ -1,6 +1,6 @@
 -- How the code decides corners row by row. The items are cells (bricks of the board and rerouters beside rows, `first` of them) and then questions, a wire that turns
 -- each: x and end of its sink, y of its source, its sink, the class of its target port; column 6 is the key of the row, column 7 the order of keys. No rule stands here.
-use Rattle.std.specs.Prelude.{ℕ, zero, suc, ◌+◌, ◌-◌, Bool, true, false, not, ◌&&◌, List, [], ◌∷◌, eqb, ltb, length, set}
+use Rattle.std.specs.Prelude.{ℕ, zero, suc, ◌-◌, Bool, true, false, not, ◌&&◌, List, [], ◌∷◌, eqb, ltb, length, set}
 use Rattle.base.specs.Lists.{Found, none, at, any, keep}
 use Rattle.sheet.specs.Table.{MISSING}
 use Rattle.board.specs.Board.{field}

@@ -14,7 +14,6 @@ use Rattle.sheet.specs.declared.Counts.{Counts}
 use Rattle.board.specs.Board.{Board, placed, x_of, min_y_of, page_of, source_node, source_port}
 use Rattle.board.specs.Groups.{Tap, taps_of, target_anchor, source_row}
 use Rattle.board.specs.Demands.{PageLanes, no_lanes, lane_y, lane_of}
-use Rattle.board.specs.Planning
 use Rattle.board.specs.Planning.{Planning, lanes_for, planning}
 use Rattle.board.proofs.Taps.{taps_of_lem}
 use Rattle.routes.specs.Stops.{laid_taps, new_group, new_row, new_column}

@@ -1,6 +1,6 @@
 -- What is read of a lane in the tables is what the rules say of it; and what a tap begins.
-use Prim.Native.Nat.{ℕ, zero, suc, ◌+◌, ◌-◌, ◌*◌, ◌≤◌, ◌<◌, min}
-use mathlib.Core.Path.{◌≡◌, refl, ap, ap₂, sym, subst, ◌∙◌}
+use Prim.Native.Nat.{ℕ, zero, suc, ◌+◌, ◌-◌, ◌<◌, min}
+use mathlib.Core.Path.{◌≡◌, refl, ap, sym, subst, ◌∙◌}
 use mathlib.Core.Bool.{Bool, true, false, not, ◌&&◌, ◌||◌}
 use mathlib.Core.List.Memᴰ
 use mathlib.Core.List.{List, [], ◌∷◌, map, Memᴰ}
@@ -9,26 +9,24 @@ use native.Mathlib.Omega.{arith}
 use native.Mathlib.Numerals.{add-one}
 use lib.Dec.{eqb, ltb}
 use lib.ListN.{length, get_or, get_or-eq_default}
-use borrow.Author.Tests.{eq-eqb, ne_eqb, eqb-true, eqb-false, lt-ltb, le-ltb, ltb-true, ltb-false}
+use borrow.Author.Tests.{eq-eqb, ne_eqb, eqb-true, lt-ltb, le-ltb, ltb-true, ltb-false}
 use Rattle.sheet.specs.Table.{MISSING}
 use Rattle.base.specs.Lists.{Found, none, at, any, keep, least}
-use Rattle.board.specs.Board.{Board, field, placed, has_row, page_of, x_of, source_node, source_port}
+use Rattle.board.specs.Board.{Board, field, has_row, page_of, x_of, source_node}
 use Rattle.board.specs.Rows.{row_of}
 use Rattle.board.specs.Groups
 use Rattle.board.specs.Groups.{anchor_of, source_anchor, source_row, taps_in}
 use Rattle.board.specs.Demands.{PageLanes, no_lanes, lane_of, lane_in, lane_y}
 use Rattle.base.specs.Views.{view}
-use Rattle.board.specs.Tables.{held, tap_in, NodeFacts, WireFacts}
+use Rattle.board.specs.Tables.{held, tap_in}
 use Rattle.base.proofs.Bools.{pick_true, pick_false}
 use Rattle.routes.specs.Stops.{new_group, new_row, new_column}
 use Rattle.routes.specs.Levels.{Level, dropped, shared, own, lane_for}
 use Rattle.routes.specs.Rerouters.{source, chain_rotation, level_here}
-use Rattle.routes.specs.Tables.{level_in, stop_in, GroupFacts}
+use Rattle.routes.specs.Tables.{stop_in}
 use Rattle.routes.specs.Holding.{stop_level_of}
-use Rattle.routes_taps.specs.Taps.{LaneOf, LaneRanges, RowHeld, LaneInRange, lane_read, rotation_over, row_on_page, tap_of, tap_read, NewsOf, LowLevel, Tables, ReachedNext}
+use Rattle.routes_taps.specs.Taps.{LaneOf, LaneRanges, RowHeld, LaneInRange, lane_read, rotation_over, row_on_page, NewsOf, LowLevel, Tables, ReachedNext}
 use Rattle.routes.specs.declared.levels.Level.{Level as LevelHeld}
-use Rattle.routes.specs.declared.levels.Level.TheVariants.{Dropped, Shared, Own}
-use Rattle.routes_taps.specs.declared.taps.News.{News}
 use Rattle.routes_taps.specs.declared.taps.Lane.{Lane}
 use Rattle.routes_taps.specs.declared.taps.Reached.{Reached}
 

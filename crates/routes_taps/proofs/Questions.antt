@@ -1,12 +1,12 @@
 -- What is known of a tap's questions: its level is low, and what it asks of rows is asked of rows that are there.
-use Prim.Native.Nat.{ℕ, zero, suc, ◌-◌, ◌<◌, ◌≤◌}
+use Prim.Native.Nat.{ℕ, zero, suc, ◌-◌, ◌<◌}
 use mathlib.Core.Path.{◌≡◌, refl, sym, ap, subst, ◌∙◌}
-use mathlib.Core.Bool.{Bool, true, false, not, ◌&&◌}
+use mathlib.Core.Bool.{Bool, true, false, ◌&&◌}
 use mathlib.Core.List.{List, [], ◌∷◌}
 use native.Mathlib.Omega.{arith}
 use native.Mathlib.Decide.{dec_lt}
 use lib.Dec.{eqb}
-use lib.ListN.{length, get_or}
+use lib.ListN.{get_or}
 use borrow.Author.Tests.{eqb-true}
 use Rattle.base.specs.Lists.{Found, none, at, found}
 use Rattle.base.specs.Views.{view}
@@ -14,7 +14,7 @@ use Rattle.base.proofs.Bools.{never, and_left, and_right}
 use Rattle.base.proofs.Views.{length-view}
 use Rattle.board.specs.Board.{Board, field, placed, has_row, page_of, x_of, y_of}
 use Rattle.board.specs.Rows.{row_of}
-use Rattle.board.specs.Groups.{Tap, source_row, source_anchor}
+use Rattle.board.specs.Groups.{Tap, source_row}
 use Rattle.board.specs.Demands.{PageLanes}
 use Rattle.board.specs.Tables.{flag, held, tap_in}
 use Rattle.routes.specs.Levels.{Level, dropped, shared, own, Stop, unclaimed, lane_for}

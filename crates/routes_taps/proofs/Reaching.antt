@@ -1,5 +1,5 @@
 -- From tap to tap: what the next one is, and the stops that a walk has reached.
-use Prim.Native.Nat.{ℕ, zero, suc, ◌+◌, ◌-◌, ◌*◌, ◌≤◌, ◌<◌}
+use Prim.Native.Nat.{ℕ, zero, suc, ◌≤◌, ◌<◌}
 use mathlib.Core.Path.{◌≡◌, refl, ap, sym, subst, ◌∙◌}
 use mathlib.Core.Bool.{Bool, true, false}
 use mathlib.Core.List.{List, [], ◌∷◌}
@@ -12,7 +12,7 @@ use Rattle.board.specs.Groups
 use Rattle.board.specs.Demands.{PageLanes}
 use Rattle.base.specs.Views.{view}
 use Rattle.board.specs.Tables.{tap_in}
-use Rattle.base.proofs.Bools.{pick_true, pick_false}
+use Rattle.base.proofs.Bools.{pick_true}
 use Rattle.routes.specs.Stops.{new_row}
 use Rattle.routes.specs.Levels.{Stop, stops_of, stop_for, lane_for}
 use Rattle.routes.specs.Rerouters.{stops_before}

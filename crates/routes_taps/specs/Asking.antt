@@ -1,8 +1,8 @@
 -- What the code asks before it emits, and emission by the answers. Heads and links ask for columns, source and gate-side rerouters for rows; neither asks for what the
 -- other places, so the columns are asked first, then the rows one by one, and the rerouters are written last. No rule stands here: by the answers that are
 -- right the emission is that of the rules.
-use Rattle.std.specs.Prelude.{ℕ, zero, suc, ◌+◌, ◌-◌, ◌*◌, ◌<◌, ◌≡◌, Bool, true, false, not, ◌&&◌, ◌||◌, List, [], ◌∷◌, eqb, length, get_or}
-use Rattle.base.specs.Lists.{Found, none, at, found, any}
+use Rattle.std.specs.Prelude.{ℕ, zero, suc, ◌+◌, ◌-◌, ◌*◌, ◌≡◌, Bool, true, false, not, ◌&&◌, List, [], ◌∷◌, eqb, length, get_or}
+use Rattle.base.specs.Lists.{found, any}
 use Rattle.board.specs.Board.{Board, field, placed, x_of, y_of}
 use Rattle.board.specs.Rows.{REROUTER_SIZE, cells_overlap, rerouter_cell, brick_cell, bricks_in}
 use Rattle.board.specs.Groups.{Tap, source_row}

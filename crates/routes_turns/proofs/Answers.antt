@@ -19,7 +19,7 @@ use Rattle.routes_rows.proofs.InTurn.{after, at_its_turn}
 use Rattle.routes_rows.specs.Booking.{key_of, order_at, begins}
 use Rattle.routes_rows.specs.Turning.{level_at, book_item, entries_on, entries_after, answer_if, answers_after}
 use Rattle.routes_turns.specs.Deciding.{sink_of}
-use Rattle.routes_turns.specs.CornerItems.{QuestionItem, QuestionItems, CornerItems, LevelsHeld}
+use Rattle.routes_turns.specs.CornerItems.{QuestionItems, CornerItems, LevelsHeld}
 use Rattle.routes_turns.proofs.Cells.{entries_among, row_there}
 use Rattle.routes_turns.proofs.Levels.{LevelsTold, levels_told}
 

@@ -1,6 +1,6 @@
 -- What an accepted reading says of its rows: each is a record of its section's table with every number in its column's range, the sections rise
 -- along the rows, and no section has more records than its most.
-use Rattle.std.proofs.Common.{◌≡◌, ℕ, zero, suc, ◌+◌, ◌-◌, ◌<◌, ◌≤◌, Bool, true, false, not, ◌&&◌, eqb, ltb, leb, List, [], ◌∷◌, map, length, get_or, set, replicate, sym, refl, ap, ◌∙◌, subst, ap₂, zero-le, arith, length-set, get_or-set_other, get_or-set_same, ltb-false, ltb-true, eq-eqb, ne_eqb, eqb-true, le-leb, leb-false, leb-true}
+use Rattle.std.proofs.Common.{◌≡◌, ℕ, zero, suc, ◌+◌, ◌-◌, ◌<◌, ◌≤◌, Bool, true, false, ◌&&◌, eqb, ltb, leb, List, [], ◌∷◌, map, length, get_or, set, replicate, sym, refl, ap, ◌∙◌, subst, ap₂, zero-le, arith, length-set, get_or-set_other, get_or-set_same, ltb-false, ltb-true, eq-eqb, ne_eqb, eqb-true, leb-false, leb-true}
 use mathlib.Core.Bool.{beq}
 use lib.Seq.{set_out}
 use borrow.Author.Tests.{eqb-false, not-true, not-false}
@@ -11,7 +11,7 @@ use Rattle.sheet.specs.Text.{TAB, NEWLINE, parts}
 use Rattle.sheet.specs.Number.{Number, bad, missing, plus, minus, number}
 use Rattle.sheet.specs.Table.{Column, MISSING, NEVER, AS_BEFORE, ORIGIN, COORDINATE_MOST, ID_MOST, PORT_MOST, HALF_MOST, PAGE_MOST, PAGES, NODES, CHIPS, INNER, EXECS, WIRES, SECTIONS, letters, columns_of}
 use Rattle.sheet.specs.Record.{allowed, within, present, is_missing, cell_of, Line, unread, row, fields_read, place_of, section_of, empty_row, record_read, line_read}
-use Rattle.sheet.specs.Reading.{lines_read, sheet_lines, row_of, rows_from, section_in, counted, Before, after, no_lines, unreadable, over_most, out_of_range, first, listed, Reading, refused, rows, refusals, read_lines, reading}
+use Rattle.sheet.specs.Reading.{lines_read, sheet_lines, row_of, rows_from, section_in, counted, Before, after, no_lines, unreadable, over_most, out_of_range, first, listed, rows, reading}
 use Rattle.sheet.specs.Answer.{counted_all}
 use Rattle.base.proofs.Bools.{never, clash, and_left, and_right}
 use Rattle.sheet.proofs.Lines.{place_most}

@@ -1,9 +1,9 @@
 -- A walk along an accepted sheet, line by line: `row_at` gives the row of the line at hand, and the place where the next line starts.
-use Rattle.std.proofs.Common.{◌≡◌, ℕ, zero, suc, ◌+◌, ◌<◌, ◌≤◌, max, Bool, true, false, ltb, List, [], ◌∷◌, map, length, get_or, drop, sym, refl, ap, ◌∙◌, add-one, arith, drop-cons, ltb-false, ltb-true, le-ltb, lt-ltb}
+use Rattle.std.proofs.Common.{◌≡◌, ℕ, suc, ◌+◌, ◌<◌, ◌≤◌, max, Bool, true, false, ltb, List, [], ◌∷◌, map, length, get_or, drop, refl, ap, ◌∙◌, add-one, arith, drop-cons, ltb-false, ltb-true, le-ltb, lt-ltb}
 use lib.ListN.{length-map}
 use Rattle.sheet.specs.declared.Counts.{Counts}
 use Rattle.sheet.specs.Record.{row}
-use Rattle.sheet.specs.Reading.{sheet_lines, rows_from}
+use Rattle.sheet.specs.Reading.{rows_from}
 use Rattle.sheet.specs.Answer.{row_at, AtLine, AtRow, row_from}
 use Rattle.sheet.specs.Walk.{all_read}
 use Rattle.base.proofs.Bools.{pick_true, pick_false}

@@ -1,8 +1,7 @@
 -- What the public calls answer, from what the pass over the sheet found.
-use Rattle.std.proofs.Common.{◌≡◌, ℕ, ◌<◌, ◌≤◌, Bool, true, false, ltb, List, [], ◌∷◌, ◌++◌, map, length, drop, sym, refl, ap, ◌∙◌, ap₂, arith, le-ltb, lt-ltb}
+use Rattle.std.proofs.Common.{◌≡◌, ℕ, ◌<◌, ◌≤◌, true, false, ltb, List, ◌++◌, length, drop, sym, refl, ap, ◌∙◌, ap₂, arith, le-ltb, lt-ltb}
 use lib.ListN.{length-map}
 use Rattle.sheet.specs.declared.Counts.{Counts}
-use Rattle.sheet.specs.declared.ReadAnswer.{ReadAnswer}
 use Rattle.sheet.specs.declared.ReadAnswer.TheVariants.{Refused as NotRead, Short, Read}
 use Rattle.sheet.specs.declared.check.Survey.{Survey}
 use Rattle.sheet.specs.declared.check.Survey.TheVariants.{Refused, Fine}

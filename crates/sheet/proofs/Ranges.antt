@@ -1,5 +1,5 @@
 -- The rows of an accepted sheet are in range.
-use Rattle.std.proofs.Common.{◌≡◌, ℕ, zero, suc, ◌+◌, ◌-◌, ◌<◌, ◌≤◌, Bool, true, false, not, ◌&&◌, eqb, ltb, leb, ◌⊎◌, List, [], ◌∷◌, map, length, get_or, drop, set, sym, refl, ap, ◌∙◌, subst, inl, inr, add-zero, add-suc, suc-add, one-add, arith, length-set, get_or-drop, get_or-set_other, get_or-set_same, eq-eqb, eqb-true, leb-true}
+use Rattle.std.proofs.Common.{◌≡◌, ℕ, zero, suc, ◌+◌, ◌-◌, ◌<◌, ◌≤◌, Bool, true, false, ◌&&◌, eqb, leb, List, [], ◌∷◌, map, length, get_or, drop, set, sym, refl, ap, ◌∙◌, subst, inl, inr, add-zero, add-suc, suc-add, one-add, arith, length-set, get_or-drop, get_or-set_other, get_or-set_same, eq-eqb, leb-true}
 use lib.ListN.{length-map}
 use lib.Seq.{drop-nil, length-slice}
 use lib.Arith.{lt_of_le-ne}
@@ -9,9 +9,9 @@ use Rattle.sheet.specs.declared.line.Cell.{Cell}
 use Rattle.sheet.specs.declared.line.Cell.TheVariants.{Holds, OutOfRange, Malformed}
 use Rattle.sheet.specs.Text.{parts, TAB, NEWLINE}
 use Rattle.sheet.specs.Number.{Number, bad, missing, plus, minus, number}
-use Rattle.sheet.specs.Table.{Column, MISSING, NEVER, AS_BEFORE, SECTIONS, letters, columns_of, id}
-use Rattle.sheet.specs.Record.{Line, unread, row, allowed, within, present, is_missing, cell_of, fields_read, place_of, section_of, record_read, line_read, empty_row}
-use Rattle.sheet.specs.Reading.{Reading, rows, reading, lines_read, sheet_lines, row_of, section_in, Before, after, no_lines, first, out_of_range, NO_LINE}
+use Rattle.sheet.specs.Table.{Column, MISSING, NEVER, SECTIONS, letters, columns_of, id}
+use Rattle.sheet.specs.Record.{Line, unread, row, allowed, within, present, is_missing, cell_of, fields_read, section_of, record_read, line_read, empty_row}
+use Rattle.sheet.specs.Reading.{rows, reading, lines_read, sheet_lines, row_of, section_in, Before, after, no_lines, first, out_of_range, NO_LINE}
 use Rattle.sheet.specs.Range.{Held, InRange}
 use Rattle.sheet.specs.Walk.{all_columns, first_column}
 use Rattle.base.proofs.Bools.{never, and_left, and_right}

@@ -1,9 +1,9 @@
 -- What is written is read back as the same number.
-use Rattle.std.proofs.Common.{◌≡◌, ℕ, zero, suc, ◌+◌, ◌-◌, ◌*◌, ◌/◌, ◌%◌, ◌^◌, ◌<◌, ◌≤◌, Bool, true, false, not, ◌&&◌, eqb, ltb, leb, List, [], ◌∷◌, ◌++◌, length, get_or, sym, refl, ap, ◌∙◌, subst, pow-suc, arith, length-append, ltb-false, ltb-true, ne_eqb, eqb-true, le-leb, leb-true}
+use Rattle.std.proofs.Common.{◌≡◌, ℕ, zero, suc, ◌+◌, ◌-◌, ◌*◌, ◌/◌, ◌%◌, ◌^◌, ◌<◌, ◌≤◌, Bool, true, false, ◌&&◌, eqb, ltb, leb, List, [], ◌∷◌, ◌++◌, length, get_or, sym, refl, ap, ◌∙◌, subst, pow-suc, arith, length-append, ltb-false, ltb-true, ne_eqb, eqb-true, le-leb, leb-true}
 use lib.ListN.{get_or-append}
 use borrow.Author.Tests.{eqb-false}
 use Rattle.sheet.specs.declared.line.Cell.TheVariants.{Holds}
-use Rattle.sheet.specs.Number.{Number, bad, missing, plus, minus, digit, all_digits, value_from, no_leading_zero, plain, unsigned, signed, number, ZERO, NINE, MINUS, digits_most}
+use Rattle.sheet.specs.Number.{missing, plus, minus, digit, all_digits, value_from, no_leading_zero, plain, unsigned, signed, number, ZERO, NINE, MINUS, digits_most}
 use Rattle.sheet.specs.Table.{ORIGIN, MISSING, COORDINATE_MOST, coordinate}
 use Rattle.sheet.specs.Record.{present}
 use Rattle.sheet.specs.Written.{digits_of, decimal, coordinate_text, number_text, coordinate_of}

@@ -1,14 +1,13 @@
 -- One pass over the lines of a sheet, and the refusals that it finds.
-use Rattle.std.proofs.Common.{◌≡◌, ℕ, zero, suc, ◌+◌, ◌-◌, ◌<◌, ◌≤◌, Bool, true, false, cond, not, eqb, ltb, leb, List, [], ◌∷◌, map, length, get_or, drop, set, replicate, sym, refl, ap, ◌∙◌, subst, add-one, arith, length-append, length-drop, length-set, drop_of_length-le, get_or-set_other, get_or-set_same, drop-drop, le-ltb, lt-ltb, eq-eqb, ne_eqb, eqb-true}
+use Rattle.std.proofs.Common.{◌≡◌, ℕ, zero, suc, ◌+◌, ◌-◌, ◌<◌, ◌≤◌, Bool, true, false, cond, not, eqb, leb, List, [], ◌∷◌, map, length, get_or, drop, set, replicate, sym, refl, ap, ◌∙◌, add-one, arith, length-append, length-drop, length-set, drop_of_length-le, get_or-set_other, get_or-set_same, drop-drop, le-ltb, lt-ltb, eq-eqb, ne_eqb, eqb-true}
 use lib.ListN.{length-map}
 use borrow.Author.Tests.{eqb-false}
 use Rattle.sheet.specs.declared.line.LineAt.{LineAt}
-use Rattle.sheet.specs.declared.check.Survey.{Survey}
 use Rattle.sheet.specs.declared.check.Survey.TheVariants.{Refused, Fine}
 use Rattle.sheet.specs.Text.{NEWLINE, part_of, line_of}
 use Rattle.sheet.specs.Table.{SECTIONS}
 use Rattle.sheet.specs.Record.{Line, unread, row}
-use Rattle.sheet.specs.Reading.{sheet_lines, row_of, section_in, counted, Before, after, no_lines, unreadable, over_most, out_of_range, NO_LINE, first, Reading, refused, rows, refusals, read_lines}
+use Rattle.sheet.specs.Reading.{sheet_lines, row_of, section_in, counted, Before, after, no_lines, unreadable, over_most, out_of_range, NO_LINE, first, refused, rows, refusals, read_lines}
 use Rattle.sheet.specs.Answer.{counted_all, counts_of, counts_from, front_line}
 use Rattle.sheet.specs.Walk.{ended, line_end, line_answer, LineSays, first_of, survey_of, survey_by}
 use Rattle.base.proofs.Bools.{never, clash, pick_true, pick_false}

@@ -1,18 +1,17 @@
 -- Walking along an accepted sheet, line by line: the rows of `reading` are the rows that the walk meets.
-use Rattle.std.proofs.Common.{◌≡◌, ℕ, zero, suc, ◌+◌, ◌-◌, ◌<◌, ◌≤◌, Bool, true, false, eqb, ltb, List, [], ◌∷◌, ◌++◌, map, length, get_or, drop, set, replicate, sym, refl, ap, ◌∙◌, subst, ap₂, add-zero, add-suc, zero-add, add-one, arith, length-drop, drop_of_length-le, get_or-drop, take_all, drop-drop, ne_eqb, eqb-true}
+use Rattle.std.proofs.Common.{◌≡◌, ℕ, zero, suc, ◌+◌, ◌<◌, ◌≤◌, Bool, true, false, eqb, ltb, List, [], ◌∷◌, ◌++◌, map, length, get_or, drop, set, replicate, sym, refl, ap, ◌∙◌, subst, ap₂, add-zero, add-suc, zero-add, add-one, arith, length-drop, drop_of_length-le, get_or-drop, take_all, drop-drop, eqb-true}
 use lib.ListN.{length-map}
 use lib.Seq.{paste, paste-suc}
 use Rattle.sheet.specs.declared.Counts.{Counts}
-use Rattle.sheet.specs.declared.RowAt.{RowAt}
 use Rattle.sheet.specs.declared.line.LineAt.{LineAt}
 use Rattle.sheet.specs.Text.{line_of}
 use Rattle.sheet.specs.Record.{Line, unread, row}
-use Rattle.sheet.specs.Reading.{sheet_lines, row_of, rows_from, Before, after, no_lines, unreadable, over_most, out_of_range, first, NO_LINE, Reading, refused, rows, refusals, read_lines, reading, listed}
+use Rattle.sheet.specs.Reading.{sheet_lines, row_of, rows_from, Before, after, no_lines, unreadable, over_most, out_of_range, first, NO_LINE, refused, rows, refusals, read_lines, reading, listed}
 use Rattle.sheet.specs.Answer.{front_line, row_at, AtLine}
 use Rattle.sheet.specs.Walk.{ended, line_end, line_answer, LineSays, all_read}
 use Rattle.base.proofs.Bools.{never}
 use Rattle.sheet.proofs.Lines.{lines_none, lines_ended, lines_unended}
-use Rattle.sheet.proofs.Surveys.{said_unread, said_read, line_read_lem, front_read}
+use Rattle.sheet.proofs.Surveys.{said_read, line_read_lem, front_read}
 
 -- What an accepted sheet has.
 

@@ -1,5 +1,5 @@
 -- Bytes written into a buffer, one run behind the other, and the digits of a number one by one.
-use Rattle.std.proofs.Common.{◌≡◌, ℕ, zero, suc, ◌+◌, ◌-◌, ◌/◌, ◌%◌, ◌^◌, ◌<◌, ◌≤◌, Bool, true, false, eqb, ltb, List, [], ◌∷◌, ◌++◌, length, take, drop, set, sym, refl, ap, ◌∙◌, append_assoc, add-zero, add_assoc, pow-suc, add-one, arith, length-append, length-drop, length-set, take-append-drop, length-take, length-take-le, drop-drop, take_at, le-ltb, lt-ltb, eq-eqb, ne_eqb}
+use Rattle.std.proofs.Common.{◌≡◌, ℕ, zero, suc, ◌+◌, ◌-◌, ◌/◌, ◌%◌, ◌^◌, ◌<◌, ◌≤◌, Bool, true, false, eqb, ltb, List, [], ◌∷◌, ◌++◌, length, take, drop, set, sym, refl, ap, ◌∙◌, append_assoc, add-zero, add_assoc, pow-suc, add-one, arith, length-append, take-append-drop, length-take-le, drop-drop, take_at, le-ltb, lt-ltb, eq-eqb, ne_eqb}
 use lib.Seq.{set_split, drop-append-add}
 use Rattle.sheet.specs.Number.{ZERO, MINUS}
 use Rattle.sheet.specs.Table.{ORIGIN, MISSING}

@@ -1,5 +1,5 @@
 -- What the calls answer: for each case of an answer its number and its values.
-use Rattle.std.specs.Prelude.{◌≡◌, ℕ, zero, suc, ◌+◌, ◌<◌, ◌≤◌, max, Bool, true, false, List, [], ◌∷◌, ◌++◌, length, drop, replicate, nat_lt, slice_index, slice_index_or}
+use Rattle.std.specs.Prelude.{◌≡◌, ℕ, suc, ◌+◌, ◌<◌, ◌≤◌, max, true, false, List, [], ◌∷◌, ◌++◌, length, drop, replicate, nat_lt, slice_index, slice_index_or}
 use Rattle.sheet.specs.declared.Counts.{Counts}
 use Rattle.sheet.specs.declared.Checked.{Checked}
 use Rattle.sheet.specs.declared.Checked.TheVariants.{Refused, Fine}
@@ -9,7 +9,7 @@ use Rattle.sheet.specs.declared.RowAt.{RowAt}
 use Rattle.sheet.specs.Text.{line_of}
 use Rattle.sheet.specs.Table.{SECTIONS}
 use Rattle.sheet.specs.Record.{Line, unread, row}
-use Rattle.sheet.specs.Reading.{Reading, refused, rows, counted, row_of, rows_from, sheet_lines}
+use Rattle.sheet.specs.Reading.{Reading, refused, rows, counted, rows_from, sheet_lines}
 
 -- how many rows of each section, after the rows that `counts` counts
 unfoldable pub counted_all : List ℕ → List (List ℕ) → List ℕ

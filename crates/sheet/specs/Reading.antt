@@ -1,5 +1,5 @@
 -- E, what turns a board away: refusals 1 to 3 in their order, each with the first line that meets it.
-use Rattle.std.specs.Prelude.{ℕ, zero, suc, Bool, true, false, not, List, [], ◌∷◌, map, replicate, ◌==◌, nat_le, nat_lt, slice_index, slice_set}
+use Rattle.std.specs.Prelude.{ℕ, suc, Bool, true, false, not, List, [], ◌∷◌, map, replicate, ◌==◌, nat_le, nat_lt, slice_index, slice_set}
 use Rattle.sheet.specs.declared.Counts.{Counts}
 use Rattle.sheet.specs.Text.{NEWLINE, parts}
 use Rattle.sheet.specs.Table.{SECTIONS}

@@ -1,6 +1,6 @@
 -- S, the board sheet: a line is one record. What its fields hold, by its section's table, makes a row of sixteen numbers: the section's number,
 -- the fields in the sheet's order, then zeros.
-use Rattle.std.specs.Prelude.{ℕ, zero, suc, ◌+◌, ◌-◌, Bool, true, false, not, ◌&&◌, List, [], ◌∷◌, replicate, ◌==◌, nat_le, slice_set}
+use Rattle.std.specs.Prelude.{ℕ, suc, ◌+◌, ◌-◌, Bool, true, false, not, ◌&&◌, List, [], ◌∷◌, replicate, ◌==◌, nat_le, slice_set}
 use Rattle.std.specs.Bool.{beq}
 use Rattle.sheet.specs.declared.line.Cell.{Cell}
 use Rattle.sheet.specs.declared.line.Cell.TheVariants.{Holds, OutOfRange, Malformed}

@@ -1,6 +1,6 @@
 -- S, the board sheet: the sections' letters, and one table of fields for each section with their ranges.
 -- A coordinate c (x, y, z, down, min_y) is held as c + ORIGIN, so that no number held is negative; a missing field is held as MISSING.
-use Rattle.std.specs.Prelude.{ℕ, zero, suc, ◌+◌, ◌-◌, List, [], ◌∷◌, slice_index_or}
+use Rattle.std.specs.Prelude.{ℕ, ◌+◌, ◌-◌, List, [], ◌∷◌, slice_index_or}
 use Rattle.sheet.specs.declared.Counts.{Counts}
 
 abbrev pub ORIGIN : ℕ

@@ -1,6 +1,6 @@
 -- P, the plan sheet: numbers and lines as bytes. Numbers are written as the board sheet's are read.
-use Rattle.std.specs.Prelude.{◌≡◌, ℕ, zero, suc, ◌+◌, ◌-◌, ◌/◌, ◌%◌, Bool, true, false, List, [], ◌∷◌, ◌++◌, length, take, drop, ◌==◌, nat_lt}
-use Rattle.sheet.specs.Text.{TAB, NEWLINE}
+use Rattle.std.specs.Prelude.{◌≡◌, ℕ, zero, suc, ◌+◌, ◌-◌, ◌/◌, ◌%◌, true, false, List, [], ◌∷◌, ◌++◌, length, take, drop, ◌==◌, nat_lt}
+use Rattle.sheet.specs.Text.{TAB}
 use Rattle.sheet.specs.Number.{Number, bad, missing, plus, minus, MINUS, ZERO, digits_most}
 use Rattle.sheet.specs.Table.{ORIGIN, MISSING}
 

@@ -1,11 +1,6 @@
 -- The record by its fields.
-use Prim.Native.Nat.{ℕ}
-use mathlib.Core.Path.{◌≡◌}
 use lib.ListN.{get_or}
 use Rattle.board_plan.specs.TextPlan.{lent_of}
-use borrow.Author.Rules.{rules}
-use Rattle.board_plan.proofs.shortest_of.Reads as shortest-of-reads
-use Rattle.sheet.proofs.library_most.Reads as library-most-reads
 use Rattle.board_plan.proofs.ask.Goals as goal
 
 pub returns : goal.returns

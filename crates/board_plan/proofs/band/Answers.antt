@@ -1,7 +1,4 @@
-use borrow.Author.Rules.{rules}
 use Rattle.board_plan.proofs.PageRows.{band_none, band_some}
-use Rattle.board_plan.proofs.band.Reads as reads
-use Rattle.board_plan.proofs.band.Lts as lts
 use Rattle.board_plan.proofs.band.Goals as goal
 
 pub returns-then-lanes-eq0 : goal.returns-then-lanes-eq0

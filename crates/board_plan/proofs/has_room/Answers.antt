@@ -1,7 +1,4 @@
-use borrow.Author.Rules.{rules}
 use Rattle.board_plan.proofs.Fitting.{few_rerouters_lem, few_bus_wires, few_ports_lem, few_answers, few_bytes, enough_but_work}
-use Rattle.board_plan.proofs.has_room.Reads as reads
-use Rattle.board_plan.proofs.has_room.Lts as lts
 use Rattle.board_plan.proofs.has_room.Goals as goal
 
 pub returns-then-lent-wires : goal.returns-then-lent-wires

@@ -14,36 +14,30 @@ use Rattle.board_plan.specs.declared.PagesPlan.TheVariants.{Planned}
 use Rattle.board_plan.proofs.Planned.{planned_counts}
 use Rattle.board_plan.proofs.Surveying.{LanesTold, text_refusal, text_crowded, text_lanes}
 use Rattle.board_plan.proofs.Calling.{asked_room, pages_ready, pages_refused, pages_laned}
-use borrow.Author.Rules.{rules}
-use Rattle.board_plan.proofs.plan_bus.Reads as reads
-use Rattle.board_plan.proofs.plan_bus.Lts as lts
-use Rattle.board_plan.proofs.plan_text.Reads as plan-text-reads
-use Rattle.board_plan.proofs.write_pages.Reads as write-pages-reads
-use Rattle.board_plan.proofs.ask.Reads as ask-reads
 use Rattle.board_plan.proofs.plan_bus.Goals as goal
 
 pub plan_text-requires : goal.plan_text-requires
 plan_text-requires c = let a = c.args in
     let q = c.ask-asked in
     let room = asked_room q.result a.records.now a.facts.now a.taps.now a.groups.now a.demands.now a.keys.now a.marks.now q.ensures in record {
-  work_lent = room.0.lent;
-  within_library = room.1;
-}
+      work_lent = room.0.lent;
+      within_library = room.1;
+    }
 
 pub write_pages-requires : goal.write_pages-requires
-write_pages-requires c = 
+write_pages-requires c =
     let asked_of : Asked = c.ask-asked.result in
     let told : let p = c.plan_text in LanesTold p.new.records p.new.facts p.new.taps p.new.groups (planning (asked_of).most (fits_lent (asked_of).lent) c.args.text.now) c.in-Laned.counts c.in-Laned.taps = let p = c.plan_text in text_lanes p.new.records p.new.facts p.new.taps p.new.groups (asked_of).most (fits_lent (asked_of).lent) c.args.text.now p.result p.ensures _ _ c.in-Laned.is in
     let p = c.plan_text in
     let a = c.args in
     let q = c.ask-asked in
     let room = asked_room q.result a.records.now a.facts.now a.taps.now a.groups.now a.demands.now a.keys.now a.marks.now q.ensures in let both = pages_ready p.new.records p.new.facts p.new.taps p.new.groups q.result.most a.text.now q.result.lent _ _ (length a.answers.now) (told) (omega arith) (ap (λ (z : Asked). z.lent.answers) q.ensures) in record {
-  n_in_bounds = both.0;
-  by_index = both.1;
-}
+      n_in_bounds = both.0;
+      by_index = both.1;
+    }
 
 pub returns-in-Refused : goal.returns-in-Refused
-returns-in-Refused c = 
+returns-in-Refused c =
     let asked_of : Asked = c.ask-asked.result in
     let work-of : List ℕ = let a = c.args in work_rows a.records.now a.facts.now a.taps.now a.groups.now a.demands.now a.keys.now a.marks.now in
     let p = c.plan_text in
@@ -51,7 +45,7 @@ returns-in-Refused c =
     pages_refused a.text.now (work-of) a.answers.now a.answers.now (asked_of) c.ask-asked.ensures _ _ (text_refusal p.new.records p.new.facts p.new.taps p.new.groups (asked_of).most (fits_lent (asked_of).lent) a.text.now p.result p.ensures _ _ c.in-Refused.is)
 
 pub returns-in-Crowded : goal.returns-in-Crowded
-returns-in-Crowded c = 
+returns-in-Crowded c =
     let asked_of : Asked = c.ask-asked.result in
     let work-of : List ℕ = let a = c.args in work_rows a.records.now a.facts.now a.taps.now a.groups.now a.demands.now a.keys.now a.marks.now in
     let p = c.plan_text in
@@ -59,7 +53,7 @@ returns-in-Crowded c =
     pages_refused a.text.now (work-of) a.answers.now a.answers.now (asked_of) c.ask-asked.ensures _ _ (text_crowded p.new.records p.new.facts p.new.taps p.new.groups (asked_of).most (fits_lent (asked_of).lent) a.text.now p.result p.ensures _ _ c.in-Crowded.is)
 
 pub returns-in-Laned : goal.returns-in-Laned
-returns-in-Laned c = 
+returns-in-Laned c =
     let asked_of : Asked = c.ask-asked.result in
     let work-of : List ℕ = let a = c.args in work_rows a.records.now a.facts.now a.taps.now a.groups.now a.demands.now a.keys.now a.marks.now in
     let told : let p = c.plan_text in LanesTold p.new.records p.new.facts p.new.taps p.new.groups (planning (asked_of).most (fits_lent (asked_of).lent) c.args.text.now) c.in-Laned.counts c.in-Laned.taps = let p = c.plan_text in text_lanes p.new.records p.new.facts p.new.taps p.new.groups (asked_of).most (fits_lent (asked_of).lent) c.args.text.now p.result p.ensures _ _ c.in-Laned.is in

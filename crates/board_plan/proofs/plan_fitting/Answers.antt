@@ -1,12 +1,7 @@
 use mathlib.Core.Path.{◌≡◌, refl, sym, ◌∙◌}
 use mathlib.Core.Bool.{true, false}
-use borrow.Author.Tests.{not-true, not-false}
 use Rattle.board_plan.specs.TextPlan.{fits_counts, fits_lent}
 use Rattle.board_plan.proofs.Reading.{counts_few, fits_counted, lent_unfit, lent_fits, board_read}
-use Rattle.board_plan.proofs.plan_fitting.Reads as reads
-use Rattle.board_plan.proofs.plan_fitting.Lts as lts
-use Rattle.board_plan.proofs.fits.Reads as fits-reads
-use Rattle.board_plan.proofs.plan_rows.Reads as plan-rows-reads
 use Rattle.board_plan.proofs.plan_fitting.Goals as goal
 
 pub fits-requires : goal.fits-requires
@@ -18,7 +13,7 @@ returns-then-not-fits c b checked = let a = c.args in
     rw (lent_unfit (fits_lent a.lent) b (fits_counted a.lent b a.counts false checked.counted e)) refl
 
 pub plan_rows-requires : goal.plan_rows-requires
-plan_rows-requires c = 
+plan_rows-requires c =
     let enough : fits_counts c.args.lent c.args.counts ≡ true = sym c.fits.ensures ∙ c.if-not-fits.false in
     (c.requires.board_checked.0, board_read c.requires.board_checked.1 c.args.lent (enough) c.requires.work_lent)
 
@@ -41,7 +36,7 @@ pub shape_of-spare : goal.shape_of-spare
 shape_of-spare c = c.plan_rows.auto.spare
 
 pub returns : goal.returns
-returns c b checked = 
+returns c b checked =
     let enough : fits_counts c.args.lent c.args.counts ≡ true = sym c.fits.ensures ∙ c.if-not-fits.false in
     let fits = enough in
     rw (lent_fits (fits_lent c.args.lent) b (fits_counted c.args.lent b c.args.counts true checked.counted fits))

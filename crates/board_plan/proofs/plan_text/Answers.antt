@@ -1,6 +1,5 @@
 use native.Mathlib.Omega.{arith}
 use mathlib.Core.Path.{◌≡◌, refl, sym, ◌∙◌}
-use borrow.Author.Rules.{rules}
 use Prim.Native.Nat.{ℕ, ◌≤◌}
 use lib.ListN.{replicate}
 use Rattle.board.specs.Board.{Board}
@@ -10,10 +9,6 @@ use Rattle.board.specs.Walk.{Fresh}
 use Rattle.board.proofs.Faults.{fresh_zeros}
 use Rattle.board_plan.specs.TextPlan.{BoardChecked, fits_lent}
 use Rattle.board_plan.proofs.Reading.{fitting_refused, fitting_judged, board_refused, board_fine}
-use Rattle.board_plan.proofs.plan_text.Reads as reads
-use Rattle.board_plan.proofs.plan_text.Lts as lts
-use Rattle.board.proofs.refusals.check_board.Reads as check-board-reads
-use Rattle.board_plan.proofs.plan_fitting.Reads as plan-fitting-reads
 use Rattle.board_plan.proofs.plan_text.Goals as goal
 
 pub check_board-requires : goal.check_board-requires
@@ -25,13 +20,13 @@ check_board-requires c = let fresh : (most : ℕ) → most ≤ 4096 → Fresh (r
 }
 
 pub plan_fitting-requires : goal.plan_fitting-requires
-plan_fitting-requires c = 
+plan_fitting-requires c =
     let checked : let a = c.args in let d = c.check_board in (b : Board) × (judged a.asked.most a.text.now ≡ Refusals.board b) × BoardChecked b d.new.rows c.in-Fine.counts d.new.body d.new.inner = let a = c.args in
     let d = c.check_board in
     board_fine a.asked.most a.text.now d.new.rows d.new.body d.new.chips d.new.inner c.in-Fine.counts c.requires.within_library (sym c.in-Fine.is ∙ d.ensures.value) d.ensures.indexed_if d.ensures.rows_if in record {
-  work_lent = rw c.check_board.auto.rows c.requires.work_lent;
-  board_checked = ((checked).0, (checked).2);
-}
+      work_lent = rw c.check_board.auto.rows c.requires.work_lent;
+      board_checked = ((checked).0, (checked).2);
+    }
 
 pub shape_of-records-in-Refused : goal.shape_of-records-in-Refused
 shape_of-records-in-Refused c = c.check_board.auto.rows
@@ -62,7 +57,7 @@ pub shape_of-spare : goal.shape_of-spare
 shape_of-spare c = c.plan_fitting.auto.spare
 
 pub returns-in-Fine : goal.returns-in-Fine
-returns-in-Fine c = 
+returns-in-Fine c =
     let checked : let a = c.args in let d = c.check_board in (b : Board) × (judged a.asked.most a.text.now ≡ Refusals.board b) × BoardChecked b d.new.rows c.in-Fine.counts d.new.body d.new.inner = let a = c.args in
     let d = c.check_board in
     board_fine a.asked.most a.text.now d.new.rows d.new.body d.new.chips d.new.inner c.in-Fine.counts c.requires.within_library (sym c.in-Fine.is ∙ d.ensures.value) d.ensures.indexed_if d.ensures.rows_if in

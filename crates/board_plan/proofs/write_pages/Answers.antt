@@ -1,12 +1,8 @@
-use Prim.Native.Nat.{ℕ, ◌-◌, ◌≤◌}
 use native.Mathlib.Omega.{arith}
-use mathlib.Core.Path.{◌≡◌, refl, sym, ap, ◌∙◌}
-use lib.ListN.{length, length-set}
+use mathlib.Core.Path.{◌≡◌, refl}
+use lib.ListN.{length-set}
 use borrow.Author.Rules.{rules}
-use Rattle.board_plan.proofs.PageRows.{PagesUpto, pages_more, pages_done}
-use Rattle.board_plan.proofs.write_pages.Reads as reads
-use Rattle.board_plan.proofs.write_pages.Lts as lts
-use Rattle.board_plan.proofs.band.Reads as band-reads
+use Rattle.board_plan.proofs.PageRows.{pages_more, pages_done}
 use Rattle.board_plan.proofs.write_pages.Goals as goal
 
 pub loop-p-init : goal.loop-p-init

@@ -1,12 +1,7 @@
-use Prim.Native.Nat.{ℕ, ◌-◌, ◌≤◌}
-use native.Mathlib.Omega.{arith}
-use mathlib.Core.Path.{◌≡◌, refl, sym, ap, ◌∙◌}
-use lib.ListN.{length, length-set}
-use borrow.Author.Rules.{rules}
-use Rattle.board_plan.proofs.PageRows.{PagesUpto, pages_more, pages_done}
-use Rattle.board_plan.proofs.write_pages.Reads as reads
-use Rattle.board_plan.proofs.write_pages.Lts as lts
-use Rattle.board_plan.proofs.band.Reads as band-reads
+use Prim.Native.Nat.{◌-◌, ◌≤◌}
+use mathlib.Core.Path.{◌≡◌}
+use lib.ListN.{length}
+use Rattle.board_plan.proofs.PageRows.{PagesUpto}
 use Rattle.board_plan.proofs.write_pages.Given as goal
 
 abbrev pub invariant-loop-p : goal.invariant-loop-p

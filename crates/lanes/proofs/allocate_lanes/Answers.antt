@@ -11,7 +11,6 @@ use Rattle.lanes.specs.Keys.{PackedNumbers}
 use Rattle.lanes.specs.declared.pack.Packing.{Packing}
 use Rattle.lanes.proofs.NumberLaws.{length-demands}
 use Rattle.lanes.proofs.CallLaws.{by_refusal, by_lanes, by_full, call_1, call_2, call_3, call_7, call_packed, none_first}
-use borrow.Author.Rules.{rules}
 use Rattle.lanes.proofs.allocate_lanes.Goals as goal
 
 pub returns-then-demands-gt0 : goal.returns-then-demands-gt0

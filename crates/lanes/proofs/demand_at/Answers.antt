@@ -3,7 +3,6 @@ use mathlib.Core.Path.{sym}
 use native.Mathlib.Omega.{arith}
 use Rattle.lanes.specs.Lanes.{no_demand}
 use Rattle.lanes.proofs.NumberLaws.{demand_at_lem}
-use borrow.Author.Rules.{rules}
 use Rattle.lanes.proofs.demand_at.Goals as goal
 
 pub returns : goal.returns

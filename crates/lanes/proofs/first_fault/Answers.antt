@@ -1,11 +1,9 @@
-use mathlib.Core.Path.{◌≡◌, sym, ap, ◌∙◌}
-use Prim.Native.Nat.{◌≤◌, ◌-◌}
+use mathlib.Core.Path.{sym, ap, ◌∙◌}
 use native.Mathlib.Omega.{arith}
-use lib.ListN.{length}
 use Rattle.lanes.specs.Lanes.{no_demand}
 use Rattle.lanes.specs.LaneCall.{faulty, demands_of}
 use Rattle.lanes.proofs.NumberLaws.{length-demands}
-use Rattle.lanes.proofs.FindLaws.{Passed, passed_none, passed_more, passed_found, passed_all}
+use Rattle.lanes.proofs.FindLaws.{passed_none, passed_more, passed_found, passed_all}
 use Rattle.lanes.proofs.first_fault.Goals as goal
 
 pub loop-i-init : goal.loop-i-init

@@ -1,12 +1,9 @@
 -- `lanes::first_fault` meets its contract: the search passes what is not faulty. Assumes nothing.
-use mathlib.Core.Path.{◌≡◌, sym, ap, ◌∙◌}
+use mathlib.Core.Path.{◌≡◌}
 use Prim.Native.Nat.{◌≤◌, ◌-◌}
-use native.Mathlib.Omega.{arith}
 use lib.ListN.{length}
-use Rattle.lanes.specs.Lanes.{no_demand}
 use Rattle.lanes.specs.LaneCall.{faulty, demands_of}
-use Rattle.lanes.proofs.NumberLaws.{length-demands}
-use Rattle.lanes.proofs.FindLaws.{Passed, passed_none, passed_more, passed_found, passed_all}
+use Rattle.lanes.proofs.FindLaws.{Passed}
 use Rattle.lanes.proofs.first_fault.Given as goal
 
 abbrev pub invariant-loop-i : goal.invariant-loop-i

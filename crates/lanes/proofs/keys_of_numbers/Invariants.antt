@@ -1,16 +1,11 @@
 -- `lanes::keys_of_numbers` meets its contract: the keys' front is that of the definition's, one more with each turn. Assumes nothing.
-use mathlib.Core.Path.{◌≡◌, refl, sym, ap, ◌∙◌}
-use mathlib.Core.List.{[], map}
+use mathlib.Core.Path.{◌≡◌}
+use mathlib.Core.List.{map}
 use Prim.Native.Nat.{◌≤◌, ◌-◌}
-use native.Mathlib.Omega.{arith}
-use lib.ListN.{length, take, length-set}
-use lib.Seq.{take_all}
+use lib.ListN.{length, take}
 use Rattle.lanes.specs.Lanes.{entries}
-use Rattle.lanes.specs.LaneCall.{faulty, demands_of}
-use Rattle.lanes.specs.Keys.{key_of, demand_in}
-use Rattle.lanes.proofs.NumberLaws.{length-demands}
-use Rattle.lanes.proofs.RankLaws.{length_keys, key_at_lem}
-use Rattle.base.proofs.Filling.{copied_more, copied_all}
+use Rattle.lanes.specs.LaneCall.{demands_of}
+use Rattle.lanes.specs.Keys.{key_of}
 use Rattle.lanes.proofs.keys_of_numbers.Given as goal
 
 abbrev pub invariant-loop-i : goal.invariant-loop-i

@@ -1,9 +1,8 @@
-use borrow.Author.Rules.{rules}
-use mathlib.Core.Path.{◌≡◌, refl, ◌∙◌}
-use Prim.Native.Nat.{ℕ, ◌≤◌, ◌<◌, ◌-◌}
+use mathlib.Core.Path.{refl, ◌∙◌}
+use Prim.Native.Nat.{ℕ, ◌<◌}
 use native.Mathlib.Omega.{arith}
-use lib.ListN.{length, take, length-set}
-use Rattle.lanes.specs.Keys.{lanes_in, spread}
+use lib.ListN.{length, length-set}
+use Rattle.lanes.specs.Keys.{spread}
 use Rattle.lanes.proofs.SpreadLaws.{spread_more, spread_done}
 use Rattle.lanes.proofs.lanes_to_numbers.Goals as goal
 

@@ -1,11 +1,8 @@
 -- `lanes::lanes_to_numbers` meets its contract: a row is spread with each turn. Assumes nothing.
-use borrow.Author.Rules.{rules}
-use mathlib.Core.Path.{◌≡◌, refl, ◌∙◌}
-use Prim.Native.Nat.{ℕ, ◌≤◌, ◌<◌, ◌-◌}
-use native.Mathlib.Omega.{arith}
-use lib.ListN.{length, take, length-set}
-use Rattle.lanes.specs.Keys.{lanes_in, spread}
-use Rattle.lanes.proofs.SpreadLaws.{spread_more, spread_done}
+use mathlib.Core.Path.{◌≡◌}
+use Prim.Native.Nat.{◌≤◌, ◌-◌}
+use lib.ListN.{length, take}
+use Rattle.lanes.specs.Keys.{lanes_in}
 use Rattle.lanes.proofs.lanes_to_numbers.Given as goal
 
 abbrev pub invariant-loop-k : goal.invariant-loop-k

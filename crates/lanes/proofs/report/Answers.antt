@@ -1,7 +1,6 @@
 -- `lanes::report` meets its contract, case by case. Assumes nothing.
 use mathlib.Core.Path.{sym, ap}
 use Rattle.lanes.specs.LaneCall.{report_of}
-use borrow.Author.Rules.{rules}
 use Rattle.lanes.proofs.report.Goals as goal
 
 pub returns-in-Incomplete : goal.returns-in-Incomplete

@@ -14,25 +14,18 @@ use Rattle.program_answer.specs.Answering.{Answered, answer_call}
 use Rattle.program_answer.specs.declared.Answer.{Answer}
 use Rattle.program_answer.specs.declared.Answer.TheVariants.{Written}
 use Rattle.program_answer.proofs.Answers.{PlanTold, plan_told_by, plan_held, plan_room, answered_refused, answered_plan}
-use borrow.Author.Rules.{rules}
-use Rattle.program_answer.proofs.answer_within.Reads as reads
-use Rattle.program_answer.proofs.answer_within.Lts as lts
-use Rattle.program_answer.proofs.tell_refusal.Reads as tell-refusal-reads
-use Rattle.board_plan.proofs.shortest_of.Reads as shortest-of-reads
-use Rattle.routes_calls.proofs.route.route_within.Reads as route-within-reads
-use Rattle.routes_plan_sheet.proofs.write_plan.Reads as write-plan-reads
 use Rattle.program_answer.proofs.answer_within.Goals as goal
 
 pub route_within-requires : goal.route_within-requires
 route_within-requires c = let a = c.args in
     let n = c.shortest_of-work in
     let w = work_room n.result a.records.now a.facts.now a.taps.now a.groups.now a.demands.now a.keys.now a.marks.now n.ensures in record {
-  work_lent = w.lent;
-  within_library = (c.requires, record { marks_lent = omega arith; rerouters_lent = omega arith; wires_lent = omega arith; ports_lent = omega arith }, omega arith);
-}
+      work_lent = w.lent;
+      within_library = (c.requires, record { marks_lent = omega arith; rerouters_lent = omega arith; wires_lent = omega arith; ports_lent = omega arith }, omega arith);
+    }
 
 pub write_plan-requires : goal.write_plan-requires
-write_plan-requires c = 
+write_plan-requires c =
     let lent-with : ℕ → Lent = λ work. let a = c.args in
     record { rerouters = length a.rerouters.now; bus_wires = length a.bus_wires.now; ports = length a.ports.now; answers = length a.answers.now; work = work; out = length a.out.now } in
     let lent_of : Lent = lent-with c.shortest_of-work.result in
@@ -43,12 +36,12 @@ write_plan-requires c =
     let a = c.args in
     let room = plan_room a.most a.text.now (lent_of) c.requires a.rerouters.now a.bus_wires.now a.ports.now a.answers.now r.new.rerouters r.new.bus_wires r.new.ports r.new.answers _ _ _ (told) in
     let fits = plan_fits_lem (told).on_board (told).lanes r.new.answers _ r.new.rerouters _ r.new.bus_wires _ r.new.ports _ _ _ (held) (omega arith) (omega arith) a.out.now room.2 in record {
-  plan_fits = fits.0;
-  wires_bound = (fits.1, fits.2);
-}
+      plan_fits = fits.0;
+      wires_bound = (fits.1, fits.2);
+    }
 
 pub returns-in-Refused : goal.returns-in-Refused
-returns-in-Refused c = 
+returns-in-Refused c =
     let lent-with : ℕ → Lent = λ work. let a = c.args in
     record { rerouters = length a.rerouters.now; bus_wires = length a.bus_wires.now; ports = length a.ports.now; answers = length a.answers.now; work = work; out = length a.out.now } in
     let lent_of : Lent = lent-with c.shortest_of-work.result in
@@ -60,7 +53,7 @@ returns-in-Refused c =
     counted t.new.out t.result (answered_refused a.most a.text.now (lent_of) a.rerouters.now a.bus_wires.now a.ports.now a.answers.now r.new.rerouters r.new.bus_wires r.new.ports r.new.answers r.result r.ensures _ _ c.in-Refused.is a.out.now t.new.out t.result t.ensures)
 
 pub returns-in-Laid : goal.returns-in-Laid
-returns-in-Laid c = 
+returns-in-Laid c =
     let lent-with : ℕ → Lent = λ work. let a = c.args in
     record { rerouters = length a.rerouters.now; bus_wires = length a.bus_wires.now; ports = length a.ports.now; answers = length a.answers.now; work = work; out = length a.out.now } in
     let lent_of : Lent = lent-with c.shortest_of-work.result in

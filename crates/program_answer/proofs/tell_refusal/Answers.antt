@@ -1,4 +1,3 @@
-use native.Mathlib.Omega.{arith}
 use Rattle.program_answer.proofs.Answers.{no_room, number_high, place_high, refusal_told}
 use Rattle.program_answer.proofs.tell_refusal.Goals as goal
 

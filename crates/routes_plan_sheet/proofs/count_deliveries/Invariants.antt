@@ -1,8 +1,5 @@
-use Rattle.std.proofs.Common.{◌≡◌, ◌-◌, ◌≤◌, refl, ap, ◌∙◌, arith, rules}
+use Rattle.std.proofs.Common.{◌≡◌, ◌-◌, ◌≤◌}
 use Rattle.routes_plan_sheet.specs.Held.{delivery_rows}
-use Rattle.routes_plan_sheet.proofs.Deliveries.{one_delivers, one_passed}
-use Rattle.routes_plan_sheet.proofs.count_deliveries.Reads as reads
-use Rattle.routes_plan_sheet.proofs.count_deliveries.Lts as lts
 use Rattle.routes_plan_sheet.proofs.count_deliveries.Given as goal
 
 abbrev pub invariant-loop-i : goal.invariant-loop-i

@@ -1,8 +1,4 @@
-use Rattle.std.proofs.Common.{ap, rules}
-use Rattle.routes_plan_sheet.specs.declared.plan_sheet.Totals.{Totals}
-use Rattle.routes_plan_sheet.proofs.totals.Reads as reads
-use Rattle.routes_plan_sheet.proofs.totals.Lts as lts
-use Rattle.routes_plan_sheet.proofs.less.Reads as less-reads
+use Rattle.std.proofs.Common.{ap}
 use Rattle.routes_plan_sheet.proofs.totals.Goals as goal
 
 pub returns : goal.returns

@@ -1,10 +1,4 @@
-use Rattle.std.proofs.Common.{rules}
 use Rattle.routes_plan_sheet.proofs.PlanWritten.{wrote_plan}
-use Rattle.routes_plan_sheet.proofs.write_plan.Reads as reads
-use Rattle.routes_plan_sheet.proofs.write_plan.Lts as lts
-use Rattle.routes_plan_sheet.proofs.plan_sheet.put_plan.Reads as put-plan-reads
-use Rattle.routes_plan_sheet.proofs.count_deliveries.Reads as count-deliveries-reads
-use Rattle.routes_plan_sheet.proofs.totals.Reads as totals-reads
 use Rattle.routes_plan_sheet.proofs.write_plan.Goals as goal
 
 pub returns : goal.returns

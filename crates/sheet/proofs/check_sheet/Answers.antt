@@ -1,5 +1,5 @@
 -- `sheet::check_sheet` meets its contract. Assumes nothing.
-use Rattle.std.proofs.Common.{◌∙◌, rules}
+use Rattle.std.proofs.Common.{◌∙◌}
 use Rattle.sheet.specs.Reading.{reading}
 use Rattle.sheet.proofs.Answers.{survey_is, checked_is}
 use Rattle.sheet.proofs.check_sheet.Goals as goal

@@ -1,5 +1,4 @@
 -- `sheet::checked_by` meets its contract. Assumes nothing.
-use Rattle.std.proofs.Common.{rules}
 use Rattle.sheet.proofs.checked_by.Goals as goal
 
 pub returns-in-Refused : goal.returns-in-Refused

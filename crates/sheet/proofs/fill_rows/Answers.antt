@@ -1,8 +1,7 @@
-use Rattle.std.proofs.Common.{◌≡◌, ℕ, ◌+◌, ◌-◌, ◌<◌, ◌≤◌, ◌++◌, length, sym, refl, ap, ◌∙◌, arith, length-set, rules}
+use Rattle.std.proofs.Common.{◌≡◌, ◌<◌, length, refl, ap, ◌∙◌, arith, length-set}
 use lib.Seq.{paste, paste-zero}
 use borrow.Author.Rules.{scaled_Fits}
 use Rattle.sheet.specs.Reading.{rows_from, sheet_lines}
-use Rattle.sheet.specs.Answer.{AtLine}
 use Rattle.sheet.proofs.Walks.{walk_start, walk_stored, walk_next, fill_step, fill_all}
 use Rattle.sheet.proofs.fill_rows.Goals as goal
 

@@ -1,10 +1,8 @@
 -- `sheet::fill_rows` meets its contract. Assumes nothing.
-use Rattle.std.proofs.Common.{◌≡◌, ℕ, ◌+◌, ◌-◌, ◌<◌, ◌≤◌, ◌++◌, length, sym, refl, ap, ◌∙◌, arith, length-set, rules}
-use lib.Seq.{paste, paste-zero}
-use borrow.Author.Rules.{scaled_Fits}
-use Rattle.sheet.specs.Reading.{rows_from, sheet_lines}
+use Rattle.std.proofs.Common.{◌≡◌, ◌-◌, ◌≤◌, length}
+use lib.Seq.{paste}
+use Rattle.sheet.specs.Reading.{rows_from}
 use Rattle.sheet.specs.Answer.{AtLine}
-use Rattle.sheet.proofs.Walks.{walk_start, walk_stored, walk_next, fill_step, fill_all}
 use Rattle.sheet.proofs.fill_rows.Given as goal
 
 abbrev pub invariant-loop-k : goal.invariant-loop-k

@@ -1,5 +1,5 @@
 -- `sheet::read_sheet` meets its contract. Assumes nothing.
-use Rattle.std.proofs.Common.{sym, ap, ◌∙◌, arith, rules}
+use Rattle.std.proofs.Common.{sym, ◌∙◌}
 use Rattle.sheet.specs.Reading.{reading}
 use Rattle.sheet.proofs.Answers.{survey_is, read_refused, read_short, read_fine, fill_asks}
 use Rattle.sheet.proofs.read_sheet.Goals as goal

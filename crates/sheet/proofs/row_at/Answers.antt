@@ -1,5 +1,5 @@
 -- `sheet::row_at` meets its contract. Assumes nothing.
-use Rattle.std.proofs.Common.{ℕ, sym, ap, ◌∙◌, rules}
+use Rattle.std.proofs.Common.{ℕ, sym, ap, ◌∙◌}
 use borrow.Author.Tests.{not-true, not-false}
 use Rattle.sheet.proofs.Surveys.{said_unread, said_read}
 use Rattle.sheet.proofs.Walks.{row_at_read, row_at_unread}

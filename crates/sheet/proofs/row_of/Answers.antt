@@ -1,5 +1,5 @@
 -- `sheet::row_of` meets its contract. Assumes nothing.
-use Rattle.std.proofs.Common.{sym, ◌∙◌, rules}
+use Rattle.std.proofs.Common.{sym, ◌∙◌}
 use Rattle.sheet.proofs.Along.{row_from_rows, row_from_text}
 use Rattle.sheet.proofs.row_of.Goals as goal
 

@@ -2,11 +2,7 @@ use mathlib.Core.Path.{◌≡◌, refl, ap, sym, ◌∙◌}
 use mathlib.Core.Bool.{not}
 use mathlib.Core.List.{List}
 use native.Mathlib.Omega.{arith}
-use borrow.Author.Rules.{rules}
 use borrow.Author.Tests.{eq-eqb, ne_eqb}
-use lib.Dec.{eqb}
-use lib.ListN.{length}
-use Rattle.sheet.specs.Table.{MISSING}
 use Rattle.base.specs.Lists.{at}
 use Rattle.board.specs.Board.{Board, field, given, parent_of}
 use Rattle.board.specs.Refusals.{chip_at}

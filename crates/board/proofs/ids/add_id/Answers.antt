@@ -1,14 +1,9 @@
 -- `add_id` meets its contract: the entry goes in front of its bucket's chain. Assumes nothing.
 use Prim.Native.Nat.{◌<◌}
-use mathlib.Core.Path.{◌≡◌}
 use native.Mathlib.Omega.{arith}
 use native.Mathlib.Numerals.{add-one}
 use lib.ListN.{length, length-set}
 use Rattle.board.proofs.Newest.{index_width, added_ids, index_more}
-use borrow.Author.Rules.{rules}
-use Rattle.board.proofs.ids.add_id.Reads as reads
-use Rattle.board.proofs.ids.add_id.Lts as lts
-use Rattle.board.proofs.ids.bucket_of.Reads as bucket-of-reads
 use Rattle.board.proofs.ids.add_id.Goals as goal
 
 pub bounds-index-k : goal.bounds-index-k

@@ -1,19 +1,14 @@
 use Prim.Native.Nat.{ℕ, suc, ◌-◌, ◌<◌}
-use mathlib.Core.Bool.{Bool}
 use mathlib.Core.List.{List}
 use mathlib.Core.Path.{◌≡◌, ap, sym, ◌∙◌}
 use native.Mathlib.Omega.{arith}
-use borrow.Author.Rules.{rules}
 use borrow.Author.Tests.{eq-eqb, ne_eqb}
-use lib.Dec.{eqb}
 use lib.ListN.{length}
 use Rattle.base.specs.Lists.{newest}
-use Rattle.board.specs.Board.{Board, field}
+use Rattle.board.specs.Board.{Board}
 use Rattle.board.specs.Refusals.{chip_at}
 use Rattle.board.specs.Index.{found_of}
-use Rattle.board.proofs.Newest.{Scan, scan_start, scan_next, follow_found, follow_end}
-use Rattle.board.proofs.ids.chip_below.Reads as reads
-use Rattle.board.proofs.ids.chip_below.Lts as lts
+use Rattle.board.proofs.Newest.{scan_start, scan_next, follow_found, follow_end}
 use Rattle.board.proofs.ids.chip_below.Invariants.{has}
 use Rattle.board.proofs.ids.chip_below.Goals as goal
 

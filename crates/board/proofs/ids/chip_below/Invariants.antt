@@ -1,20 +1,10 @@
 -- `chip_below` meets its contract: no record from `c` on has the id. Assumes nothing.
-use Prim.Native.Nat.{ℕ, suc, ◌-◌, ◌<◌}
+use Prim.Native.Nat.{ℕ}
 use mathlib.Core.Bool.{Bool}
 use mathlib.Core.List.{List}
-use mathlib.Core.Path.{◌≡◌, ap, sym, ◌∙◌}
-use native.Mathlib.Omega.{arith}
-use borrow.Author.Rules.{rules}
-use borrow.Author.Tests.{eq-eqb, ne_eqb}
 use lib.Dec.{eqb}
-use lib.ListN.{length}
-use Rattle.base.specs.Lists.{newest}
-use Rattle.board.specs.Board.{Board, field}
-use Rattle.board.specs.Refusals.{chip_at}
-use Rattle.board.specs.Index.{found_of}
-use Rattle.board.proofs.Newest.{Scan, scan_start, scan_next, follow_found, follow_end}
-use Rattle.board.proofs.ids.chip_below.Reads as reads
-use Rattle.board.proofs.ids.chip_below.Lts as lts
+use Rattle.board.specs.Board.{field}
+use Rattle.board.proofs.Newest.{Scan}
 use Rattle.board.proofs.ids.chip_below.Given as goal
 
 abbrev pub has : List (List ℕ) → ℕ → ℕ → Bool

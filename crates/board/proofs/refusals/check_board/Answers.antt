@@ -1,16 +1,11 @@
 -- `check_board` meets its contract: reading the sheet, and then the walk that finds 4 to 6. Assumes nothing.
 use mathlib.Core.Path.{◌≡◌, ap, sym, ◌∙◌}
-use borrow.Author.Rules.{rules}
 use Rattle.sheet.specs.declared.Checked.TheVariants.{Fine}
 use Rattle.sheet.specs.Reading.{reading}
 use Rattle.sheet.specs.Answer.{checked_of}
-use Rattle.board.specs.Refusals.{Judged, turned_away, board, judged}
+use Rattle.board.specs.Refusals.{turned_away, board, judged}
 use Rattle.board.specs.Walk.{sheet_board, board_checked}
 use Rattle.board.proofs.Judging.{sheet_refused, sheet_counts, sheet_ready, sheet_judged, counts_judged, fault_refused, fault_fine}
-use Rattle.board.proofs.refusals.check_board.Reads as reads
-use Rattle.board.proofs.refusals.check_board.Lts as lts
-use Rattle.board.proofs.refusals.find_fault.Reads as find-fault-reads
-use Rattle.sheet.proofs.check_rows.Reads as check-rows-reads
 use Rattle.board.proofs.refusals.check_board.Goals as goal
 
 pub find_fault-requires : goal.find_fault-requires

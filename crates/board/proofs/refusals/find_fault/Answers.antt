@@ -1,20 +1,11 @@
 -- `find_fault` meets its contract: the three walks, one after the other. Assumes nothing.
 use Prim.Native.Nat.{◌+◌, ◌≤◌}
-use mathlib.Core.Path.{◌≡◌, refl, ap, ap₂, sym, ◌∙◌}
+use mathlib.Core.Path.{refl, ap₂, sym, ◌∙◌}
 use native.Mathlib.Omega.{arith}
-use borrow.Author.Rules.{rules}
-use lib.ListN.{length}
-use Rattle.board.specs.Walk.{sheet_board, Indexed}
+use Rattle.board.specs.Walk.{sheet_board}
 use Rattle.base.proofs.Bools.{never}
 use Rattle.board.proofs.Sections.{part_start}
 use Rattle.board.proofs.Faults.{Counted, counted, walk_sections, fresh_fewer, ids_at, fault_nodes, fault_chips, fault_inner, fault_rest}
-use Rattle.board.proofs.refusals.find_fault.Reads as reads
-use Rattle.board.proofs.refusals.find_fault.Lts as lts
-use Rattle.board.proofs.walks.skip_lines.Reads as skip-lines-reads
-use Rattle.board.proofs.refusals.verdict.Reads as verdict-reads
-use Rattle.board.proofs.walks.walk_chips.Reads as walk-chips-reads
-use Rattle.board.proofs.walks.walk_inner.Reads as walk-inner-reads
-use Rattle.board.proofs.walks.walk_nodes.Reads as walk-nodes-reads
 use Rattle.board.proofs.refusals.find_fault.Goals as goal
 
 pub skip_lines-requires : goal.skip_lines-requires

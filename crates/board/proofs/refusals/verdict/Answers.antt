@@ -2,8 +2,6 @@
 use mathlib.Core.Path.{sym, ◌∙◌}
 use borrow.Author.Tests.{eq-eqb, ne_eqb}
 use Rattle.base.proofs.Bools.{pick_true, pick_false}
-use Rattle.board.proofs.refusals.verdict.Reads as reads
-use Rattle.board.proofs.refusals.verdict.Lts as lts
 use Rattle.board.proofs.refusals.verdict.Goals as goal
 
 pub returns-then-missing-ne0 : goal.returns-then-missing-ne0

@@ -1,11 +1,6 @@
 -- `enter_id` meets its contract. Assumes nothing.
-use mathlib.Core.Path.{◌≡◌, sym, ◌∙◌}
+use mathlib.Core.Path.{sym, ◌∙◌}
 use Rattle.board.proofs.Faults.{entered_there}
-use borrow.Author.Rules.{rules}
-use Rattle.board.proofs.walks.enter_id.Reads as reads
-use Rattle.board.proofs.walks.enter_id.Lts as lts
-use Rattle.board.proofs.ids.add_id.Reads as add-id-reads
-use Rattle.board.proofs.walks.has_id.Reads as has-id-reads
 use Rattle.board.proofs.walks.enter_id.Goals as goal
 
 pub returns-then-has_id : goal.returns-then-has_id

@@ -1,10 +1,8 @@
 -- `first_line` meets its contract. Assumes nothing.
-use mathlib.Core.Path.{◌≡◌, sym, ◌∙◌}
+use mathlib.Core.Path.{sym, ◌∙◌}
 use borrow.Author.Tests.{eq-eqb, ne_eqb}
 use Rattle.board.specs.Walk.{line_if}
 use Rattle.base.proofs.Bools.{pick_true, pick_false}
-use Rattle.board.proofs.walks.first_line.Reads as reads
-use Rattle.board.proofs.walks.first_line.Lts as lts
 use Rattle.board.proofs.walks.first_line.Goals as goal
 
 pub returns-then-so_far-ne0 : goal.returns-then-so_far-ne0

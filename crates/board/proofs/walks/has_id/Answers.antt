@@ -1,12 +1,8 @@
 -- `has_id` meets its contract. Assumes nothing.
-use mathlib.Core.Path.{◌≡◌, ap, sym, ◌∙◌}
+use mathlib.Core.Path.{ap, sym, ◌∙◌}
 use Rattle.base.specs.Lists.{found}
 use Rattle.board.specs.Index.{entry_of}
 use Rattle.board.proofs.Chips.{found_at, found_none}
-use borrow.Author.Rules.{rules}
-use Rattle.board.proofs.walks.has_id.Reads as reads
-use Rattle.board.proofs.walks.has_id.Lts as lts
-use Rattle.board.proofs.ids.find_id.Reads as find-id-reads
 use Rattle.board.proofs.walks.has_id.Goals as goal
 
 pub returns-in-At : goal.returns-in-At

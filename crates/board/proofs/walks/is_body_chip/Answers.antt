@@ -7,10 +7,6 @@ use Rattle.board.specs.Index.{entry_of}
 use Rattle.board.specs.Walk.{is_chip}
 use Rattle.board.proofs.Chips.{found_at, found_none}
 use Rattle.board.proofs.Faults.{entry_below}
-use borrow.Author.Rules.{rules}
-use Rattle.board.proofs.walks.is_body_chip.Reads as reads
-use Rattle.board.proofs.walks.is_body_chip.Lts as lts
-use Rattle.board.proofs.ids.find_id.Reads as find-id-reads
 use Rattle.board.proofs.walks.is_body_chip.Goals as goal
 
 pub offset_bounds-kinds-i : goal.offset_bounds-kinds-i

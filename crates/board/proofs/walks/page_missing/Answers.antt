@@ -1,9 +1,5 @@
 -- `page_missing` meets its contract. Assumes nothing.
-use mathlib.Core.Path.{refl}
 use Rattle.board.proofs.Faults.{given_missing, given_there}
-use borrow.Author.Rules.{rules}
-use Rattle.board.proofs.walks.page_missing.Reads as reads
-use Rattle.board.proofs.walks.page_missing.Lts as lts
 use Rattle.board.proofs.walks.page_missing.Goals as goal
 
 pub returns-then-page : goal.returns-then-page

@@ -1,15 +1,10 @@
 -- `parent_missing` meets its contract. Assumes nothing.
-use mathlib.Core.Path.{◌≡◌, ap, sym, ◌∙◌}
+use mathlib.Core.Path.{ap, sym, ◌∙◌}
 use mathlib.Core.Bool.{not}
 use lib.ListN.{get_or}
 use Rattle.board.specs.Board.{given}
 use Rattle.base.proofs.Bools.{pick_true, pick_false}
 use Rattle.board.proofs.Faults.{given_missing, given_there}
-use borrow.Author.Rules.{rules}
-use Rattle.board.proofs.walks.parent_missing.Reads as reads
-use Rattle.board.proofs.walks.parent_missing.Lts as lts
-use Rattle.board.proofs.walks.has_id.Reads as has-id-reads
-use Rattle.board.proofs.walks.is_body_chip.Reads as is-body-chip-reads
 use Rattle.board.proofs.walks.parent_missing.Goals as goal
 
 pub returns-then-parent : goal.returns-then-parent

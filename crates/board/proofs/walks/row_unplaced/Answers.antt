@@ -1,10 +1,6 @@
 -- `row_unplaced` meets its contract. Assumes nothing.
-use mathlib.Core.Path.{refl}
 use lib.ListN.{get_or}
 use Rattle.board.proofs.Faults.{given_missing, given_there, not-given}
-use borrow.Author.Rules.{rules}
-use Rattle.board.proofs.walks.row_unplaced.Reads as reads
-use Rattle.board.proofs.walks.row_unplaced.Lts as lts
 use Rattle.board.proofs.walks.row_unplaced.Goals as goal
 
 pub returns-then-row : goal.returns-then-row

@@ -1,14 +1,9 @@
-use Prim.Native.Nat.{suc, ◌≤◌, ◌-◌, max}
-use mathlib.Core.Path.{◌≡◌, ap}
+use Prim.Native.Nat.{max}
+use mathlib.Core.Path.{◌≡◌}
 use native.Mathlib.Omega.{arith}
 use native.Mathlib.Numerals.{add-one}
-use borrow.Author.Rules.{rules}
 use lib.ListN.{length}
-use Rattle.board.specs.Walk.{Ready}
 use Rattle.board.proofs.Faults.{ready_at, ready_next}
-use Rattle.board.proofs.walks.skip_lines.Reads as reads
-use Rattle.board.proofs.walks.skip_lines.Lts as lts
-use Rattle.sheet.proofs.row_of.Reads as row-of-reads
 use Rattle.board.proofs.walks.skip_lines.Goals as goal
 
 pub loop-k-init : goal.loop-k-init

@@ -1,27 +1,19 @@
-use Prim.Native.Nat.{ℕ, suc, ◌+◌, ◌≤◌, ◌<◌, ◌-◌}
+use Prim.Native.Nat.{suc, ◌+◌, ◌≤◌, ◌<◌}
 use mathlib.Core.Path.{◌≡◌, refl, ap, sym, ◌∙◌}
-use mathlib.Core.Bool.{Bool, true, false, not, ◌||◌}
-use mathlib.Core.List.{List, []}
+use mathlib.Core.Bool.{true, false, not, ◌||◌}
+use mathlib.Core.List.{[]}
 use native.Mathlib.Omega.{arith}
 use native.Mathlib.Numerals.{add-one}
-use borrow.Author.Rules.{rules}
 use lib.ListN.{length, get_or}
 use Rattle.sheet.specs.declared.RowAt.{RowAt}
 use Rattle.sheet.specs.Reading.{rows_from}
 use Rattle.base.specs.Lists.{found}
-use Rattle.board.specs.Board.{inner_id}
 use Rattle.board.specs.Refusals.{inner_twice, chip_missing}
 use Rattle.board.specs.Index.{entry_of}
 use Rattle.board.specs.Walk.{line_if, earlier, line_from, sheet_board, Ready}
 use Rattle.board.proofs.Sections.{Part, in_order_lem}
 use Rattle.base.proofs.Bools.{neither, either_left, either_right}
-use Rattle.board.proofs.Faults.{Walking, walking_start, walking_more, walking_twice, walking_end, walk_row, walk_next, walk_sections, ids_more, inner_field, inner_repeats, inner_gone}
-use Rattle.board.proofs.walks.walk_inner.Reads as reads
-use Rattle.board.proofs.walks.walk_inner.Lts as lts
-use Rattle.board.proofs.walks.enter_id.Reads as enter-id-reads
-use Rattle.board.proofs.walks.first_line.Reads as first-line-reads
-use Rattle.board.proofs.walks.has_id.Reads as has-id-reads
-use Rattle.sheet.proofs.row_of.Reads as row-of-reads
+use Rattle.board.proofs.Faults.{walking_start, walking_more, walking_twice, walking_end, walk_row, walk_next, walk_sections, ids_more, inner_field, inner_repeats, inner_gone}
 use Rattle.board.proofs.walks.walk_inner.Goals as goal
 
 pub loop-f-init : goal.loop-f-init

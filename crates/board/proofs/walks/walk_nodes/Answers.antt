@@ -1,25 +1,17 @@
-use Prim.Native.Nat.{ℕ, suc, ◌+◌, ◌≤◌, ◌<◌, ◌-◌}
-use mathlib.Core.Path.{◌≡◌, refl, ap, sym, subst, ◌∙◌}
-use mathlib.Core.Bool.{Bool, true, false}
-use mathlib.Core.List.{List, []}
+use Prim.Native.Nat.{suc, ◌+◌, ◌≤◌, ◌<◌}
+use mathlib.Core.Path.{◌≡◌, refl, ap, sym, ◌∙◌}
+use mathlib.Core.Bool.{true, false}
+use mathlib.Core.List.{[]}
 use native.Mathlib.Omega.{arith}
 use native.Mathlib.Numerals.{add-one}
-use borrow.Author.Rules.{rules}
-use lib.ListN.{length, get_or, set, length-set}
+use lib.ListN.{length, get_or, length-set}
 use Rattle.sheet.specs.Reading.{rows_from}
 use Rattle.sheet.specs.declared.RowAt.{RowAt}
-use Rattle.board.specs.Board.{Board, id_of, kind_of}
-use Rattle.board.specs.Refusals.{first_line, node_twice, page_missing, row_unplaced}
-use Rattle.board.specs.Walk.{line_or, line_if, earlier, line_from, sheet_board, Ready, Ids}
+use Rattle.board.specs.Board.{kind_of}
+use Rattle.board.specs.Refusals.{node_twice, page_missing, row_unplaced}
+use Rattle.board.specs.Walk.{line_if, earlier, line_from, sheet_board, Ready}
 use Rattle.board.proofs.Sections.{Part, in_order_lem}
-use Rattle.board.proofs.Faults.{Walking, walking_start, walking_more, walking_twice, walking_end, walk_row, walk_next, walk_sections, ids_more, set_same, first_step, earlier_zero, node_field, node_repeats, node_gone, node_unplaced}
-use Rattle.board.proofs.walks.walk_nodes.Reads as reads
-use Rattle.board.proofs.walks.walk_nodes.Lts as lts
-use Rattle.board.proofs.walks.enter_id.Reads as enter-id-reads
-use Rattle.board.proofs.walks.first_line.Reads as first-line-reads
-use Rattle.board.proofs.walks.page_missing.Reads as page-missing-reads
-use Rattle.board.proofs.walks.row_unplaced.Reads as row-unplaced-reads
-use Rattle.sheet.proofs.row_of.Reads as row-of-reads
+use Rattle.board.proofs.Faults.{walking_start, walking_more, walking_twice, walking_end, walk_row, walk_next, walk_sections, ids_more, set_same, first_step, earlier_zero, node_field, node_repeats, node_gone, node_unplaced}
 use Rattle.board.proofs.walks.walk_nodes.Goals as goal
 
 pub loop-i-init : goal.loop-i-init

@@ -1,5 +1,4 @@
 use Rattle.board_groups.proofs.Ends.{end_body, end_inner, end_none}
-use borrow.Author.Rules.{rules}
 use Rattle.board_groups.proofs.anchors.find_end.Goals as goal
 
 pub held_id-anchor-requires : goal.held_id-anchor-requires

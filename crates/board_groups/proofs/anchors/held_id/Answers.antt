@@ -1,20 +1,18 @@
 use native.Mathlib.Omega.{arith}
 use mathlib.Core.Path.{◌≡◌, sym, ap}
-use Prim.Native.Nat.{ℕ, ◌<◌}
 use Rattle.base.specs.Lists.{at}
 use Rattle.board.specs.Index.{entry_of}
 use Rattle.board.specs.Tables.{held}
 use Rattle.board_groups.proofs.Ends.{found_at, found_nothing, entry_below}
-use borrow.Author.Rules.{rules}
 use Rattle.board_groups.proofs.anchors.held_id.Goals as goal
 
 pub overflow_cast-result : goal.overflow_cast-result
-overflow_cast-result c = 
+overflow_cast-result c =
     let entry : entry_of c.args.index.now c.args.n c.args.id.0 ≡ at c.in-At.i = found_at _ c.find_id.result _ c.find_id.ensures c.in-At.is in
     omega (arith, entry_below _ _ _ _ (entry))
 
 pub returns-in-At : goal.returns-in-At
-returns-in-At c = 
+returns-in-At c =
     let entry : entry_of c.args.index.now c.args.n c.args.id.0 ≡ at c.in-At.i = found_at _ c.find_id.result _ c.find_id.ensures c.in-At.is in
     sym (ap held (entry))
 

@@ -1,5 +1,4 @@
 -- The anchor that is known, or the one found, which is then known.
-use borrow.Author.Rules.{rules}
 use native.Mathlib.Omega.{arith}
 use mathlib.Core.Path.{◌≡◌, ap}
 use lib.ListN.{length}

@@ -1,6 +1,5 @@
 use borrow.Author.Tests.{eq-eqb, ne_eqb}
 use mathlib.Core.Path.{refl}
-use borrow.Author.Rules.{rules}
 use Rattle.board_groups.proofs.anchors.wire_open.Goals as goal
 
 pub returns-then-wire-eq-PORT_LAYOUT : goal.returns-then-wire-eq-PORT_LAYOUT

@@ -1,13 +1,10 @@
 use Rattle.board_groups.proofs.Ends.{byte_flag}
 use native.Mathlib.Omega.{arith}
 use borrow.Author.Rules.{rules}
-use Prim.Native.Nat.{◌+◌, ◌*◌, ◌^◌, ◌-◌, ◌≤◌, ◌<◌}
-use mathlib.Core.Path.{◌≡◌, refl, sym, ap, ◌∙◌, subst}
+use Prim.Native.Nat.{◌*◌, ◌^◌, ◌<◌}
+use mathlib.Core.Path.{refl, ap, ◌∙◌}
 use lib.ListN.{length, length-set}
-use Rattle.board.specs.Board.{Board}
-use Rattle.board.specs.Tables.{NodeFacts}
-use Rattle.board_groups.specs.Collecting.{SomeAnchors}
-use Rattle.board_groups.proofs.TapLaws.{EndsUpto, ends_none, ends_all, ends_nodes, ends_more}
+use Rattle.board_groups.proofs.TapLaws.{ends_none, ends_all, ends_nodes, ends_more}
 use Rattle.board_groups.proofs.anchors.write_ends.Goals as goal
 
 pub loop-w-init : goal.loop-w-init
@@ -26,17 +23,17 @@ find_end-target-requires c = let l = c.loop-w in let k = c.find_end-source.auto.
 }
 
 pub offset_bounds-facts-w : goal.offset_bounds-facts-w
-offset_bounds-facts-w c = 
+offset_bounds-facts-w c =
     let w-small : c.loop-w.w * 64 < 2 ^ 63 = omega arith in
     omega (arith, w-small)
 
 pub offset_bounds-facts-w-in-loop-w : goal.offset_bounds-facts-w-in-loop-w
-offset_bounds-facts-w-in-loop-w c = 
+offset_bounds-facts-w-in-loop-w c =
     let w-small : c.loop-w.w * 64 < 2 ^ 63 = omega arith in
     omega (arith, w-small)
 
 pub overflow_add-w : goal.overflow_add-w
-overflow_add-w c = 
+overflow_add-w c =
     let w-small : c.loop-w.w * 64 < 2 ^ 63 = omega arith in
     omega (arith, w-small)
 

@@ -1,13 +1,10 @@
-use Rattle.board_groups.proofs.Ends.{byte_flag}
-use native.Mathlib.Omega.{arith}
-use borrow.Author.Rules.{rules}
-use Prim.Native.Nat.{◌+◌, ◌*◌, ◌^◌, ◌-◌, ◌≤◌, ◌<◌}
-use mathlib.Core.Path.{◌≡◌, refl, sym, ap, ◌∙◌, subst}
-use lib.ListN.{length, length-set}
+use Prim.Native.Nat.{◌-◌, ◌≤◌}
+use mathlib.Core.Path.{◌≡◌}
+use lib.ListN.{length}
 use Rattle.board.specs.Board.{Board}
 use Rattle.board.specs.Tables.{NodeFacts}
 use Rattle.board_groups.specs.Collecting.{SomeAnchors}
-use Rattle.board_groups.proofs.TapLaws.{EndsUpto, ends_none, ends_all, ends_nodes, ends_more}
+use Rattle.board_groups.proofs.TapLaws.{EndsUpto}
 use Rattle.board_groups.proofs.anchors.write_ends.Given as goal
 
 abbrev pub invariant-loop-w : goal.invariant-loop-w

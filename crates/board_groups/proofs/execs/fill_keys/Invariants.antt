@@ -1,8 +1,7 @@
-use native.Mathlib.Omega.{arith}
 use Prim.Native.Nat.{◌-◌, ◌≤◌}
-use mathlib.Core.Path.{◌≡◌, refl, ◌∙◌}
-use lib.ListN.{length, length-set}
-use Rattle.board_groups.proofs.ExecLaws.{KeysUpto, keys_more}
+use mathlib.Core.Path.{◌≡◌}
+use lib.ListN.{length}
+use Rattle.board_groups.proofs.ExecLaws.{KeysUpto}
 use Rattle.board_groups.proofs.execs.fill_keys.Given as goal
 
 abbrev pub invariant-loop-e : goal.invariant-loop-e

@@ -1,4 +1,3 @@
-use borrow.Author.Rules.{rules}
 use native.Mathlib.Omega.{arith}
 use Rattle.board_groups.proofs.ExecLaws.{execs_sorted}
 use Rattle.board_groups.proofs.execs.sort_execs.Goals as goal

@@ -1,7 +1,6 @@
 use borrow.Author.Tests.{eq-eqb, ne_eqb}
 use mathlib.Core.Path.{refl, sym, ◌∙◌}
 use Rattle.base.proofs.Bools.{and_false}
-use borrow.Author.Rules.{rules}
 use Rattle.board_groups.proofs.groups.anchors_open.Goals as goal
 
 pub returns-then-source-eq-CLASS_INLINE : goal.returns-then-source-eq-CLASS_INLINE

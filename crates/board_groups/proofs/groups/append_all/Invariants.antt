@@ -1,7 +1,5 @@
-use borrow.Author.Rules.{rules}
-use native.Mathlib.Omega.{arith}
 use Prim.Native.Nat.{◌-◌, ◌≤◌}
-use mathlib.Core.Path.{◌≡◌, refl, ap, ◌∙◌}
+use mathlib.Core.Path.{◌≡◌}
 use mathlib.Core.List.{[]}
 use lib.ListN.{length}
 use Rattle.base.specs.Lists.{fold, upto}
@@ -9,7 +7,6 @@ use Rattle.board.specs.Board.{Board}
 use Rattle.board.specs.Groups.{add_wire}
 use Rattle.board.specs.Tables.{NodeFacts, TapTargets}
 use Rattle.board_groups.specs.Shares.{Wired, Appended}
-use Rattle.board_groups.proofs.TapLaws.{appended_more, appended_done}
 use Rattle.board_groups.proofs.groups.append_all.Given as goal
 
 abbrev pub invariant-loop-w : goal.invariant-loop-w

@@ -1,8 +1,7 @@
-use borrow.Author.Rules.{rules}
 use Rattle.board_groups.proofs.groups.collect_bus_groups.Goals as goal
 
 pub returns : goal.returns
-returns c =  record {
+returns c = record {
   upper_bound = c.append_taps.ensures.upper_bound;
   node_facts = λ b n p f x e k.
       let g = c.find_ends.ensures b n p f e k in

@@ -1,6 +1,5 @@
 use borrow.Author.Tests.{eq-eqb, ne_eqb}
 use mathlib.Core.Path.{refl}
-use borrow.Author.Rules.{rules}
 use Rattle.board_groups.proofs.groups.crosses_at.Goals as goal
 
 pub returns-then-anchor-id : goal.returns-then-anchor-id

@@ -1,6 +1,5 @@
 use borrow.Author.Tests.{eq-eqb, ne_eqb}
 use mathlib.Core.Path.{refl}
-use borrow.Author.Rules.{rules}
 use Rattle.board_groups.proofs.groups.is_bus_worthy_source.Goals as goal
 
 pub returns-then-node-eq-KIND_INPUT : goal.returns-then-node-eq-KIND_INPUT

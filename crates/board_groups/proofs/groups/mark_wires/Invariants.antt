@@ -1,13 +1,9 @@
-use mathlib.Core.List.{List}
-use native.Mathlib.Omega.{arith}
-use borrow.Author.Rules.{rules}
-use Prim.Native.Nat.{ℕ, ◌-◌, ◌≤◌}
-use mathlib.Core.Path.{◌≡◌, refl, ap, ◌∙◌}
-use mathlib.Core.List.{[]}
-use lib.ListN.{length, get_or, length-set}
+use Prim.Native.Nat.{◌-◌, ◌≤◌}
+use mathlib.Core.Path.{◌≡◌}
+use lib.ListN.{length}
 use Rattle.board.specs.Board.{Board}
 use Rattle.board.specs.Tables.{NodeFacts, WireFacts}
-use Rattle.board_groups.proofs.TapLaws.{TargetsUpto, targets_more}
+use Rattle.board_groups.proofs.TapLaws.{TargetsUpto}
 use Rattle.board_groups.proofs.groups.mark_wires.Given as goal
 
 abbrev pub invariant-loop-w : goal.invariant-loop-w

@@ -1,6 +1,5 @@
 use mathlib.Core.Path.{◌∙◌}
 use Rattle.board_groups.proofs.TapLaws.{answer_closed, answer_sourceless, answer_targetless, answer_open, answer_shut, anchors_same}
-use borrow.Author.Rules.{rules}
 use Rattle.board_groups.proofs.groups.tap_target.Goals as goal
 
 pub returns-then-facts-eq0 : goal.returns-then-facts-eq0

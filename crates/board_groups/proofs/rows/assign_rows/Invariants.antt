@@ -1,12 +1,9 @@
-use native.Mathlib.Omega.{arith}
-use borrow.Author.Rules.{rules}
-use Prim.Native.Nat.{ℕ, ◌+◌, ◌≤◌, ◌<◌, ◌-◌}
-use mathlib.Core.Path.{◌≡◌, refl, sym, ◌∙◌}
-use mathlib.Core.List.{[]}
-use lib.ListN.{length, get_or, length-set}
-use Rattle.board.specs.Board.{Board, field}
+use Prim.Native.Nat.{◌≤◌, ◌-◌}
+use mathlib.Core.Path.{◌≡◌}
+use lib.ListN.{length}
+use Rattle.board.specs.Board.{Board}
 use Rattle.board_groups.specs.Collecting.{Ranked}
-use Rattle.board_groups.proofs.KeyLaws.{Walked, walk_start, walk_more, walk_end}
+use Rattle.board_groups.proofs.KeyLaws.{Walked}
 use Rattle.board_groups.proofs.rows.assign_rows.Given as goal
 
 abbrev pub invariant-loop-k : goal.invariant-loop-k

@@ -1,13 +1,9 @@
-use native.Mathlib.Omega.{arith}
-use borrow.Author.Rules.{rules}
 use Prim.Native.Nat.{ℕ, ◌≤◌, ◌<◌, ◌-◌}
-use mathlib.Core.Path.{◌≡◌, refl, sym, ◌∙◌}
+use mathlib.Core.Path.{◌≡◌}
 use mathlib.Core.List.{[]}
-use lib.ListN.{length, get_or, length-set}
-use lib.Seq.{get_or-set_same, get_or-set_other}
+use lib.ListN.{length, get_or}
 use Rattle.board.specs.Tables.{nodes_alone}
 use Rattle.board_groups.specs.Collecting.{row_key}
-use Rattle.board_groups.proofs.Filling.{filled_more}
 use Rattle.board_groups.proofs.rows.fill_keys.Given as goal
 
 abbrev pub invariant-loop-i : goal.invariant-loop-i

@@ -1,10 +1,8 @@
-use borrow.Author.Rules.{rules}
 use borrow.Author.Tests.{eq-eqb, ne_eqb}
 use native.Mathlib.Omega.{arith}
-use mathlib.Core.Path.{◌≡◌, refl, sym, ap, ◌∙◌}
-use mathlib.Core.Bool.{not, true, false}
+use mathlib.Core.Path.{sym, ap}
+use mathlib.Core.Bool.{not}
 use Prim.Native.Nat.{◌≤◌}
-use lib.Dec.{eqb}
 use Rattle.sheet.specs.Table.{MISSING}
 use Rattle.board.specs.Board.{field}
 use Rattle.board.specs.Rows.{brick_cell, turned}
@@ -20,18 +18,18 @@ pub returns-then-page : goal.returns-then-page
 returns-then-page c = sym (key_none (nodes_alone c.args.nodes.now) c.args.i (ap not (eq-eqb _ MISSING c.if-page.true)))
 
 pub overflow_mul-end : goal.overflow_mul-end
-overflow_mul-end c = 
+overflow_mul-end c =
     let half-small : c.half_along-half.result ≤ 1000 = half_within (turned (nodes_alone c.args.nodes.now) c.args.i) c.half_along-half.result _ _ 1000 c.half_along-half.ensures (nodes_half_x c.requires.accepted_nodes c.args.i) (nodes_half_y c.requires.accepted_nodes c.args.i) in
     omega (arith, half-small)
 
 pub overflow_add-end : goal.overflow_add-end
-overflow_add-end c = 
+overflow_add-end c =
     let half-small : c.half_along-half.result ≤ 1000 = half_within (turned (nodes_alone c.args.nodes.now) c.args.i) c.half_along-half.result _ _ 1000 c.half_along-half.ensures (nodes_half_x c.requires.accepted_nodes c.args.i) (nodes_half_y c.requires.accepted_nodes c.args.i) in
     let x-small : field c.args.nodes.now c.args.i 8 ≤ 3000000 = nodes_x c.requires.accepted_nodes c.args.i (ap not (ne_eqb _ MISSING c.if-page.false)) in
     omega (arith, half-small, x-small)
 
 pub overflow_sub-result : goal.overflow_sub-result
-overflow_sub-result c = 
+overflow_sub-result c =
     let half-small : c.half_along-half.result ≤ 1000 = half_within (turned (nodes_alone c.args.nodes.now) c.args.i) c.half_along-half.result _ _ 1000 c.half_along-half.ensures (nodes_half_x c.requires.accepted_nodes c.args.i) (nodes_half_y c.requires.accepted_nodes c.args.i) in
     let x-small : field c.args.nodes.now c.args.i 8 ≤ 3000000 = nodes_x c.requires.accepted_nodes c.args.i (ap not (ne_eqb _ MISSING c.if-page.false)) in
     omega (arith, half-small, x-small)

@@ -1,11 +1,7 @@
-use borrow.Author.Rules.{rules}
-use native.Mathlib.Omega.{arith}
 use Prim.Native.Nat.{ℕ, ◌+◌, ◌*◌, ◌-◌, ◌≤◌, ◌<◌}
-use mathlib.Core.Path.{◌≡◌, refl, ◌∙◌}
-use lib.ListN.{length, get_or, length-set}
-use Rattle.board.specs.Board.{field}
+use mathlib.Core.Path.{◌≡◌}
+use lib.ListN.{length, get_or}
 use Rattle.board_groups.specs.Shares.{key_of, packed}
-use Rattle.board_groups.proofs.Filling.{filled_more}
 use Rattle.board_groups.proofs.shares.fill_keys.Given as goal
 
 abbrev pub invariant-loop-k : goal.invariant-loop-k

@@ -1,6 +1,5 @@
 use native.Mathlib.Omega.{arith}
-use Prim.Native.Nat.{ℕ, ◌-◌, ◌≤◌, ◌<◌}
-use mathlib.Core.Path.{◌≡◌, refl, sym, ◌∙◌}
+use mathlib.Core.Path.{refl, sym, ◌∙◌}
 use Rattle.board.specs.Board.{field}
 use Rattle.board_groups.specs.Shares.{key_of}
 use Rattle.board_groups.proofs.ShareLaws.{leads_from, same_keys, none_more}

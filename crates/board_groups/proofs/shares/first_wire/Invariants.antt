@@ -1,10 +1,7 @@
 -- `first_wire` meets its contract: no tap passed has the key. Assumes nothing.
-use native.Mathlib.Omega.{arith}
 use Prim.Native.Nat.{ℕ, ◌-◌, ◌≤◌, ◌<◌}
-use mathlib.Core.Path.{◌≡◌, refl, sym, ◌∙◌}
-use Rattle.board.specs.Board.{field}
+use mathlib.Core.Path.{◌≡◌}
 use Rattle.board_groups.specs.Shares.{key_of}
-use Rattle.board_groups.proofs.ShareLaws.{leads_from, same_keys, none_more}
 use Rattle.board_groups.proofs.shares.first_wire.Given as goal
 
 abbrev pub invariant-loop-j : goal.invariant-loop-j

@@ -1,5 +1,4 @@
 -- `group_at` meets its contract: the tap begins a run of packed keys, or has the key of the tap before it, or the first tap is looked for. Assumes nothing.
-use borrow.Author.Rules.{rules}
 use native.Mathlib.Omega.{arith}
 use Prim.Native.Nat.{ℕ, ◌-◌, ◌<◌}
 use mathlib.Core.Path.{sym, ◌∙◌, subst}
@@ -14,12 +13,12 @@ pub returns-then-starts_run : goal.returns-then-starts_run
 returns-then-starts_run c = group_begins c.args.wires.now c.args.taps.now c.args.keys.now c.requires.by_index.0 c.requires.by_index.2 c.args.p c.tap_at-k.result c.requires.by_index.1 c.tap_at-k.ensures (sym c.starts_run.ensures ∙ c.if-starts_run.true)
 
 pub overflow_sub-p : goal.overflow_sub-p
-overflow_sub-p c = 
+overflow_sub-p c =
     let behind : 0 < c.args.p = starts_later c.args.keys.now c.args.p (sym c.starts_run.ensures ∙ c.if-starts_run.false) in
     behind
 
 pub have_one_key-requires : goal.have_one_key-requires
-have_one_key-requires c = 
+have_one_key-requires c =
     let behind : 0 < c.args.p = starts_later c.args.keys.now c.args.p (sym c.starts_run.ensures ∙ c.if-starts_run.false) in
     let b = behind in
     let j = comes_there c.args.wires.now c.args.taps.now c.args.keys.now c.requires.by_index.0 c.requires.by_index.2 (c.args.p - 1) c.tap_at-j.result (omega (arith, c.requires.by_index.1)) c.tap_at-j.ensures in
@@ -30,7 +29,7 @@ pub bounds-taps-j : goal.bounds-taps-j
 bounds-taps-j c = (comes_there c.args.wires.now c.args.taps.now c.args.keys.now c.requires.by_index.0 c.requires.by_index.2 (c.args.p - 1) c.tap_at-j.result (omega (arith, c.requires.by_index.1)) c.tap_at-j.ensures).1
 
 pub returns-then-have_one_key : goal.returns-then-have_one_key
-returns-then-have_one_key c = 
+returns-then-have_one_key c =
     let behind : 0 < c.args.p = starts_later c.args.keys.now c.args.p (sym c.starts_run.ensures ∙ c.if-starts_run.false) in
     group_goes_on c.args.wires.now c.args.taps.now c.args.keys.now c.requires.by_index.0 c.requires.by_index.2 c.args.p c.tap_at-k.result c.requires.by_index.1 c.tap_at-k.ensures c.tap_at-j.result c.tap_at-j.ensures (sym c.have_one_key.ensures ∙ c.if-have_one_key.true) (c.requires.leads_in (behind))
 

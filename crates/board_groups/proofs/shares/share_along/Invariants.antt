@@ -1,8 +1,6 @@
 -- `share_along` meets its contract: the taps passed have their groups. Assumes nothing.
-use native.Mathlib.Omega.{arith}
-use Prim.Native.Nat.{◌-◌, ◌≤◌, ◌<◌}
-use lib.ListN.{length}
-use Rattle.board_groups.proofs.ShareLaws.{Walked, walked_start, walked_runs, walked_on, walked_done, comes_there}
+use Prim.Native.Nat.{◌-◌, ◌≤◌}
+use Rattle.board_groups.proofs.ShareLaws.{Walked}
 use Rattle.board_groups.proofs.shares.share_along.Given as goal
 
 abbrev pub invariant-loop-p : goal.invariant-loop-p

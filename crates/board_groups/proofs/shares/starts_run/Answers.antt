@@ -1,4 +1,3 @@
-use borrow.Author.Rules.{rules}
 use Rattle.board_groups.proofs.ShareLaws.{starts_at_first, starts_behind}
 use Rattle.board_groups.proofs.shares.starts_run.Goals as goal
 

@@ -1,6 +1,4 @@
-use mathlib.Core.Path.{◌≡◌, refl, sym, ap, ◌∙◌}
 use Rattle.board_lanes.proofs.PageLaws.{demand_none, demand_more}
-use borrow.Author.Rules.{rules}
 use Rattle.board_lanes.proofs.demands.add_demand.Goals as goal
 
 pub returns-then-mark-p : goal.returns-then-mark-p

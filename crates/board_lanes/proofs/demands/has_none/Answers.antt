@@ -1,8 +1,4 @@
-use Prim.Native.Nat.{◌+◌, ◌-◌, ◌≤◌}
 use native.Mathlib.Omega.{arith}
-use mathlib.Core.Path.{◌≡◌, refl}
-use mathlib.Core.Bool.{false}
-use Rattle.board_lanes.specs.PagePlan.{NoneAsks}
 use Rattle.board_lanes.proofs.PageLaws.{none_more, none_done}
 use Rattle.board_lanes.proofs.demands.has_none.Goals as goal
 

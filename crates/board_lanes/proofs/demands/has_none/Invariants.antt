@@ -1,10 +1,8 @@
 -- The marks looked at: none is that of the page, as long as nothing is hit.
 use Prim.Native.Nat.{◌+◌, ◌-◌, ◌≤◌}
-use native.Mathlib.Omega.{arith}
-use mathlib.Core.Path.{◌≡◌, refl}
+use mathlib.Core.Path.{◌≡◌}
 use mathlib.Core.Bool.{false}
 use Rattle.board_lanes.specs.PagePlan.{NoneAsks}
-use Rattle.board_lanes.proofs.PageLaws.{none_more, none_done}
 use Rattle.board_lanes.proofs.demands.has_none.Given as goal
 
 abbrev pub invariant-loop-i : goal.invariant-loop-i

@@ -1,7 +1,5 @@
 -- A mark that is there, and another.
-use borrow.Author.Rules.{rules}
 use native.Mathlib.Omega.{arith}
-use mathlib.Core.Path.{◌≡◌}
 use Rattle.board_lanes.proofs.PageLaws.{none_here, other_here}
 use Rattle.board_lanes.proofs.demands.is_other.Goals as goal
 

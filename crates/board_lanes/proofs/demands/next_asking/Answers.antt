@@ -1,6 +1,5 @@
-use Prim.Native.Nat.{◌+◌, ◌-◌, ◌≤◌}
+use Prim.Native.Nat.{◌+◌}
 use native.Mathlib.Omega.{arith}
-use Rattle.board_lanes.specs.PagePlan.{NoneAsks}
 use Rattle.board_lanes.proofs.PageLaws.{none_joined, none_one}
 use Rattle.board_lanes.proofs.demands.next_asking.Goals as goal
 

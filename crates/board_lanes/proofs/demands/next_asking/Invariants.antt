@@ -1,8 +1,6 @@
 -- Marks that are not the page's are passed over, many at once and then one by one.
-use Prim.Native.Nat.{◌+◌, ◌-◌, ◌≤◌}
-use native.Mathlib.Omega.{arith}
+use Prim.Native.Nat.{◌-◌, ◌≤◌}
 use Rattle.board_lanes.specs.PagePlan.{NoneAsks}
-use Rattle.board_lanes.proofs.PageLaws.{none_joined, none_one}
 use Rattle.board_lanes.proofs.demands.next_asking.Given as goal
 
 abbrev pub invariant-loop-j : goal.invariant-loop-j

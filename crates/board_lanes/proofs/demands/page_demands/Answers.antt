@@ -1,8 +1,7 @@
 use Rattle.board.specs.Board.{field}
 use native.Mathlib.Omega.{arith}
-use borrow.Author.Rules.{rules}
-use Prim.Native.Nat.{ℕ, ◌+◌, ◌-◌, ◌≤◌, ◌<◌}
-use mathlib.Core.Path.{◌≡◌, refl, sym, ap, ◌∙◌, subst}
+use Prim.Native.Nat.{ℕ, ◌+◌, ◌<◌}
+use mathlib.Core.Path.{◌≡◌, refl, ◌∙◌, subst}
 use lib.ListN.{length}
 use Rattle.board_lanes.specs.PagePlan.{PageDemands}
 use Rattle.board_lanes.proofs.PageLaws.{demands_more, demands_past}
@@ -14,7 +13,7 @@ loop-k-init c = let a = c.args in
     (e.1, omega arith, refl, demands_past a.taps.now a.groups.now a.marks.now a.p 0 0 a.demands.now (record { rows = refl; orders = refl }) c.next_asking-k.result e.0 e.2)
 
 pub add_demand-n-requires : goal.add_demand-n-requires
-add_demand-n-requires c = 
+add_demand-n-requires c =
     let group-inside : field c.args.taps.now c.loop-k.k 1 < length c.args.groups.now = c.requires.packable.group c.loop-k.k (omega arith) in
     let room : c.loop-k.n < length c.loop-k.demands = omega arith in
     (room, group-inside)

@@ -1,11 +1,7 @@
-use Rattle.board.specs.Board.{field}
-use native.Mathlib.Omega.{arith}
-use borrow.Author.Rules.{rules}
-use Prim.Native.Nat.{ℕ, ◌+◌, ◌-◌, ◌≤◌, ◌<◌}
-use mathlib.Core.Path.{◌≡◌, refl, sym, ap, ◌∙◌, subst}
+use Prim.Native.Nat.{◌-◌, ◌≤◌}
+use mathlib.Core.Path.{◌≡◌}
 use lib.ListN.{length}
 use Rattle.board_lanes.specs.PagePlan.{PageDemands}
-use Rattle.board_lanes.proofs.PageLaws.{demands_more, demands_past}
 use Rattle.board_lanes.proofs.demands.page_demands.Given as goal
 
 abbrev pub invariant-loop-k : goal.invariant-loop-k

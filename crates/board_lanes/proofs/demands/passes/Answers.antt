@@ -1,5 +1,4 @@
 -- So many marks are there, and none is that of the page.
-use borrow.Author.Rules.{rules}
 use native.Mathlib.Omega.{arith}
 use Rattle.board_lanes.proofs.PageLaws.{none_here}
 use Rattle.board_lanes.proofs.demands.passes.Goals as goal

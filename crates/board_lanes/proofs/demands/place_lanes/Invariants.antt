@@ -1,12 +1,7 @@
-use native.Mathlib.Omega.{arith}
-use borrow.Author.Rules.{rules}
-use Prim.Native.Nat.{ℕ, ◌+◌, ◌-◌, ◌≤◌, ◌<◌}
-use mathlib.Core.Path.{◌≡◌, refl, sym, ap, ◌∙◌, subst}
-use mathlib.Core.List.{List, [], map}
-use lib.ListN.{length, get_or, drop, length-set}
-use lib.Seq.{drop-length}
-use Rattle.board.specs.Board.{field}
-use Rattle.board_lanes.proofs.PageLaws.{LanesFrom, lanes_more}
+use Prim.Native.Nat.{◌≤◌}
+use mathlib.Core.Path.{◌≡◌}
+use lib.ListN.{length}
+use Rattle.board_lanes.proofs.PageLaws.{LanesFrom}
 use Rattle.board_lanes.proofs.demands.place_lanes.Given as goal
 
 abbrev pub invariant-loop-j : goal.invariant-loop-j

@@ -1,24 +1,20 @@
 use native.Mathlib.Omega.{arith}
-use Prim.Native.Nat.{ℕ, ◌≤◌, ◌<◌}
-use mathlib.Core.Path.{◌≡◌, refl, sym, ap, ◌∙◌, subst}
-use mathlib.Core.List.{List}
-use lib.ListN.{length}
+use mathlib.Core.Path.{refl}
 use Rattle.board.specs.Board.{Board}
 use Rattle.board.specs.Tables.{NodeFacts}
 use Rattle.board_lanes.specs.PagePlan.{Collected}
-use borrow.Author.Rules.{rules}
 use Rattle.board_lanes.proofs.demands.plan_board.Goals as goal
 
 pub collect_bus_groups-m-requires : goal.collect_bus_groups-m-requires
 collect_bus_groups-m-requires c = let room = c.requires.room in
     let r0 = room.node_room.0 in
     let w0 = room.wire_room.0 in record {
-  indexes = c.requires.indexes;
-  execs_len_bound = (room.few_execs, room.few_wires, omega arith, omega arith, room.wire_room.1);
-}
+      indexes = c.requires.indexes;
+      execs_len_bound = (room.few_execs, room.few_wires, omega arith, omega arith, room.wire_room.1);
+    }
 
 pub plan_lanes-plan-requires : goal.plan_lanes-plan-requires
-plan_lanes-plan-requires c = 
+plan_lanes-plan-requires c =
     let board-of : Board = record { pages = c.args.pages.now; nodes = c.args.nodes.now; chips = c.args.chips.now; inner = c.args.inner.now; execs = c.args.execs.now; wires = c.args.wires.now } in
     let rows_known : NodeFacts (board-of) c.number_rows.new.facts = c.number_rows.ensures (board-of) refl in
     let collected : Collected (board-of) c.args.pages.now c.args.nodes.now c.args.wires.now c.collect_bus_groups-m.new.facts c.collect_bus_groups-m.new.taps c.collect_bus_groups-m.result = let r = c.collect_bus_groups-m.ensures.node_facts (board-of) refl refl refl refl refl (rows_known) in
@@ -33,12 +29,12 @@ plan_lanes-plan-requires c =
     let d1 = d.1 in
     let d2 = d.2 in
     let p = room.page_room in record {
-  collected = (board-of, collected);
-  pages_len_bound = (room.few_pages, room.few_nodes, room.few_wires, m, omega arith, omega arith, w.2, omega arith, omega arith, omega arith, omega arith);
-}
+      collected = (board-of, collected);
+      pages_len_bound = (room.few_pages, room.few_nodes, room.few_wires, m, omega arith, omega arith, w.2, omega arith, omega arith, omega arith, omega arith);
+    }
 
 pub returns : goal.returns
-returns c = 
+returns c =
     let board-of : Board = record { pages = c.args.pages.now; nodes = c.args.nodes.now; chips = c.args.chips.now; inner = c.args.inner.now; execs = c.args.execs.now; wires = c.args.wires.now } in
     let rows_known : NodeFacts (board-of) c.number_rows.new.facts = c.number_rows.ensures (board-of) refl in
     let collected : Collected (board-of) c.args.pages.now c.args.nodes.now c.args.wires.now c.collect_bus_groups-m.new.facts c.collect_bus_groups-m.new.taps c.collect_bus_groups-m.result = let r = c.collect_bus_groups-m.ensures.node_facts (board-of) refl refl refl refl refl (rows_known) in

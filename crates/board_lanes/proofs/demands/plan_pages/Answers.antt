@@ -1,24 +1,19 @@
 use native.Mathlib.Omega.{arith}
-use borrow.Author.Rules.{rules}
-use Prim.Native.Nat.{ℕ, ◌+◌, ◌-◌, ◌≤◌, ◌<◌}
+use Prim.Native.Nat.{ℕ, ◌<◌}
 use mathlib.Core.Path.{◌≡◌, refl, sym, ap, ◌∙◌, subst}
-use mathlib.Core.List.{List, [], ◌∷◌}
-use lib.ListN.{length, get_or, length-set}
-use Rattle.lanes.specs.Lanes.{lane_most}
-use Rattle.lanes.specs.declared.pack.Packing.{Packing}
+use mathlib.Core.List.{List}
+use lib.ListN.{length, length-set}
 use Rattle.lanes.specs.declared.pack.Packing.TheVariants.{Lanes, Full}
-use Rattle.board.specs.Board.{Board, field}
-use Rattle.board.specs.Tables.{NodeFacts, WireFacts}
-use Rattle.board_groups.specs.Collecting.{Packable}
-use Rattle.board_lanes.specs.PagePlan.{GutterPacked, Surveyed}
-use Rattle.board_lanes.proofs.PlanLaws.{SoFar, nothing_planned, page_done, lanes_of_page, crowded_page, crowded_all, all_planned, count_keeps, packable_kept}
+use Rattle.board.specs.Board.{field}
+use Rattle.board_lanes.specs.PagePlan.{GutterPacked}
+use Rattle.board_lanes.proofs.PlanLaws.{nothing_planned, page_done, lanes_of_page, crowded_page, crowded_all, all_planned, count_keeps, packable_kept}
 use Rattle.board_lanes.proofs.demands.plan_pages.Goals as goal
 
 pub loop-p-init : goal.loop-p-init
 loop-p-init c = (omega arith, refl, refl, refl, refl, refl, c.requires.packable, (λ b e y w. nothing_planned b _ _ y.sums), λ b n f. (n, f))
 
 pub overflow_cast-p : goal.overflow_cast-p
-overflow_cast-p c = 
+overflow_cast-p c =
     let p-small : (c.loop-p.p < length c.args.pages.now) × (c.loop-p.p < 64) = (omega arith, omega arith) in
     omega (arith, p-small)
 
@@ -31,9 +26,9 @@ plan_gutter-packing-requires c = let q = c.requires.m_le_wires in
     let i3 = i.3 in
     let i4 = i.4 in
     let i5 = i.5 in record {
-  m_le_wires = (q.0, q.1, q.2, omega arith, omega arith, omega arith);
-  packable = i.6;
-}
+      m_le_wires = (q.0, q.1, q.2, omega arith, omega arith, omega arith);
+      packable = i.6;
+    }
 
 pub shape_of-groups-in_default : goal.shape_of-groups-in_default
 shape_of-groups-in_default c = c.plan_gutter-packing.auto.groups ∙ c.loop-p.invariant.1
@@ -51,57 +46,57 @@ pub shape_of-spare-in_default : goal.shape_of-spare-in_default
 shape_of-spare-in_default c = c.plan_gutter-packing.auto.spare ∙ c.loop-p.invariant.5
 
 pub returns-in_default : goal.returns-in_default
-returns-in_default c = 
+returns-in_default c =
     let p-small : (c.loop-p.p < length c.args.pages.now) × (c.loop-p.p < 64) = (omega arith, omega arith) in
     let h = p-small in
     let low = h.1 in
     let inside = h.0 in
     let refused = subst (GutterPacked (field c.args.pages.now c.loop-p.p 1) c.args.taps.now c.args.marks.now c.args.m c.loop-p.p c.loop-p.groups c.plan_gutter-packing.new.groups) c.in_default.is c.plan_gutter-packing.ensures in record {
-  plan_held = (λ b e y w. crowded_all b c.loop-p.p (let q = ap length e in omega arith)
+      plan_held = (λ b e y w. crowded_all b c.loop-p.p (let q = ap length e in omega arith)
           (crowded_page b c.args.taps.now c.loop-p.groups c.loop-p.facts c.args.marks.now c.args.m c.loop-p.p (omega arith) (c.loop-p.invariant.7 b e y w) c.args.groups.now y c.plan_gutter-packing.new.groups c.in_default.field-0
           (subst (λ (ps : List (List ℕ)). GutterPacked (field ps c.loop-p.p 1) c.args.taps.now c.args.marks.now c.args.m c.loop-p.p c.loop-p.groups c.plan_gutter-packing.new.groups (Full c.in_default.field-0)) (sym e) refused)));
-  node_facts = c.loop-p.invariant.8;
-}
+      node_facts = c.loop-p.invariant.8;
+    }
 
 pub offset_bounds-facts-p : goal.offset_bounds-facts-p
-offset_bounds-facts-p c = 
+offset_bounds-facts-p c =
     let p-small : (c.loop-p.p < length c.args.pages.now) × (c.loop-p.p < 64) = (omega arith, omega arith) in
     omega (arith, p-small)
 
 pub slice_copy_out-row : goal.slice_copy_out-row
-slice_copy_out-row c = 
+slice_copy_out-row c =
     let p-small : (c.loop-p.p < length c.args.pages.now) × (c.loop-p.p < 64) = (omega arith, omega arith) in
     let facts-room : c.loop-p.p < length c.loop-p.facts = omega (arith, p-small) in
     facts-room
 
 pub overflow_cast-facts : goal.overflow_cast-facts
-overflow_cast-facts c = 
+overflow_cast-facts c =
     let packs : GutterPacked (field c.args.pages.now c.loop-p.p 1) c.args.taps.now c.args.marks.now c.args.m c.loop-p.p c.loop-p.groups c.plan_gutter-packing.new.groups (Lanes c.in-Lanes.count) = subst (GutterPacked (field c.args.pages.now c.loop-p.p 1) c.args.taps.now c.args.marks.now c.args.m c.loop-p.p c.loop-p.groups c.plan_gutter-packing.new.groups) c.in-Lanes.is c.plan_gutter-packing.ensures in
     let few = (packs).few c.in-Lanes.count refl in omega arith
 
 pub offset_bounds-facts-p-in-loop-p : goal.offset_bounds-facts-p-in-loop-p
-offset_bounds-facts-p-in-loop-p c = 
+offset_bounds-facts-p-in-loop-p c =
     let p-small : (c.loop-p.p < length c.args.pages.now) × (c.loop-p.p < 64) = (omega arith, omega arith) in
     omega (arith, p-small)
 
 pub bounds-facts-p : goal.bounds-facts-p
-bounds-facts-p c = 
+bounds-facts-p c =
     let p-small : (c.loop-p.p < length c.args.pages.now) × (c.loop-p.p < 64) = (omega arith, omega arith) in
     let facts-room : c.loop-p.p < length c.loop-p.facts = omega (arith, p-small) in
     facts-room
 
 pub overflow_add-p : goal.overflow_add-p
-overflow_add-p c = 
+overflow_add-p c =
     let p-small : (c.loop-p.p < length c.args.pages.now) × (c.loop-p.p < 64) = (omega arith, omega arith) in
     omega (arith, p-small)
 
 pub loop-p-smaller : goal.loop-p-smaller
-loop-p-smaller c = 
+loop-p-smaller c =
     let p-small : (c.loop-p.p < length c.args.pages.now) × (c.loop-p.p < 64) = (omega arith, omega arith) in
     omega (arith, p-small)
 
 pub loop-p-preserved : goal.loop-p-preserved
-loop-p-preserved c = 
+loop-p-preserved c =
     let p-small : (c.loop-p.p < length c.args.pages.now) × (c.loop-p.p < 64) = (omega arith, omega arith) in
     let packs : GutterPacked (field c.args.pages.now c.loop-p.p 1) c.args.taps.now c.args.marks.now c.args.m c.loop-p.p c.loop-p.groups c.plan_gutter-packing.new.groups (Lanes c.in-Lanes.count) = subst (GutterPacked (field c.args.pages.now c.loop-p.p 1) c.args.taps.now c.args.marks.now c.args.m c.loop-p.p c.loop-p.groups c.plan_gutter-packing.new.groups) c.in-Lanes.is c.plan_gutter-packing.ensures in
     let facts-room : c.loop-p.p < length c.loop-p.facts = omega (arith, p-small) in
@@ -109,8 +104,7 @@ loop-p-preserved c =
     let low = h.1 in
     let inside = h.0 in
     let i1 = c.loop-p.invariant.1 in
-    let i2 = c.loop-p.invariant.2 in
-    (
+    let i2 = c.loop-p.invariant.2 in (
       omega arith,
       c.plan_gutter-packing.auto.groups ∙ i1,
       length-set c.loop-p.facts _ _ ∙ i2,

@@ -1,17 +1,11 @@
-use native.Mathlib.Omega.{arith}
-use borrow.Author.Rules.{rules}
-use Prim.Native.Nat.{ℕ, ◌+◌, ◌-◌, ◌≤◌, ◌<◌}
-use mathlib.Core.Path.{◌≡◌, refl, sym, ap, ◌∙◌, subst}
-use mathlib.Core.List.{List, [], ◌∷◌}
-use lib.ListN.{length, get_or, length-set}
-use Rattle.lanes.specs.Lanes.{lane_most}
-use Rattle.lanes.specs.declared.pack.Packing.{Packing}
-use Rattle.lanes.specs.declared.pack.Packing.TheVariants.{Lanes, Full}
-use Rattle.board.specs.Board.{Board, field}
+use Prim.Native.Nat.{◌-◌, ◌≤◌}
+use mathlib.Core.Path.{◌≡◌}
+use lib.ListN.{length}
+use Rattle.board.specs.Board.{Board}
 use Rattle.board.specs.Tables.{NodeFacts, WireFacts}
 use Rattle.board_groups.specs.Collecting.{Packable}
-use Rattle.board_lanes.specs.PagePlan.{GutterPacked, Surveyed}
-use Rattle.board_lanes.proofs.PlanLaws.{SoFar, nothing_planned, page_done, lanes_of_page, crowded_page, crowded_all, all_planned, count_keeps, packable_kept}
+use Rattle.board_lanes.specs.PagePlan.{Surveyed}
+use Rattle.board_lanes.proofs.PlanLaws.{SoFar}
 use Rattle.board_lanes.proofs.demands.plan_pages.Given as goal
 
 abbrev pub invariant-loop-p : goal.invariant-loop-p

@@ -1,11 +1,8 @@
-use native.Mathlib.Omega.{arith}
-use borrow.Author.Rules.{rules}
 use Prim.Native.Nat.{ℕ, ◌-◌, ◌≤◌, ◌<◌}
-use mathlib.Core.Path.{◌≡◌, refl, ◌∙◌}
-use mathlib.Core.List.{List, [], ◌∷◌}
-use lib.ListN.{length, get_or, length-set}
+use mathlib.Core.Path.{◌≡◌}
+use mathlib.Core.List.{[], ◌∷◌}
+use lib.ListN.{length, get_or}
 use Rattle.sheet.specs.Table.{MISSING}
-use Rattle.board_groups.proofs.Filling.{filled_more}
 use Rattle.board_lanes.proofs.needs.clear_groups.Given as goal
 
 abbrev pub invariant-loop-g : goal.invariant-loop-g

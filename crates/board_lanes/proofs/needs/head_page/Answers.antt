@@ -1,7 +1,6 @@
-use mathlib.Core.Path.{◌≡◌, refl, sym, ap, ◌∙◌}
+use mathlib.Core.Path.{sym, ◌∙◌}
 use Rattle.board.specs.Tables.{tap_in}
 use Rattle.board_lanes.proofs.PageLaws.{head_later, head_needs, head_spare}
-use borrow.Author.Rules.{rules}
 use Rattle.board_lanes.proofs.needs.head_page.Goals as goal
 
 pub returns-then-tap : goal.returns-then-tap

@@ -1,53 +1,52 @@
 use native.Mathlib.Omega.{arith}
 use borrow.Author.Rules.{rules}
-use Prim.Native.Nat.{ℕ, ◌+◌, ◌-◌, ◌≤◌, ◌<◌}
-use mathlib.Core.Path.{◌≡◌, refl, sym, ap, ◌∙◌, subst}
-use mathlib.Core.List.{List, [], ◌∷◌, Memᴰ}
+use Prim.Native.Nat.{◌≤◌, ◌<◌}
+use mathlib.Core.Path.{refl, ap, ◌∙◌, subst}
+use mathlib.Core.List.{[], Memᴰ}
 use lib.ListN.{length, get_or, length-set}
-use Rattle.board.specs.Board.{Board, field}
-use Rattle.board.specs.Groups.{Tap, taps_of}
-use Rattle.base.specs.Views.{view}
-use Rattle.board.specs.Tables.{tap_in, WireFacts}
+use Rattle.board.specs.Board.{field}
+use Rattle.board.specs.Groups.{taps_of}
+use Rattle.board.specs.Tables.{tap_in}
 use Rattle.base.proofs.Views.{view_mem}
-use Rattle.board_groups.specs.Collecting.{head_page, GroupSums}
+use Rattle.board_groups.specs.Collecting.{head_page}
 use Rattle.board_groups.proofs.Filling.{filled_more}
-use Rattle.board_lanes.proofs.GroupLaws.{Known, known, source_held, source_below, row_first, row_last, row_crosses}
+use Rattle.board_lanes.proofs.GroupLaws.{known, source_held, source_below, row_first, row_last, row_crosses}
 use Rattle.board_lanes.proofs.needs.mark_heads.Goals as goal
 
 pub loop-k-init : goal.loop-k-init
 loop-k-init c = (search rules, refl, λ b n e f v s j h. absurd (omega arith))
 
 pub overflow_cast-g : goal.overflow_cast-g
-overflow_cast-g c = 
+overflow_cast-g c =
     let group-inside : field c.args.taps.now c.loop-k.k 1 < length c.args.wires.now = c.requires.by_index c.loop-k.k (omega arith) in
     omega (arith, group-inside)
 
 pub offset_bounds-facts-g : goal.offset_bounds-facts-g
-offset_bounds-facts-g c = 
+offset_bounds-facts-g c =
     let group-inside : field c.args.taps.now c.loop-k.k 1 < length c.args.wires.now = c.requires.by_index c.loop-k.k (omega arith) in
     let bounds : (length c.args.wires.now ≤ length c.args.facts.now) × (length c.args.wires.now ≤ length c.args.groups.now) = let p = c.requires.m_in_bounds in (p.2, p.3) in
     omega (arith, group-inside, bounds)
 
 pub bounds-facts-g : goal.bounds-facts-g
-bounds-facts-g c = 
+bounds-facts-g c =
     let group-inside : field c.args.taps.now c.loop-k.k 1 < length c.args.wires.now = c.requires.by_index c.loop-k.k (omega arith) in
     let bounds : (length c.args.wires.now ≤ length c.args.facts.now) × (length c.args.wires.now ≤ length c.args.groups.now) = let p = c.requires.m_in_bounds in (p.2, p.3) in
     omega (arith, group-inside, bounds)
 
 pub offset_bounds-groups-g : goal.offset_bounds-groups-g
-offset_bounds-groups-g c = 
+offset_bounds-groups-g c =
     let group-inside : field c.args.taps.now c.loop-k.k 1 < length c.args.wires.now = c.requires.by_index c.loop-k.k (omega arith) in
     let bounds : (length c.args.wires.now ≤ length c.args.facts.now) × (length c.args.wires.now ≤ length c.args.groups.now) = let p = c.requires.m_in_bounds in (p.2, p.3) in
     omega (arith, group-inside, bounds)
 
 pub bounds-groups-g : goal.bounds-groups-g
-bounds-groups-g c = 
+bounds-groups-g c =
     let group-inside : field c.args.taps.now c.loop-k.k 1 < length c.args.wires.now = c.requires.by_index c.loop-k.k (omega arith) in
     let bounds : (length c.args.wires.now ≤ length c.args.facts.now) × (length c.args.wires.now ≤ length c.args.groups.now) = let p = c.requires.m_in_bounds in (p.2, p.3) in
     omega (arith, group-inside, bounds)
 
 pub loop-k-preserved : goal.loop-k-preserved
-loop-k-preserved c = 
+loop-k-preserved c =
     let group-inside : field c.args.taps.now c.loop-k.k 1 < length c.args.wires.now = c.requires.by_index c.loop-k.k (omega arith) in
     let g = field c.args.taps.now c.loop-k.k 1 in
     let tap = tap_in (get_or c.args.taps.now c.loop-k.k []) in (

@@ -1,17 +1,12 @@
-use native.Mathlib.Omega.{arith}
-use borrow.Author.Rules.{rules}
-use Prim.Native.Nat.{ℕ, ◌+◌, ◌-◌, ◌≤◌, ◌<◌}
-use mathlib.Core.Path.{◌≡◌, refl, sym, ap, ◌∙◌, subst}
-use mathlib.Core.List.{List, [], ◌∷◌, Memᴰ}
-use lib.ListN.{length, get_or, length-set}
-use Rattle.board.specs.Board.{Board, field}
-use Rattle.board.specs.Groups.{Tap, taps_of}
+use Prim.Native.Nat.{ℕ, ◌-◌, ◌≤◌, ◌<◌}
+use mathlib.Core.Path.{◌≡◌}
+use mathlib.Core.List.{[]}
+use lib.ListN.{length, get_or}
+use Rattle.board.specs.Board.{Board}
+use Rattle.board.specs.Groups.{taps_of}
 use Rattle.base.specs.Views.{view}
 use Rattle.board.specs.Tables.{tap_in, WireFacts}
-use Rattle.base.proofs.Views.{view_mem}
 use Rattle.board_groups.specs.Collecting.{head_page, GroupSums}
-use Rattle.board_groups.proofs.Filling.{filled_more}
-use Rattle.board_lanes.proofs.GroupLaws.{Known, known, source_held, source_below, row_first, row_last, row_crosses}
 use Rattle.board_lanes.proofs.needs.mark_heads.Given as goal
 
 abbrev pub invariant-loop-k : goal.invariant-loop-k

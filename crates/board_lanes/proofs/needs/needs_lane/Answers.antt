@@ -1,7 +1,6 @@
 use native.Mathlib.Omega.{arith}
-use mathlib.Core.Path.{◌≡◌, refl, sym, ap, ◌∙◌}
+use mathlib.Core.Path.{◌∙◌}
 use Rattle.board_lanes.proofs.PageLaws.{needs_two, needs_cross, needs_worthy, worthy_row}
-use borrow.Author.Rules.{rules}
 use Rattle.board_lanes.proofs.needs.needs_lane.Goals as goal
 
 pub returns-then-row : goal.returns-then-row

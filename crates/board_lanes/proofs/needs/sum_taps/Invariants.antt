@@ -1,16 +1,12 @@
-use Rattle.board_lanes.proofs.GroupLaws.{Known, known, row_none, row_in_lem, sums_more, counts_more}
-use native.Mathlib.Omega.{arith}
-use borrow.Author.Rules.{rules}
-use Prim.Native.Nat.{ℕ, ◌+◌, ◌-◌, ◌≤◌, ◌<◌}
-use mathlib.Core.Path.{◌≡◌, refl, sym, ap, ◌∙◌, subst}
-use mathlib.Core.List.{List, [], ◌∷◌, Memᴰ}
-use lib.ListN.{length, get_or, length-set}
+use Prim.Native.Nat.{ℕ, ◌-◌, ◌≤◌, ◌<◌}
+use mathlib.Core.Path.{◌≡◌}
+use mathlib.Core.List.{[]}
+use lib.ListN.{length, get_or}
 use Rattle.sheet.specs.Table.{MISSING}
 use Rattle.board.specs.Board.{Board, field}
-use Rattle.board.specs.Groups.{Tap, taps_of}
+use Rattle.board.specs.Groups.{taps_of}
 use Rattle.base.specs.Views.{view}
 use Rattle.board.specs.Tables.{tap_in, group_row, WireFacts}
-use Rattle.base.proofs.Views.{view_mem}
 use Rattle.board_lanes.proofs.needs.sum_taps.Given as goal
 
 abbrev pub invariant-loop-k : goal.invariant-loop-k

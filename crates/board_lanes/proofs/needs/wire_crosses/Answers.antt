@@ -1,6 +1,4 @@
-use mathlib.Core.Path.{◌≡◌, refl, sym, ap, ◌∙◌}
 use Rattle.board_lanes.proofs.PageLaws.{source_inside, target_inside, crosses_out, crosses_into}
-use borrow.Author.Rules.{rules}
 use Rattle.board_lanes.proofs.needs.wire_crosses.Goals as goal
 
 pub returns-then-nodes-s : goal.returns-then-nodes-s

@@ -1,10 +1,9 @@
-use mathlib.Core.Path.{◌≡◌, refl, sym, ap, ◌∙◌}
-use mathlib.Core.List.{List, [], ◌∷◌}
+use mathlib.Core.Path.{◌≡◌, ap, ◌∙◌}
+use mathlib.Core.List.{[], ◌∷◌}
 use Prim.Native.Nat.{ℕ, ◌+◌, max}
 use lib.ListN.{get_or}
 use Rattle.board.specs.Tables.{flag}
 use Rattle.board_groups.proofs.Ends.{byte_flag}
-use borrow.Author.Rules.{rules}
 use Rattle.board_lanes.proofs.needs.with_tap.Goals as goal
 
 pub returns : goal.returns

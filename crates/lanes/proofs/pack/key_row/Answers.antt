@@ -3,7 +3,6 @@ use mathlib.Core.Path.{refl}
 use native.Mathlib.Omega.{arith}
 use Rattle.lanes.specs.Keys.{key_of, demand_in}
 use Rattle.lanes.proofs.RankLaws.{allowed}
-use borrow.Author.Rules.{rules}
 use Rattle.lanes.proofs.pack.key_row.Goals as goal
 
 pub overflow_sub-result : goal.overflow_sub-result

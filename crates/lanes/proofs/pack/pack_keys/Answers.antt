@@ -4,7 +4,6 @@ use mathlib.Core.List.{List}
 use Prim.Native.Nat.{ℕ}
 use Rattle.lanes.specs.Keys.{Fitting, Seated}
 use Rattle.lanes.proofs.RankLaws.{fitting_sorted}
-use borrow.Author.Rules.{rules}
 use Rattle.lanes.proofs.pack.pack_keys.Goals as goal
 
 pub seat_keys-requires : goal.seat_keys-requires

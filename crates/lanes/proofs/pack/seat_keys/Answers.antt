@@ -1,15 +1,15 @@
 use borrow.Author.Rules.{rules}
-use mathlib.Core.Path.{◌≡◌, refl, sym, ap, ◌∙◌}
-use mathlib.Core.List.{[], map}
-use Prim.Native.Nat.{ℕ, ◌≤◌, ◌-◌}
+use mathlib.Core.Path.{refl, sym, ap, ◌∙◌}
+use mathlib.Core.List.{[]}
+use Prim.Native.Nat.{ℕ, ◌≤◌}
 use native.Mathlib.Omega.{arith}
-use lib.ListN.{length, get_or, length-set}
+use lib.ListN.{get_or, length-set}
 use lib.Seq.{length-take-le}
-use Rattle.lanes.specs.Keys.{entry_of, spread, lanes_in}
-use Rattle.lanes.specs.Lanes.{lane_most, Packed}
+use Rattle.lanes.specs.Keys.{spread, lanes_in}
+use Rattle.lanes.specs.Lanes.{Packed}
 use Rattle.lanes.specs.LaneCall.{row_most}
 use Rattle.lanes.specs.Table.{open_ends}
-use Rattle.lanes.proofs.PackLaws.{row_fits, Rest, rest_done, rest_full, rest_more, same_more}
+use Rattle.lanes.proofs.PackLaws.{row_fits, rest_done, rest_full, rest_more, same_more}
 use Rattle.lanes.proofs.StepLaws.{took_none_of, took_which, took_below, took_ends}
 use Rattle.lanes.proofs.pack.seat_keys.Goals as goal
 

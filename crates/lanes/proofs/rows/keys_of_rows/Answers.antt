@@ -1,9 +1,8 @@
 use mathlib.Core.Path.{◌≡◌, refl, sym, ap, ◌∙◌}
 use mathlib.Core.List.{[], map}
-use Prim.Native.Nat.{ℕ, ◌≤◌, ◌<◌, ◌-◌}
 use native.Mathlib.Omega.{arith}
 use borrow.Author.Count.{below_more}
-use lib.ListN.{length, take, get_or, length-set, length-map, get_or-map}
+use lib.ListN.{get_or, length-set, length-map, get_or-map}
 use lib.Seq.{take_all}
 use Rattle.lanes.specs.Lanes.{entries, no_demand}
 use Rattle.lanes.specs.LaneCall.{faulty}

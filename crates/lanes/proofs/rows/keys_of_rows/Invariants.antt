@@ -1,16 +1,10 @@
 -- `lanes::rows::keys_of_rows` meets its contract: the keys' front is that of the definition's, one more with each turn. Assumes nothing.
-use mathlib.Core.Path.{◌≡◌, refl, sym, ap, ◌∙◌}
+use mathlib.Core.Path.{◌≡◌}
 use mathlib.Core.List.{[], map}
 use Prim.Native.Nat.{ℕ, ◌≤◌, ◌<◌, ◌-◌}
-use native.Mathlib.Omega.{arith}
-use borrow.Author.Count.{below_more}
-use lib.ListN.{length, take, get_or, length-set, length-map, get_or-map}
-use lib.Seq.{take_all}
-use Rattle.lanes.specs.Lanes.{entries, no_demand}
-use Rattle.lanes.specs.LaneCall.{faulty}
-use Rattle.lanes.specs.Keys.{key_of, demand_in, demand_of}
-use Rattle.lanes.proofs.RankLaws.{length_keys, key_at_lem}
-use Rattle.base.proofs.Filling.{copied_more, copied_all}
+use lib.ListN.{length, take, get_or}
+use Rattle.lanes.specs.Lanes.{entries}
+use Rattle.lanes.specs.Keys.{key_of, demand_of}
 use Rattle.lanes.proofs.rows.keys_of_rows.Given as goal
 
 abbrev pub invariant-loop-i : goal.invariant-loop-i

@@ -1,9 +1,8 @@
-use borrow.Author.Rules.{rules}
-use mathlib.Core.Path.{◌≡◌, refl, ◌∙◌}
+use mathlib.Core.Path.{refl, ◌∙◌}
 use mathlib.Core.List.{[]}
-use Prim.Native.Nat.{◌≤◌, ◌<◌, ◌-◌}
+use Prim.Native.Nat.{◌<◌}
 use native.Mathlib.Omega.{arith}
-use lib.ListN.{length, take, length-set}
+use lib.ListN.{length, length-set}
 use Rattle.lanes.specs.Keys.{spread, with_lane}
 use Rattle.lanes.proofs.SpreadLaws.{spread_more, spread_done}
 use Rattle.lanes.proofs.rows.lanes_to_rows.Goals as goal

@@ -1,12 +1,9 @@
 -- `lanes::rows::lanes_to_rows` meets its contract: a key row is spread with each turn. Assumes nothing.
-use borrow.Author.Rules.{rules}
-use mathlib.Core.Path.{◌≡◌, refl, ◌∙◌}
+use mathlib.Core.Path.{◌≡◌}
 use mathlib.Core.List.{[]}
-use Prim.Native.Nat.{◌≤◌, ◌<◌, ◌-◌}
-use native.Mathlib.Omega.{arith}
-use lib.ListN.{length, take, length-set}
+use Prim.Native.Nat.{◌≤◌, ◌-◌}
+use lib.ListN.{length, take}
 use Rattle.lanes.specs.Keys.{spread, with_lane}
-use Rattle.lanes.proofs.SpreadLaws.{spread_more, spread_done}
 use Rattle.lanes.proofs.rows.lanes_to_rows.Given as goal
 
 abbrev pub invariant-loop-k : goal.invariant-loop-k

@@ -3,7 +3,6 @@ use mathlib.Core.Path.{sym}
 use native.Mathlib.Omega.{arith}
 use lib.ListN.{length}
 use lib.Seq.{length-take-le}
-use borrow.Author.Rules.{rules}
 use Rattle.lanes.proofs.rows.pack_rows.Goals as goal
 
 pub slice_bounds-packed_rows-end-2 : goal.slice_bounds-packed_rows-end-2

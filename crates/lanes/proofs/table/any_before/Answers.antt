@@ -1,10 +1,5 @@
 use borrow.Author.Rules.{rules}
-use mathlib.Core.Path.{◌≡◌}
-use mathlib.Core.Bool.{false}
-use Prim.Native.Nat.{◌+◌, ◌≤◌, ◌-◌}
 use native.Mathlib.Omega.{arith}
-use lib.ListN.{length}
-use Rattle.lanes.specs.Table.{NoneBefore}
 use Rattle.lanes.proofs.LaneLaws.{none_more}
 use Rattle.lanes.proofs.table.any_before.Goals as goal
 

@@ -1,12 +1,9 @@
 -- `lanes::table::any_before` meets its contract: where it says no, none of those asked ends before the row. Assumes nothing.
-use borrow.Author.Rules.{rules}
 use mathlib.Core.Path.{◌≡◌}
 use mathlib.Core.Bool.{false}
 use Prim.Native.Nat.{◌+◌, ◌≤◌, ◌-◌}
-use native.Mathlib.Omega.{arith}
 use lib.ListN.{length}
 use Rattle.lanes.specs.Table.{NoneBefore}
-use Rattle.lanes.proofs.LaneLaws.{none_more}
 use Rattle.lanes.proofs.table.any_before.Given as goal
 
 abbrev pub invariant-loop-i : goal.invariant-loop-i

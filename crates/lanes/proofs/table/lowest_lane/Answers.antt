@@ -1,9 +1,7 @@
 use borrow.Author.Rules.{rules}
-use mathlib.Core.Path.{◌≡◌, refl}
-use Prim.Native.Nat.{◌≤◌, ◌-◌}
+use mathlib.Core.Path.{refl}
 use native.Mathlib.Omega.{arith}
-use lib.ListN.{length}
-use Rattle.lanes.proofs.FindLaws.{Passed, passed_none}
+use Rattle.lanes.proofs.FindLaws.{passed_none}
 use Rattle.lanes.proofs.LaneLaws.{ends_before, lane_passed, lanes_passed, lane_found, lane_none}
 use Rattle.lanes.proofs.table.lowest_lane.Goals as goal
 

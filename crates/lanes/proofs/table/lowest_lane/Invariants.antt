@@ -1,11 +1,9 @@
 -- `lanes::table::lowest_lane` meets its contract: the lanes passed end too late. Assumes nothing.
-use borrow.Author.Rules.{rules}
-use mathlib.Core.Path.{◌≡◌, refl}
+use mathlib.Core.Path.{◌≡◌}
 use Prim.Native.Nat.{◌≤◌, ◌-◌}
-use native.Mathlib.Omega.{arith}
 use lib.ListN.{length}
-use Rattle.lanes.proofs.FindLaws.{Passed, passed_none}
-use Rattle.lanes.proofs.LaneLaws.{ends_before, lane_passed, lanes_passed, lane_found, lane_none}
+use Rattle.lanes.proofs.FindLaws.{Passed}
+use Rattle.lanes.proofs.LaneLaws.{ends_before}
 use Rattle.lanes.proofs.table.lowest_lane.Given as goal
 
 abbrev pub invariant-loop-l : goal.invariant-loop-l

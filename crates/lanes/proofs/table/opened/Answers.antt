@@ -1,6 +1,5 @@
 -- `lanes::table::opened` meets its contract. Assumes nothing.
 use native.Mathlib.Omega.{arith}
-use borrow.Author.Rules.{rules}
 use borrow.Author.Tests.{lt-ltb, le-ltb}
 use Rattle.lanes.proofs.table.opened.Goals as goal
 

@@ -5,11 +5,6 @@ use Rattle.board.specs.Walk.{WithinLibrary}
 use Rattle.board_plan.specs.TextPlan.{work_rows}
 use Rattle.board_plan.proofs.Calling.{within_library}
 use Rattle.program_answer.specs.Answering.{Answered, answer_lent, answer_call}
-use borrow.Author.Rules.{rules}
-use Rattle.program_answer.proofs.calls.answer.Reads as reads
-use Rattle.program_answer.proofs.calls.answer.Lts as lts
-use Rattle.program_answer.proofs.answer_within.Reads as answer-within-reads
-use Rattle.sheet.proofs.library_most.Reads as library-most-reads
 use Rattle.program_answer.proofs.calls.answer.Goals as goal
 
 pub answer_within-requires : goal.answer_within-requires

@@ -6,12 +6,6 @@ use Rattle.board.proofs.Accepting.{within_program}
 use Rattle.board_plan.specs.TextPlan.{work_rows}
 use Rattle.program_answer.specs.Answering.{answer_lent}
 use Rattle.program_answer.proofs.Program.{too_long, not_long}
-use borrow.Author.Rules.{rules}
-use Rattle.program_answer.proofs.calls.answer_for_program.Reads as reads
-use Rattle.program_answer.proofs.calls.answer_for_program.Lts as lts
-use Rattle.program_answer.proofs.answer_within.Reads as answer-within-reads
-use Rattle.program_answer.proofs.tell_refusal.Reads as tell-refusal-reads
-use Rattle.sheet.proofs.program_most.Reads as program-most-reads
 use Rattle.program_answer.proofs.calls.answer_for_program.Goals as goal
 
 pub returns-then-text-gt-INPUT_MOST : goal.returns-then-text-gt-INPUT_MOST

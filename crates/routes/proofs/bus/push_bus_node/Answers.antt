@@ -1,5 +1,4 @@
 -- `push_bus_node` meets its contract: `placing`, from what its calls gave. Assumes nothing.
-use Rattle.std.proofs.Common.{rules}
 use Rattle.routes.proofs.Holding.{placing}
 use Rattle.routes.proofs.bus.push_bus_node.Goals as goal
 

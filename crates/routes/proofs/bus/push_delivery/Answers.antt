@@ -1,5 +1,4 @@
 -- `push_delivery` meets its contract: `delivering`, from what its calls gave. Assumes nothing.
-use Rattle.std.proofs.Common.{rules}
 use Rattle.routes.proofs.Holding.{delivering}
 use Rattle.routes.proofs.bus.push_delivery.Goals as goal
 

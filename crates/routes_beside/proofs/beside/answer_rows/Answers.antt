@@ -3,13 +3,11 @@ use Rattle.routes_beside.proofs.Answered.{keys_few, answered}
 use lib.ListN.{length}
 use native.Mathlib.Omega.{arith}
 use mathlib.Core.Path.{◌≡◌, ◌∙◌}
-use borrow.Author.Rules.{rules}
 use Rattle.routes_beside.proofs.beside.answer_rows.Goals as goal
 
 pub order_by_key-m-requires : goal.order_by_key-m-requires
 order_by_key-m-requires c = let a = c.args in
-    let p = c.requires in
-    (
+    let p = c.requires in (
       omega arith,
       omega arith,
       omega arith,

@@ -1,6 +1,5 @@
 -- `asked_item` meets its contract. Assumes nothing.
 use Rattle.routes_beside.proofs.Filled.{item_there, item_absent}
-use borrow.Author.Rules.{rules}
 use borrow.Author.Tests.{eq-eqb, ne_eqb}
 use Rattle.board.specs.Rows.{rerouter_cell}
 use lib.Dec.{eqb}

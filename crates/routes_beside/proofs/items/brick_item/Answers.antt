@@ -2,7 +2,6 @@
 use Rattle.routes_beside.proofs.Filled.{item_absent, missing, brick_key, brick_ends, brick_is}
 use Rattle.board.specs.Board.{field}
 use mathlib.Core.Bool.{true, false}
-use borrow.Author.Rules.{rules}
 use Rattle.routes_beside.proofs.items.brick_item.Goals as goal
 
 pub returns-then-page : goal.returns-then-page
@@ -11,9 +10,9 @@ returns-then-page c = item_absent _ _ _ _ _ (missing (field c.args.nodes.now c.a
 pub item-requires : goal.item-requires
 item-requires c = let a = c.args in
     let there = c.if-page.false in record {
-  page_in_bounds = brick_key a.nodes.now a.facts.now a.bases.now a.i c.requires.bricks_askable c.requires.bases.0 c.requires.bases.1 there;
-  half_x_bound = brick_ends a.nodes.now a.facts.now a.bases.now a.i c.requires.bricks_askable c.requires.bases.0 c.requires.bases.1 there true c.if-rotation.true;
-}
+      page_in_bounds = brick_key a.nodes.now a.facts.now a.bases.now a.i c.requires.bricks_askable c.requires.bases.0 c.requires.bases.1 there;
+      half_x_bound = brick_ends a.nodes.now a.facts.now a.bases.now a.i c.requires.bricks_askable c.requires.bases.0 c.requires.bases.1 there true c.if-rotation.true;
+    }
 
 pub returns-then-rotation : goal.returns-then-rotation
 returns-then-rotation c = let a = c.args in
@@ -23,9 +22,9 @@ returns-then-rotation c = let a = c.args in
 pub item-requires-2 : goal.item-requires-2
 item-requires-2 c = let a = c.args in
     let there = c.if-page.false in record {
-  page_in_bounds = brick_key a.nodes.now a.facts.now a.bases.now a.i c.requires.bricks_askable c.requires.bases.0 c.requires.bases.1 there;
-  half_x_bound = brick_ends a.nodes.now a.facts.now a.bases.now a.i c.requires.bricks_askable c.requires.bases.0 c.requires.bases.1 there false c.if-rotation.false;
-}
+      page_in_bounds = brick_key a.nodes.now a.facts.now a.bases.now a.i c.requires.bricks_askable c.requires.bases.0 c.requires.bases.1 there;
+      half_x_bound = brick_ends a.nodes.now a.facts.now a.bases.now a.i c.requires.bricks_askable c.requires.bases.0 c.requires.bases.1 there false c.if-rotation.false;
+    }
 
 pub returns : goal.returns
 returns c = let a = c.args in

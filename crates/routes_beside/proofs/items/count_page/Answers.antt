@@ -3,7 +3,6 @@ use Rattle.routes_beside.proofs.Filling.{one_more, none_more}
 use lib.ListN.{length, get_or}
 use native.Mathlib.Omega.{arith}
 use Prim.Native.Nat.{◌<◌}
-use borrow.Author.Rules.{rules}
 use Rattle.routes_beside.proofs.items.count_page.Goals as goal
 
 pub overflow_add-counts : goal.overflow_add-counts

@@ -1,12 +1,11 @@
-use Rattle.routes_beside.proofs.Filling.{count_among, counted_few, counted_more, counted_all_lem}
-use borrow.Author.Rules.{rules}
+use Rattle.routes_beside.proofs.Filling.{counted_few, counted_more, counted_all_lem}
 use Rattle.board.specs.Board.{field}
 use Rattle.board.specs.Tables.{flag}
 use lib.Dec.{eqb}
-use lib.ListN.{length, get_or}
+use lib.ListN.{length}
 use native.Mathlib.Omega.{arith}
 use mathlib.Core.Path.{◌≡◌, sym, ap, ◌∙◌}
-use Prim.Native.Nat.{ℕ, ◌≤◌, ◌<◌, ◌-◌, ◌+◌}
+use Prim.Native.Nat.{◌+◌}
 use Rattle.routes_beside.proofs.items.count_pages.Goals as goal
 
 pub loop-i-init : goal.loop-i-init
@@ -17,10 +16,10 @@ count_page-requires c = (c.loop-i.invariant.1, λ p h. let e = c.loop-i.invarian
 
 pub loop-i-preserved : goal.loop-i-preserved
 loop-i-preserved c = (
-      omega arith,
-      c.count_page.auto.counts ∙ c.loop-i.invariant.1,
-      λ p k. c.count_page.ensures p k ∙ (ap (λ v. flag (eqb (field c.args.nodes.now c.loop-i.i 10) p) + v) (c.loop-i.invariant.2 p k) ∙ counted_more c.args.nodes.now p c.loop-i.i k),
-    )
+  omega arith,
+  c.count_page.auto.counts ∙ c.loop-i.invariant.1,
+  λ p k. c.count_page.ensures p k ∙ (ap (λ v. flag (eqb (field c.args.nodes.now c.loop-i.i 10) p) + v) (c.loop-i.invariant.2 p k) ∙ counted_more c.args.nodes.now p c.loop-i.i k),
+)
 
 pub shape_of-counts : goal.shape_of-counts
 shape_of-counts c = c.loop-i.invariant.1 ∙ sym c.requires.1

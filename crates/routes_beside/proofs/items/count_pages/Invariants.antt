@@ -1,13 +1,8 @@
 -- `count_pages` meets its contract: after i nodes each page's count is that of its nodes among them. Assumes nothing.
-use Rattle.routes_beside.proofs.Filling.{count_among, counted_few, counted_more, counted_all_lem}
-use borrow.Author.Rules.{rules}
-use Rattle.board.specs.Board.{field}
-use Rattle.board.specs.Tables.{flag}
-use lib.Dec.{eqb}
+use Rattle.routes_beside.proofs.Filling.{count_among}
 use lib.ListN.{length, get_or}
-use native.Mathlib.Omega.{arith}
-use mathlib.Core.Path.{◌≡◌, sym, ap, ◌∙◌}
-use Prim.Native.Nat.{ℕ, ◌≤◌, ◌<◌, ◌-◌, ◌+◌}
+use mathlib.Core.Path.{◌≡◌}
+use Prim.Native.Nat.{ℕ, ◌≤◌, ◌<◌, ◌-◌}
 use Rattle.routes_beside.proofs.items.count_pages.Given as goal
 
 abbrev pub invariant-loop-i : goal.invariant-loop-i

@@ -1,10 +1,7 @@
 -- `fill_bricks` meets its contract. Assumes nothing.
-use Rattle.routes_beside.specs.Beside.{BrickIs, BrickItem}
-use Rattle.routes_beside.proofs.Filled.{stored_more}
-use borrow.Author.Rules.{rules}
-use lib.ListN.{length, length-set}
-use native.Mathlib.Omega.{arith}
-use mathlib.Core.Path.{◌≡◌, refl, ◌∙◌}
+use Rattle.routes_beside.specs.Beside.{BrickItem}
+use lib.ListN.{length}
+use mathlib.Core.Path.{◌≡◌}
 use Prim.Native.Nat.{ℕ, ◌≤◌, ◌<◌, ◌-◌}
 use Rattle.routes_beside.proofs.items.fill_bricks.Given as goal
 

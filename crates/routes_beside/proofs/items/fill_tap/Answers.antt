@@ -4,7 +4,6 @@ use Rattle.routes_beside.proofs.Filled.{asked_room, both_stored}
 use lib.ListN.{length}
 use mathlib.Core.Path.{refl}
 use Prim.Native.Nat.{◌+◌, ◌*◌}
-use borrow.Author.Rules.{rules}
 use Rattle.routes_beside.proofs.items.fill_tap.Goals as goal
 
 pub asked_item-requires : goal.asked_item-requires

@@ -1,10 +1,6 @@
-use Rattle.routes_beside.specs.Beside.{TapItems}
 use Rattle.routes_beside.proofs.Filled.{taps_more}
-use lib.ListN.{length, get_or}
 use native.Mathlib.Omega.{arith}
-use mathlib.Core.List.{[]}
-use mathlib.Core.Path.{◌≡◌, refl, ◌∙◌}
-use Prim.Native.Nat.{ℕ, ◌≤◌, ◌<◌, ◌-◌}
+use mathlib.Core.Path.{refl, ◌∙◌}
 use Rattle.routes_beside.proofs.items.fill_taps.Goals as goal
 
 pub loop-k-init : goal.loop-k-init
@@ -14,9 +10,9 @@ pub fill_tap-requires : goal.fill_tap-requires
 fill_tap-requires c = let t = c.loop-k-test.true in
     let p = c.requires.taps_askable in
     let r = c.requires.bases in record {
-  tap_askable = p.each c.loop-k.k t;
-  bases = (r.0, r.1, omega arith, omega arith, omega arith, omega arith);
-}
+      tap_askable = p.each c.loop-k.k t;
+      bases = (r.0, r.1, omega arith, omega arith, omega arith, omega arith);
+    }
 
 pub loop-k-preserved : goal.loop-k-preserved
 loop-k-preserved c = let a = c.args in

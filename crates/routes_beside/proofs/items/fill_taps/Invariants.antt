@@ -1,10 +1,8 @@
 -- `fill_taps` meets its contract. Assumes nothing.
 use Rattle.routes_beside.specs.Beside.{TapItems}
-use Rattle.routes_beside.proofs.Filled.{taps_more}
 use lib.ListN.{length, get_or}
-use native.Mathlib.Omega.{arith}
 use mathlib.Core.List.{[]}
-use mathlib.Core.Path.{◌≡◌, refl, ◌∙◌}
+use mathlib.Core.Path.{◌≡◌}
 use Prim.Native.Nat.{ℕ, ◌≤◌, ◌<◌, ◌-◌}
 use Rattle.routes_beside.proofs.items.fill_taps.Given as goal
 

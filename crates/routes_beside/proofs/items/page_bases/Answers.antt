@@ -3,7 +3,6 @@ use Rattle.routes_beside.proofs.Filling.{summed_few, summed_bases}
 use native.Mathlib.Omega.{arith}
 use mathlib.Core.Path.{◌≡◌, ◌∙◌}
 use lib.ListN.{length}
-use borrow.Author.Rules.{rules}
 use Rattle.routes_beside.proofs.items.page_bases.Goals as goal
 
 pub sum_up-requires : goal.sum_up-requires

@@ -1,10 +1,8 @@
 use native.Mathlib.Omega.{arith}
 use mathlib.Core.Path.{sym, ◌∙◌}
 use lib.ListN.{length}
-use borrow.Author.Rules.{rules}
-use borrow.Author.Tests.{not-true, not-false}
 use Rattle.routes_corners.proofs.HandedLaws.{mutes_in}
-use Rattle.routes_calls.specs.Mini.{holds, bus_given}
+use Rattle.routes_calls.specs.Mini.{bus_given}
 use Rattle.routes_calls.proofs.MiniLaws.{held_within, unheld, held_fits_lem}
 use Rattle.routes_calls.proofs.mini.held_fits.Goals as goal
 
@@ -15,9 +13,9 @@ returns-then-not-holds c = let a = c.args in
 pub rows_have_room-requires : goal.rows_have_room-requires
 rows_have_room-requires c = let a = c.args in
     let w = held_within a.held (length a.rerouters.now) (length a.bus_wires.now) (length a.ports.now) (sym c.holds.ensures ∙ c.if-not-holds.false) in record {
-  rows_known = c.requires;
-  ports_in_bounds = (w.2, omega (arith, w.0, c.well_formed), omega (arith, w.1, c.well_formed));
-}
+      rows_known = c.requires;
+      ports_in_bounds = (w.2, omega (arith, w.0, c.well_formed), omega (arith, w.1, c.well_formed));
+    }
 
 pub returns : goal.returns
 returns c = let a = c.args in

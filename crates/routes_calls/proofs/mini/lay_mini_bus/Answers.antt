@@ -18,26 +18,18 @@ use Rattle.routes_gutter.proofs.Planned.{bus_lent}
 use Rattle.routes_gutter.specs.Calls.{bus_fits}
 use Rattle.routes_calls.specs.Mini.{mini_by, mini_fits, mini_call, HeldReady}
 use Rattle.routes_calls.proofs.MiniLaws.{called_same, called_away, mini_crowded, held_ready, rows_known, mini_refused, mini_tried, mini_called}
-use borrow.Author.Rules.{rules}
-use Rattle.routes_calls.proofs.mini.lay_mini_bus.Reads as reads
-use Rattle.routes_calls.proofs.mini.lay_mini_bus.Lts as lts
-use Rattle.board_plan.proofs.ask.Reads as ask-reads
-use Rattle.board_plan.proofs.plan_text.Reads as plan-text-reads
-use Rattle.routes_calls.proofs.mini.held_fits.Reads as held-fits-reads
-use Rattle.routes_calls.proofs.mini.refuse_crowded.Reads as refuse-crowded-reads
-use Rattle.routes_calls.proofs.mini.turn_held.Reads as turn-held-reads
 use Rattle.routes_calls.proofs.mini.lay_mini_bus.Goals as goal
 
 pub plan_text-requires : goal.plan_text-requires
 plan_text-requires c = let a = c.args in
     let q = c.ask-asked in
     let room = asked_room q.result a.records.now a.facts.now a.taps.now a.groups.now a.demands.now a.keys.now a.marks.now q.ensures in record {
-  work_lent = room.0.lent;
-  within_library = room.1;
-}
+      work_lent = room.0.lent;
+      within_library = room.1;
+    }
 
 pub held_fits-fits-requires : goal.held_fits-fits-requires
-held_fits-fits-requires c = 
+held_fits-fits-requires c =
     let asked_of : Asked = c.ask-asked.result in
     let fits-of : Board → Bool = fits_lent (asked_of).lent in
     let judged-of : Judged = fitting (asked_of).most (fits-of) c.args.text.now in
@@ -53,7 +45,7 @@ held_fits-fits-requires c =
     let t = (crowd).2 in (t.on_board, rows_known (ready _ _ t))
 
 pub turn_held-requires : goal.turn_held-requires
-turn_held-requires c = 
+turn_held-requires c =
     let asked_of : Asked = c.ask-asked.result in
     let fits-of : Board → Bool = fits_lent (asked_of).lent in
     let judged-of : Judged = fitting (asked_of).most (fits-of) c.args.text.now in
@@ -69,7 +61,7 @@ turn_held-requires c =
     let t = (lanes).1 in (t.on_board, ready _ _ t)
 
 pub returns-in-Refused : goal.returns-in-Refused
-returns-in-Refused c = 
+returns-in-Refused c =
     let asked_of : Asked = c.ask-asked.result in
     let fits-of : Board → Bool = fits_lent (asked_of).lent in
     let judged-of : Judged = fitting (asked_of).most (fits-of) c.args.text.now in
@@ -82,7 +74,7 @@ returns-in-Refused c =
     (called_away _ a.rerouters.now a.bus_wires.now a.ports.now a.rerouters.now a.bus_wires.now a.ports.now _ _ (mini_refused a.rerouters.now a.bus_wires.now a.ports.now a.held (asked_of).most (fits-of) a.text.now _ _ is) refl refl refl)
 
 pub returns-in-Crowded : goal.returns-in-Crowded
-returns-in-Crowded c = 
+returns-in-Crowded c =
     let asked_of : Asked = c.ask-asked.result in
     let fits-of : Board → Bool = fits_lent (asked_of).lent in
     let call_is : mini_by c.args.rerouters.now c.args.bus_wires.now c.args.ports.now c.args.held (planning (asked_of).most (mini_fits c.args.rerouters.now c.args.bus_wires.now c.args.ports.now c.args.held (fits-of)) c.args.text.now) ≡ mini_call c.args.text.now (bus_fits (length c.args.rerouters.now) (length c.args.bus_wires.now) (length c.args.ports.now) (work_rows c.args.records.now c.args.facts.now c.args.taps.now c.args.groups.now c.args.demands.now c.args.keys.now c.args.marks.now)) c.args.rerouters.now c.args.bus_wires.now c.args.ports.now c.args.held = let a = c.args in
@@ -104,7 +96,7 @@ returns-in-Crowded c =
     (mini_crowded a.rerouters.now a.bus_wires.now a.ports.now a.held t.on_board (crowd).0 _ t.lanes (crowd).1 f.result (f.ensures t.on_board (rows_known (ready _ _ t))) c.refuse_crowded.result c.refuse_crowded.ensures)
 
 pub returns-in-Laned : goal.returns-in-Laned
-returns-in-Laned c = 
+returns-in-Laned c =
     let asked_of : Asked = c.ask-asked.result in
     let fits-of : Board → Bool = fits_lent (asked_of).lent in
     let call_is : mini_by c.args.rerouters.now c.args.bus_wires.now c.args.ports.now c.args.held (planning (asked_of).most (mini_fits c.args.rerouters.now c.args.bus_wires.now c.args.ports.now c.args.held (fits-of)) c.args.text.now) ≡ mini_call c.args.text.now (bus_fits (length c.args.rerouters.now) (length c.args.bus_wires.now) (length c.args.ports.now) (work_rows c.args.records.now c.args.facts.now c.args.taps.now c.args.groups.now c.args.demands.now c.args.keys.now c.args.marks.now)) c.args.rerouters.now c.args.bus_wires.now c.args.ports.now c.args.held = let a = c.args in

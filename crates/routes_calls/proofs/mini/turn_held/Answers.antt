@@ -3,8 +3,6 @@ use mathlib.Core.Path.{◌≡◌, sym, ◌∙◌}
 use mathlib.Core.Bool.{true}
 use lib.ListN.{length}
 use native.Mathlib.Omega.{arith}
-use borrow.Author.Rules.{rules}
-use borrow.Author.Tests.{not-true, not-false}
 use Rattle.board.specs.Board.{Board}
 use Rattle.routes_corners.specs.Turning.{TurnedAs}
 use Rattle.routes_calls.specs.Mini.{holds, bus_given, HeldReady}
@@ -22,7 +20,7 @@ turn_rows-requires c = let a = c.args in
     (c.requires.0, c.requires.1.ready _ (omega (arith, w.0)) (omega (arith, w.1)) (omega (arith, w.2)))
 
 pub settle_ports-u-requires : goal.settle_ports-u-requires
-settle_ports-u-requires c = 
+settle_ports-u-requires c =
     let fit : holds c.args.held (length c.args.rerouters.now) (length c.args.bus_wires.now) (length c.args.ports.now) ≡ true = sym c.holds.ensures ∙ c.if-not-holds.false in
     let Ready : Board → Type 0 = λ b. HeldReady b c.args.records.now c.args.counts c.args.facts.now c.args.rerouters.now c.args.bus_wires.now c.args.ports.now c.args.marks.now in
     let turned : (b : Board) → Ready b → TurnedAs b (bus_given c.args.rerouters.now c.args.bus_wires.now c.args.ports.now c.args.held) (length b.wires) c.args.rerouters.now c.args.bus_wires.now c.args.held c.turn_rows.new.rerouters c.turn_rows.new.bus_wires c.turn_rows.result = λ b rd. let a = c.args in let w = held_within a.held (length a.rerouters.now) (length a.bus_wires.now) (length a.ports.now) (fit) in c.turn_rows.ensures.turned_as b (rd.ready a.held w.0 w.1 w.2) in
@@ -30,7 +28,7 @@ settle_ports-u-requires c =
     settle a.rerouters.now a.bus_wires.now a.ports.now a.held c.requires.0 (fit) c.requires.1 c.turn_rows.new.rerouters c.turn_rows.new.bus_wires c.turn_rows.result _ (turned c.requires.0 c.requires.1) c.in-Laid.is
 
 pub returns-in-Short : goal.returns-in-Short
-returns-in-Short c = 
+returns-in-Short c =
     let fit : holds c.args.held (length c.args.rerouters.now) (length c.args.bus_wires.now) (length c.args.ports.now) ≡ true = sym c.holds.ensures ∙ c.if-not-holds.false in
     let Ready : Board → Type 0 = λ b. HeldReady b c.args.records.now c.args.counts c.args.facts.now c.args.rerouters.now c.args.bus_wires.now c.args.ports.now c.args.marks.now in
     let turned : (b : Board) → Ready b → TurnedAs b (bus_given c.args.rerouters.now c.args.bus_wires.now c.args.ports.now c.args.held) (length b.wires) c.args.rerouters.now c.args.bus_wires.now c.args.held c.turn_rows.new.rerouters c.turn_rows.new.bus_wires c.turn_rows.result = λ b rd. let a = c.args in let w = held_within a.held (length a.rerouters.now) (length a.bus_wires.now) (length a.ports.now) (fit) in c.turn_rows.ensures.turned_as b (rd.ready a.held w.0 w.1 w.2) in
@@ -38,7 +36,7 @@ returns-in-Short c =
     λ b ps rd lanes. mini_short a.rerouters.now a.bus_wires.now a.ports.now a.held b (fit) c.turn_rows.new.rerouters c.turn_rows.new.bus_wires c.turn_rows.result (turned b rd) c.in-Short.is
 
 pub returns-in-Laid : goal.returns-in-Laid
-returns-in-Laid c = 
+returns-in-Laid c =
     let fit : holds c.args.held (length c.args.rerouters.now) (length c.args.bus_wires.now) (length c.args.ports.now) ≡ true = sym c.holds.ensures ∙ c.if-not-holds.false in
     let Ready : Board → Type 0 = λ b. HeldReady b c.args.records.now c.args.counts c.args.facts.now c.args.rerouters.now c.args.bus_wires.now c.args.ports.now c.args.marks.now in
     let turned : (b : Board) → Ready b → TurnedAs b (bus_given c.args.rerouters.now c.args.bus_wires.now c.args.ports.now c.args.held) (length b.wires) c.args.rerouters.now c.args.bus_wires.now c.args.held c.turn_rows.new.rerouters c.turn_rows.new.bus_wires c.turn_rows.result = λ b rd. let a = c.args in let w = held_within a.held (length a.rerouters.now) (length a.bus_wires.now) (length a.ports.now) (fit) in c.turn_rows.ensures.turned_as b (rd.ready a.held w.0 w.1 w.2) in

@@ -8,18 +8,13 @@ use Rattle.board.specs.Demands.{PageLanes}
 use Rattle.board.specs.Planning.{page_row}
 use Rattle.routes_calls.specs.Finish.{CornersReady, PlanReady}
 use Rattle.routes_calls.proofs.Routing.{corners_ready, all_pages, answers_ready}
-use Rattle.routes_calls.proofs.route.finish_plan.Reads as reads
-use Rattle.routes_calls.proofs.route.finish_plan.Lts as lts
-use Rattle.board_plan.proofs.write_pages.Reads as write-pages-reads
-use Rattle.routes_calls.proofs.route.turn_and_settle.Reads as turn-and-settle-reads
-use Rattle.routes_gutter.proofs.laying.lay_and_settle.Reads as lay-and-settle-reads
 use Rattle.routes_calls.proofs.route.finish_plan.Goals as goal
 
 pub lay_and_settle-laid-requires : goal.lay_and_settle-laid-requires
 lay_and_settle-laid-requires c = let p = c.requires in (p.0, p.1, p.2.laying, p.2.port_room)
 
 pub turn_and_settle-bus-requires : goal.turn_and_settle-bus-requires
-turn_and_settle-bus-requires c = 
+turn_and_settle-bus-requires c =
     let Ready : Board → List PageLanes → Type 0 = λ b ps. let a = c.args in
     PlanReady b ps a.records.now a.counts a.m a.facts.now a.taps.now a.groups.now a.demands.now a.keys.now a.marks.now a.rerouters.now a.bus_wires.now a.ports.now a.answers.now in
     let Turning : Board → List PageLanes → Type 0 = λ b ps. let l = c.lay_and_settle-laid in
@@ -30,7 +25,7 @@ turn_and_settle-bus-requires c =
     let a = c.args in let p = c.requires in (p.0, p.1, a.rerouters.now, a.bus_wires.now, a.ports.now, turning p.0 p.1 p.2)
 
 pub write_pages-requires : goal.write_pages-requires
-write_pages-requires c =  let both = answers_ready c.requires.2 in record {
+write_pages-requires c = let both = answers_ready c.requires.2 in record {
   n_in_bounds = both.0;
   by_index = both.1;
 }
@@ -60,7 +55,7 @@ pub shape_of-answers : goal.shape_of-answers
 shape_of-answers c = c.write_pages.auto.answers
 
 pub returns : goal.returns
-returns c = 
+returns c =
     let Ready : Board → List PageLanes → Type 0 = λ b ps. let a = c.args in
     PlanReady b ps a.records.now a.counts a.m a.facts.now a.taps.now a.groups.now a.demands.now a.keys.now a.marks.now a.rerouters.now a.bus_wires.now a.ports.now a.answers.now in
     let Turning : Board → List PageLanes → Type 0 = λ b ps. let l = c.lay_and_settle-laid in

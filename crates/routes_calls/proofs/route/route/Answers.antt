@@ -9,12 +9,6 @@ use Rattle.routes_gutter.proofs.Planned.{bus_lent}
 use Rattle.routes_gutter.specs.declared.bus.BusPlan.{BusPlan}
 use Rattle.routes_calls.specs.Route.{plan_fits, route_call, PlanCalled}
 use Rattle.routes_calls.proofs.Routing.{route_called}
-use borrow.Author.Rules.{rules}
-use Rattle.routes_calls.proofs.route.route.Reads as reads
-use Rattle.routes_calls.proofs.route.route.Lts as lts
-use Rattle.board_plan.proofs.ask.Reads as ask-reads
-use Rattle.routes_calls.proofs.route.route_within.Reads as route-within-reads
-use Rattle.routes_calls.proofs.route.without_counts.Reads as without-counts-reads
 use Rattle.routes_calls.proofs.route.route.Goals as goal
 
 pub route_within-requires : goal.route_within-requires
@@ -22,9 +16,9 @@ route_within-requires c = let a = c.args in
     let q = c.ask-asked in
     let room = asked_room q.result a.records.now a.facts.now a.taps.now a.groups.now a.demands.now a.keys.now a.marks.now q.ensures in
     let answers = ap (λ (z : Asked). z.lent.answers) q.ensures in record {
-  work_lent = room.0.lent;
-  within_library = (room.1, bus_lent q.result _ a.marks.now a.rerouters.now a.bus_wires.now a.ports.now q.ensures room.0.fivefold, omega arith);
-}
+      work_lent = room.0.lent;
+      within_library = (room.1, bus_lent q.result _ a.marks.now a.rerouters.now a.bus_wires.now a.ports.now q.ensures room.0.fivefold, omega arith);
+    }
 
 pub returns : goal.returns
 returns c = let a = c.args in

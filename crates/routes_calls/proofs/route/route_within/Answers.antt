@@ -7,15 +7,10 @@ use Rattle.board_plan.proofs.Surveying.{LanesTold, text_refusal, text_crowded, t
 use Rattle.routes_gutter.proofs.Planned.{work_again}
 use Rattle.routes_calls.specs.Finish.{PlanReady}
 use Rattle.routes_calls.proofs.Routing.{plan_ready, plan_told, plan_refused}
-use borrow.Author.Rules.{rules}
-use Rattle.routes_calls.proofs.route.route_within.Reads as reads
-use Rattle.routes_calls.proofs.route.route_within.Lts as lts
-use Rattle.board_plan.proofs.plan_text.Reads as plan-text-reads
-use Rattle.routes_calls.proofs.route.finish_plan.Reads as finish-plan-reads
 use Rattle.routes_calls.proofs.route.route_within.Goals as goal
 
 pub finish_plan-laid-requires : goal.finish_plan-laid-requires
-finish_plan-laid-requires c = 
+finish_plan-laid-requires c =
     let plan-of : Planning = planning c.args.asked.most (fits_lent c.args.asked.lent) c.args.text.now in
     let Told : Type 0 = let p = c.plan_text in LanesTold p.new.records p.new.facts p.new.taps p.new.groups (plan-of) c.in-Laned.counts c.in-Laned.m in
     let told : Told = let p = c.plan_text in let a = c.args in text_lanes p.new.records p.new.facts p.new.taps p.new.groups _ (fits_lent a.asked.lent) a.text.now p.result p.ensures _ _ c.in-Laned.is in
@@ -52,7 +47,7 @@ pub shape_of-marks-in-Refused : goal.shape_of-marks-in-Refused
 shape_of-marks-in-Refused c = c.plan_text.auto.spare
 
 pub returns-in-Refused : goal.returns-in-Refused
-returns-in-Refused c = 
+returns-in-Refused c =
     let plan-of : Planning = planning c.args.asked.most (fits_lent c.args.asked.lent) c.args.text.now in
     let p = c.plan_text in
     let a = c.args in
@@ -80,7 +75,7 @@ pub shape_of-marks-in-Crowded : goal.shape_of-marks-in-Crowded
 shape_of-marks-in-Crowded c = c.plan_text.auto.spare
 
 pub returns-in-Crowded : goal.returns-in-Crowded
-returns-in-Crowded c = 
+returns-in-Crowded c =
     let plan-of : Planning = planning c.args.asked.most (fits_lent c.args.asked.lent) c.args.text.now in
     let p = c.plan_text in
     let a = c.args in
@@ -120,7 +115,7 @@ pub shape_of-marks-in-Laned : goal.shape_of-marks-in-Laned
 shape_of-marks-in-Laned c = c.finish_plan-laid.auto.marks ∙ c.plan_text.auto.spare
 
 pub returns-in-Laned : goal.returns-in-Laned
-returns-in-Laned c = 
+returns-in-Laned c =
     let plan-of : Planning = planning c.args.asked.most (fits_lent c.args.asked.lent) c.args.text.now in
     let Told : Type 0 = let p = c.plan_text in LanesTold p.new.records p.new.facts p.new.taps p.new.groups (plan-of) c.in-Laned.counts c.in-Laned.m in
     let told : Told = let p = c.plan_text in let a = c.args in text_lanes p.new.records p.new.facts p.new.taps p.new.groups _ (fits_lent a.asked.lent) a.text.now p.result p.ensures _ _ c.in-Laned.is in

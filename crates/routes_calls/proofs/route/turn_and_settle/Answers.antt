@@ -1,11 +1,6 @@
 -- There is room for the corners; what is left is the finished plan.
 use Rattle.routes.specs.Plan.{bus_of}
 use Rattle.routes_calls.proofs.Adding.{ready_mutes, ready_handed, turned_short, turned_laid, settle_ready, settle_done}
-use borrow.Author.Rules.{rules}
-use Rattle.routes_calls.proofs.route.turn_and_settle.Reads as reads
-use Rattle.routes_calls.proofs.route.turn_and_settle.Lts as lts
-use Rattle.routes_ports.proofs.settle.settle_ports.Reads as settle-ports-reads
-use Rattle.routes_calls.proofs.turn.turn_rows.Reads as turn-rows-reads
 use Rattle.routes_calls.proofs.route.turn_and_settle.Goals as goal
 
 pub settle_ports-u-requires : goal.settle_ports-u-requires

@@ -1,8 +1,5 @@
 use mathlib.Core.Path.{sym, ap}
 use Rattle.routes_calls.specs.Route.{without_counts}
-use borrow.Author.Rules.{rules}
-use Rattle.routes_calls.proofs.route.without_counts.Reads as reads
-use Rattle.routes_calls.proofs.route.without_counts.Lts as lts
 use Rattle.routes_calls.proofs.route.without_counts.Goals as goal
 
 pub returns-in-Refused : goal.returns-in-Refused

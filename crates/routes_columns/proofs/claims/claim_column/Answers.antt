@@ -1,9 +1,5 @@
 -- `claim_column` meets its contract. Assumes nothing.
 use mathlib.Core.Path.{refl, sym, ◌∙◌}
-use Rattle.routes_columns.proofs.Claiming.{not_true, not_false}
-use borrow.Author.Rules.{rules}
-use Rattle.base.proofs.growing.put.Reads as put_reads
-use Rattle.routes_columns.proofs.claims.is_free.Reads as is-free-reads
 use Rattle.routes_columns.proofs.claims.claim_column.Goals as goal
 
 pub returns-then-not-free : goal.returns-then-not-free

@@ -1,15 +1,12 @@
-use Prim.Native.Nat.{ℕ, ◌+◌, ◌-◌, ◌≤◌}
+use Prim.Native.Nat.{ℕ, ◌+◌}
 use mathlib.Core.Path.{◌≡◌, refl, ap, ◌∙◌}
 use native.Mathlib.Omega.{arith}
 use mathlib.Core.List.{[]}
-use lib.ListN.{length, get_or, set}
+use lib.ListN.{get_or, set}
 use Rattle.base.specs.Runs.{having}
 use Rattle.base.proofs.RunLaws.{having_most}
 use Rattle.routes_columns.specs.Columns.{stop_key}
 use Rattle.routes_columns.proofs.Rooms.{own_small, stops_counted}
-use borrow.Author.Rules.{rules}
-use Rattle.routes_columns.proofs.claims.add.Reads as add_reads
-use Rattle.routes_columns.proofs.claims.stop_key.Reads as stop-key-reads
 use Rattle.routes_columns.proofs.claims.count_stops.Goals as goal
 
 pub loop-i-init : goal.loop-i-init

@@ -1,16 +1,9 @@
 -- `count_stops` meets its contract: after i stops each run is counted as often as they have it. Assumes nothing.
-use Prim.Native.Nat.{ℕ, ◌+◌, ◌-◌, ◌≤◌}
-use mathlib.Core.Path.{◌≡◌, refl, ap, ◌∙◌}
-use native.Mathlib.Omega.{arith}
-use mathlib.Core.List.{[]}
-use lib.ListN.{length, get_or, set}
+use Prim.Native.Nat.{ℕ, ◌-◌, ◌≤◌}
+use mathlib.Core.Path.{◌≡◌}
+use lib.ListN.{length, get_or}
 use Rattle.base.specs.Runs.{having}
-use Rattle.base.proofs.RunLaws.{having_most}
 use Rattle.routes_columns.specs.Columns.{stop_key}
-use Rattle.routes_columns.proofs.Rooms.{own_small, stops_counted}
-use borrow.Author.Rules.{rules}
-use Rattle.routes_columns.proofs.claims.add.Reads as add_reads
-use Rattle.routes_columns.proofs.claims.stop_key.Reads as stop-key-reads
 use Rattle.routes_columns.proofs.claims.count_stops.Given as goal
 
 abbrev pub invariant-loop-i : goal.invariant-loop-i

@@ -1,14 +1,11 @@
-use Prim.Native.Nat.{ℕ, ◌+◌, ◌*◌, ◌-◌, ◌≤◌}
+use Prim.Native.Nat.{ℕ, ◌+◌, ◌*◌}
 use mathlib.Core.Path.{◌≡◌, refl, ap, ◌∙◌}
 use native.Mathlib.Omega.{arith}
-use lib.ListN.{length, get_or, set}
+use lib.ListN.{get_or, set}
 use Rattle.base.specs.Runs.{having}
 use Rattle.base.proofs.RunLaws.{having_most}
 use Rattle.routes_columns.specs.Columns.{tap_key}
 use Rattle.routes_columns.proofs.Rooms.{taps_counted}
-use borrow.Author.Rules.{rules}
-use Rattle.routes_columns.proofs.claims.add.Reads as add_reads
-use Rattle.routes_columns.proofs.claims.tap_key.Reads as tap-key-reads
 use Rattle.routes_columns.proofs.claims.count_taps.Goals as goal
 
 pub loop-k-init : goal.loop-k-init

@@ -1,15 +1,9 @@
 -- `count_taps` meets its contract: after k taps each run has two more for each that has it. Assumes nothing.
 use Prim.Native.Nat.{ℕ, ◌+◌, ◌*◌, ◌-◌, ◌≤◌}
-use mathlib.Core.Path.{◌≡◌, refl, ap, ◌∙◌}
-use native.Mathlib.Omega.{arith}
-use lib.ListN.{length, get_or, set}
+use mathlib.Core.Path.{◌≡◌}
+use lib.ListN.{length, get_or}
 use Rattle.base.specs.Runs.{having}
-use Rattle.base.proofs.RunLaws.{having_most}
 use Rattle.routes_columns.specs.Columns.{tap_key}
-use Rattle.routes_columns.proofs.Rooms.{taps_counted}
-use borrow.Author.Rules.{rules}
-use Rattle.routes_columns.proofs.claims.add.Reads as add_reads
-use Rattle.routes_columns.proofs.claims.tap_key.Reads as tap-key-reads
 use Rattle.routes_columns.proofs.claims.count_taps.Given as goal
 
 abbrev pub invariant-loop-k : goal.invariant-loop-k

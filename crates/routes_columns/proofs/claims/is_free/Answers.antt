@@ -6,8 +6,6 @@ use Rattle.base.specs.Lists.{any}
 use Rattle.base.specs.Growing.{run_in}
 use Rattle.routes.specs.Stops.{near}
 use Rattle.routes_columns.proofs.Claiming.{not_false, not_wanted, wanted_so}
-use borrow.Author.Rules.{rules}
-use Rattle.routes_columns.proofs.claims.near_in.Reads as near-in-reads
 use Rattle.routes_columns.proofs.claims.is_free.Goals as goal
 
 pub returns-then-not-wanted : goal.returns-then-not-wanted

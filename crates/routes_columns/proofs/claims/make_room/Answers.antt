@@ -5,19 +5,15 @@ use native.Mathlib.Omega.{arith}
 use Rattle.base.proofs.RunLaws.{having_most}
 use Rattle.routes_columns.specs.Columns.{stop_key}
 use Rattle.routes_columns.proofs.Rooms.{counts_room, room_most}
-use borrow.Author.Rules.{rules}
-use Rattle.base.proofs.runs.sum_up.Reads as sum-up-reads
-use Rattle.routes_columns.proofs.claims.count_stops.Reads as count-stops-reads
-use Rattle.routes_columns.proofs.claims.count_taps.Reads as count-taps-reads
 use Rattle.routes_columns.proofs.claims.make_room.Goals as goal
 
 pub count_taps-requires : goal.count_taps-requires
 count_taps-requires c = let a = c.args in
     let p = c.requires.s_in_bounds in
     let k = c.count_stops in record {
-  n_bound = (p.2, omega (arith, p.4, k.auto.counts), p.5);
-  by_index = λ j. omega (arith, k.ensures j, having_most (stop_key a.pages a.stops.now) j a.s, p.1, p.2);
-}
+      n_bound = (p.2, omega (arith, p.4, k.auto.counts), p.5);
+      by_index = λ j. omega (arith, k.ensures j, having_most (stop_key a.pages a.stops.now) j a.s, p.1, p.2);
+    }
 
 pub sum_up-requires : goal.sum_up-requires
 sum_up-requires c = let a = c.args in

@@ -1,6 +1,6 @@
 use mathlib.Core.Path.{◌≡◌, ap, sym, ◌∙◌}
 use mathlib.Core.Bool.{◌||◌}
-use Prim.Native.Nat.{ℕ, ◌+◌, ◌-◌, ◌≤◌}
+use Prim.Native.Nat.{ℕ, ◌+◌, ◌-◌}
 use native.Mathlib.Omega.{arith}
 use lib.Dec.{eqb}
 use lib.ListN.{get_or}
@@ -8,8 +8,6 @@ use Rattle.base.specs.Lists.{any}
 use Rattle.base.specs.Growing.{stretch}
 use Rattle.routes.specs.Stops.{near}
 use Rattle.routes_columns.proofs.Claiming.{looked_more}
-use borrow.Author.Rules.{rules}
-use Rattle.routes_columns.proofs.claims.below.Reads as below-reads
 use Rattle.routes_columns.proofs.claims.near_in.Goals as goal
 
 pub below-low-requires : goal.below-low-requires

@@ -1,16 +1,9 @@
 -- `near_in` meets its contract: after each turn it is told whether one of the claims looked at is near. Assumes nothing.
-use mathlib.Core.Path.{◌≡◌, ap, sym, ◌∙◌}
-use mathlib.Core.Bool.{◌||◌}
-use Prim.Native.Nat.{ℕ, ◌+◌, ◌-◌, ◌≤◌}
-use native.Mathlib.Omega.{arith}
-use lib.Dec.{eqb}
-use lib.ListN.{get_or}
+use mathlib.Core.Path.{◌≡◌}
+use Prim.Native.Nat.{◌-◌, ◌≤◌}
 use Rattle.base.specs.Lists.{any}
 use Rattle.base.specs.Growing.{stretch}
 use Rattle.routes.specs.Stops.{near}
-use Rattle.routes_columns.proofs.Claiming.{looked_more}
-use borrow.Author.Rules.{rules}
-use Rattle.routes_columns.proofs.claims.below.Reads as below-reads
 use Rattle.routes_columns.proofs.claims.near_in.Given as goal
 
 abbrev pub invariant-loop-i : goal.invariant-loop-i

@@ -1,14 +1,10 @@
-use Prim.Native.Nat.{ℕ, ◌-◌, ◌≤◌}
+use Prim.Native.Nat.{ℕ}
 use mathlib.Core.Path.{◌≡◌, refl, subst, ◌∙◌}
 use native.Mathlib.Omega.{arith}
-use lib.ListN.{length}
 use Rattle.base.specs.Growing.{Filled}
 use Rattle.base.proofs.GrowLaws.{filled_none}
 use Rattle.routes_columns.specs.Columns.{stop_key, level_at, keys_of}
 use Rattle.routes_columns.proofs.Rooms.{stop_fits, stop_put}
-use borrow.Author.Rules.{rules}
-use Rattle.base.proofs.growing.put.Reads as put_reads
-use Rattle.routes_columns.proofs.claims.stop_key.Reads as stop-key-reads
 use Rattle.routes_columns.proofs.claims.put_stops.Goals as goal
 
 pub loop-i-init : goal.loop-i-init

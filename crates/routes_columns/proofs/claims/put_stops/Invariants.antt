@@ -1,15 +1,9 @@
 -- `put_stops` meets its contract: after i stops the runs hold their levels. Assumes nothing.
-use Prim.Native.Nat.{ℕ, ◌-◌, ◌≤◌}
-use mathlib.Core.Path.{◌≡◌, refl, subst, ◌∙◌}
-use native.Mathlib.Omega.{arith}
+use Prim.Native.Nat.{◌-◌, ◌≤◌}
+use mathlib.Core.Path.{◌≡◌}
 use lib.ListN.{length}
 use Rattle.base.specs.Growing.{Filled}
-use Rattle.base.proofs.GrowLaws.{filled_none}
 use Rattle.routes_columns.specs.Columns.{stop_key, level_at, keys_of}
-use Rattle.routes_columns.proofs.Rooms.{stop_fits, stop_put}
-use borrow.Author.Rules.{rules}
-use Rattle.base.proofs.growing.put.Reads as put_reads
-use Rattle.routes_columns.proofs.claims.stop_key.Reads as stop-key-reads
 use Rattle.routes_columns.proofs.claims.put_stops.Given as goal
 
 abbrev pub invariant-loop-i : goal.invariant-loop-i

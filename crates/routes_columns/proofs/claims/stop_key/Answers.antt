@@ -1,7 +1,6 @@
 -- `stop_key` meets its contract. Assumes nothing.
 use native.Mathlib.Omega.{arith}
 use Rattle.routes_columns.proofs.Rooms.{lane_of_own, own_is, own_not}
-use borrow.Author.Rules.{rules}
 use Rattle.routes_columns.proofs.claims.stop_key.Goals as goal
 
 pub overflow_mul-result : goal.overflow_mul-result

@@ -1,11 +1,7 @@
-use Prim.Native.Nat.{◌-◌}
-use mathlib.Core.Path.{◌≡◌, refl, ◌∙◌}
+use mathlib.Core.Path.{refl, ◌∙◌}
 use native.Mathlib.Omega.{arith}
-use lib.ListN.{length}
 use Rattle.routes_taps.proofs.Reaching.{next_in_range}
-use Rattle.routes_columns.proofs.Walking.{Come, come_start, come_next, come_end, room_for_one}
-use Rattle.routes_columns.proofs.columns.ask_next.Reads as ask-next-reads
-use Rattle.routes_columns.proofs.columns.start.Reads as start-reads
+use Rattle.routes_columns.proofs.Walking.{come_start, come_next, come_end, room_for_one}
 use Rattle.routes_columns.proofs.columns.ask_all.Goals as goal
 
 pub start-reached-requires : goal.start-reached-requires
@@ -22,11 +18,11 @@ ask_next-reached-requires c = let l = c.loop-k in
     let come = l.invariant.3 in
     let room = c.requires.ask_room in
     let lane = c.requires.laid_in_range.lanes l.k t in record {
-  tap_keyed = (room.keyed l.k t, room_for_one a.pages.now a.nodes.now a.wires.now a.facts.now a.groups.now a.laid.now a.n a.stops.now a.s a.starts.now l.nexts l.xs l.asked l.reached l.k come t (room.keyed l.k t) lane.on_pages (omega (arith, l.invariant.1, room.small)));
-  lane_in_range = lane;
-  next_in_range = next_in_range a.pages.now a.nodes.now a.wires.now a.facts.now a.groups.now a.laid.now a.n a.stops.now a.s c.requires.laid_in_range l.k t l.reached come.count come.at_stop;
-  k_in_bounds = omega (arith, t, room.rows, l.invariant.2);
-}
+      tap_keyed = (room.keyed l.k t, room_for_one a.pages.now a.nodes.now a.wires.now a.facts.now a.groups.now a.laid.now a.n a.stops.now a.s a.starts.now l.nexts l.xs l.asked l.reached l.k come t (room.keyed l.k t) lane.on_pages (omega (arith, l.invariant.1, room.small)));
+      lane_in_range = lane;
+      next_in_range = next_in_range a.pages.now a.nodes.now a.wires.now a.facts.now a.groups.now a.laid.now a.n a.stops.now a.s c.requires.laid_in_range l.k t l.reached come.count come.at_stop;
+      k_in_bounds = omega (arith, t, room.rows, l.invariant.2);
+    }
 
 pub overflow_add-k : goal.overflow_add-k
 overflow_add-k c = let t = c.loop-k-test.true in let f = c.ranges.n.fits in record { fits = omega (arith, t, f) }

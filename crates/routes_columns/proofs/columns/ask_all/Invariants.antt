@@ -1,12 +1,8 @@
 -- `ask_all` meets its contract: after k taps the claims and the rows are theirs. Assumes nothing.
 use Prim.Native.Nat.{◌-◌}
-use mathlib.Core.Path.{◌≡◌, refl, ◌∙◌}
-use native.Mathlib.Omega.{arith}
+use mathlib.Core.Path.{◌≡◌}
 use lib.ListN.{length}
-use Rattle.routes_taps.proofs.Reaching.{next_in_range}
-use Rattle.routes_columns.proofs.Walking.{Come, come_start, come_next, come_end, room_for_one}
-use Rattle.routes_columns.proofs.columns.ask_next.Reads as ask-next-reads
-use Rattle.routes_columns.proofs.columns.start.Reads as start-reads
+use Rattle.routes_columns.proofs.Walking.{Come}
 use Rattle.routes_columns.proofs.columns.ask_all.Given as goal
 
 abbrev pub invariant-loop-k : goal.invariant-loop-k

@@ -13,13 +13,6 @@ use Rattle.routes_taps.specs.Taps.{LaneInRange, LaneRanges}
 use Rattle.routes_taps.specs.declared.taps.Tap.{Tap}
 use Rattle.routes_columns.specs.Columns.{lane_key, ClaimRoom, TwoMore}
 use Rattle.routes_columns.proofs.Asking.{lane_keyed, next_asked}
-use borrow.Author.Rules.{rules}
-use Rattle.routes_columns.proofs.columns.ask_tap.Reads as ask-tap-reads
-use Rattle.routes_columns.proofs.columns.question_row.Reads as question-row-reads
-use Rattle.routes_taps.proofs.taps.lane_of.Reads as lane-of-reads
-use Rattle.routes_taps.proofs.taps.news_at.Reads as news-at-reads
-use Rattle.routes_taps.proofs.taps.reach.Reads as reach-reads
-use Rattle.routes_taps.proofs.taps.tap_at.Reads as tap-at-reads
 use Rattle.routes_columns.proofs.columns.ask_next.Goals as goal
 
 pub lane_of-l-requires : goal.lane_of-l-requires
@@ -37,10 +30,10 @@ ask_tap-q-requires c = let a = c.args in
     let next = c.reach-reached in
     let here = lane_keyed a.pages.now a.nodes.now a.wires.now a.facts.now a.groups.now a.laid.now a.k tap.result lane.result tap.ensures lane.ensures in
     let on = c.requires.tap_keyed.0 in record {
-  page_bound = (rw here.0 on.page, rw here.1 on.lane);
-  claim_room = subst₂ (λ (p l : ℕ). ClaimRoom 2 a.starts.now a.nexts.now a.xs.now (lane_key p l)) (sym here.0) (sym here.1) c.requires.tap_keyed.1;
-  level_range = (went_on a.laid.now a.k a.stops.now a.old next.result news.result news.ensures c.requires.next_in_range next.ensures).at_stop.range;
-}
+      page_bound = (rw here.0 on.page, rw here.1 on.lane);
+      claim_room = subst₂ (λ (p l : ℕ). ClaimRoom 2 a.starts.now a.nexts.now a.xs.now (lane_key p l)) (sym here.0) (sym here.1) c.requires.tap_keyed.1;
+      level_range = (went_on a.laid.now a.k a.stops.now a.old next.result news.result news.ensures c.requires.next_in_range next.ensures).at_stop.range;
+    }
 
 pub question_row-requires : goal.question_row-requires
 question_row-requires c = let a = c.args in
@@ -73,10 +66,10 @@ returns c = let a = c.args in
     let q = c.ask_tap-q in
     let row = c.question_row in
     let here = lane_keyed a.pages.now a.nodes.now a.wires.now a.facts.now a.groups.now a.laid.now a.k tap.result lane.result tap.ensures lane.ensures in record {
-  two_more = subst₂ (λ (p l : ℕ). TwoMore (lane_key p l) a.nexts.now q.new.nexts) here.0 here.1 q.ensures.more;
-  went_on = went_on a.laid.now a.k a.stops.now a.old next.result news.result news.ensures c.requires.next_in_range next.ensures;
-  next_asked = λ b ts ps tb on.
-            next_asked b ts ps (view tap_in a.laid.now a.k) (get_or a.laid.now a.k []) tap.result lane.result news.result (stop_level_of next.result.level) tap.ensures
-            (lane_next b ts ps a.pages.now a.nodes.now a.wires.now a.facts.now a.groups.now (get_or a.laid.now a.k []) tap.result lane.result tb on c.requires.lane_in_range tap.ensures lane.ensures)
-            news.ensures q.ensures row.ensures;
-}
+      two_more = subst₂ (λ (p l : ℕ). TwoMore (lane_key p l) a.nexts.now q.new.nexts) here.0 here.1 q.ensures.more;
+      went_on = went_on a.laid.now a.k a.stops.now a.old next.result news.result news.ensures c.requires.next_in_range next.ensures;
+      next_asked = λ b ts ps tb on.
+          next_asked b ts ps (view tap_in a.laid.now a.k) (get_or a.laid.now a.k []) tap.result lane.result news.result (stop_level_of next.result.level) tap.ensures
+          (lane_next b ts ps a.pages.now a.nodes.now a.wires.now a.facts.now a.groups.now (get_or a.laid.now a.k []) tap.result lane.result tb on c.requires.lane_in_range tap.ensures lane.ensures)
+          news.ensures q.ensures row.ensures;
+    }

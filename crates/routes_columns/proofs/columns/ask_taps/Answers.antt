@@ -4,27 +4,23 @@ use lib.ListN.{length}
 use native.Mathlib.Omega.{arith}
 use Rattle.routes_columns.proofs.Rooms.{taps_keyed, no_counts, still_long, starts_grow, numbers_few, stops_room, ask_room}
 use Rattle.routes_columns.proofs.Claiming.{stops_held}
-use borrow.Author.Rules.{rules}
-use Rattle.routes_columns.proofs.claims.make_room.Reads as make-room-reads
-use Rattle.routes_columns.proofs.claims.put_stops.Reads as put-stops-reads
-use Rattle.routes_columns.proofs.columns.ask_all.Reads as ask-all-reads
 use Rattle.routes_columns.proofs.columns.ask_taps.Goals as goal
 
 pub make_room-requires : goal.make_room-requires
 make_room-requires c = let p = c.requires.s_le_n in
     let none = no_counts 32770 (lit≤ tt) in record {
-  s_in_bounds = (c.requires.laid_in_range.on_stops, p.0, p.1, p.3, none.0, taps_keyed c.requires.laid_in_range p.3 p.4);
-  by_index = none.1;
-}
+      s_in_bounds = (c.requires.laid_in_range.on_stops, p.0, p.1, p.3, none.0, taps_keyed c.requires.laid_in_range p.3 p.4);
+      by_index = none.1;
+    }
 
 pub put_stops-requires : goal.put_stops-requires
 put_stops-requires c = let a = c.args in
     let p = c.requires.s_le_n in
     let made = c.make_room in
     let long = still_long 32770 made.new.starts (lit≤ tt) made.auto.starts in record {
-  s_in_bounds = (c.requires.laid_in_range.on_stops, p.3, numbers_few (length a.pages.now) a.groups.now a.laid.now a.n a.stops.now a.s made.new.starts p.3 p.0 p.1 long made.ensures 24576 (lit≤ tt) (omega arith), starts_grow (length a.pages.now) a.groups.now a.laid.now a.n a.stops.now a.s made.new.starts p.3 p.0 p.1 long made.ensures 24576 (lit≤ tt) (omega arith));
-  by_index = stops_room (length a.pages.now) a.groups.now a.laid.now a.n a.stops.now a.s made.new.starts p.3 p.0 p.1 long made.ensures 24576 (lit≤ tt) (omega arith);
-}
+      s_in_bounds = (c.requires.laid_in_range.on_stops, p.3, numbers_few (length a.pages.now) a.groups.now a.laid.now a.n a.stops.now a.s made.new.starts p.3 p.0 p.1 long made.ensures 24576 (lit≤ tt) (omega arith), starts_grow (length a.pages.now) a.groups.now a.laid.now a.n a.stops.now a.s made.new.starts p.3 p.0 p.1 long made.ensures 24576 (lit≤ tt) (omega arith));
+      by_index = stops_room (length a.pages.now) a.groups.now a.laid.now a.n a.stops.now a.s made.new.starts p.3 p.0 p.1 long made.ensures 24576 (lit≤ tt) (omega arith);
+    }
 
 pub ask_all-requires : goal.ask_all-requires
 ask_all-requires c = let a = c.args in
@@ -32,7 +28,7 @@ ask_all-requires c = let a = c.args in
     let made = c.make_room in
     let put = c.put_stops in
     let long = still_long 32770 made.new.starts (lit≤ tt) made.auto.starts in record {
-  laid_in_range = c.requires.laid_in_range;
-  ask_room = ask_room (length a.pages.now) a.groups.now a.laid.now a.n a.stops.now a.s made.new.starts p.3 p.0 p.1 long made.ensures 24576 (lit≤ tt) (omega arith) put.new.nexts put.new.xs a.asked.now put.ensures put.auto.xs p.2 (taps_keyed c.requires.laid_in_range p.3 p.4);
-  claims_held = stops_held (length a.pages.now) a.stops.now a.s made.new.starts put.new.nexts put.new.xs put.ensures;
-}
+      laid_in_range = c.requires.laid_in_range;
+      ask_room = ask_room (length a.pages.now) a.groups.now a.laid.now a.n a.stops.now a.s made.new.starts p.3 p.0 p.1 long made.ensures 24576 (lit≤ tt) (omega arith) put.new.nexts put.new.xs a.asked.now put.ensures put.auto.xs p.2 (taps_keyed c.requires.laid_in_range p.3 p.4);
+      claims_held = stops_held (length a.pages.now) a.stops.now a.s made.new.starts put.new.nexts put.new.xs put.ensures;
+    }

@@ -1,7 +1,6 @@
 -- `question_row` meets its contract. Assumes nothing.
 use Rattle.routes.specs.Holding.{stop_level_of}
 use Rattle.routes_columns.proofs.Asking.{row_is}
-use borrow.Author.Rules.{rules}
 use Rattle.routes_columns.proofs.columns.question_row.Goals as goal
 
 pub returns : goal.returns

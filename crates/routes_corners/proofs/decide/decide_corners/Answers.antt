@@ -1,5 +1,5 @@
 -- Listed, ordered and answered in turn, the wires have their levels.
-use Rattle.std.proofs.Common.{◌∙◌, arith, rules}
+use Rattle.std.proofs.Common.{◌∙◌, arith}
 use lib.ListN.{length-replicate, get_or-replicate}
 use Rattle.routes_rows.specs.Notes.{NOTES}
 use Rattle.routes_corners.proofs.Answering.{keys_few, turns_fit, levels_held}

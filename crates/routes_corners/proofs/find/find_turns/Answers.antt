@@ -1,6 +1,6 @@
 use Rattle.routes_corners.proofs.Finding.{turners_none, fit_more}
 use Rattle.routes_corners.specs.CornerTables.{Turners}
-use Rattle.std.proofs.Common.{◌≡◌, ℕ, ◌-◌, ◌≤◌, length, refl, ◌∙◌, subst, add-one, arith}
+use Rattle.std.proofs.Common.{◌≡◌, ℕ, length, refl, ◌∙◌, subst, add-one, arith}
 use Rattle.routes_corners.proofs.find.find_turns.Goals as goal
 
 pub loop-w-init : goal.loop-w-init

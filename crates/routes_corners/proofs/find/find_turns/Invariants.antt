@@ -1,7 +1,6 @@
 -- The wires that turn, one after the other.
-use Rattle.routes_corners.proofs.Finding.{turners_none, fit_more}
 use Rattle.routes_corners.specs.CornerTables.{Turners}
-use Rattle.std.proofs.Common.{◌≡◌, ℕ, ◌-◌, ◌≤◌, length, refl, ◌∙◌, subst, add-one, arith}
+use Rattle.std.proofs.Common.{◌≡◌, ◌-◌, ◌≤◌, length}
 use Rattle.routes_corners.proofs.find.find_turns.Given as goal
 
 abbrev pub invariant-loop-w : goal.invariant-loop-w

@@ -1,5 +1,5 @@
 -- The tests on two nodes of the table.
-use Rattle.std.proofs.Common.{[], get_or, ap, rules}
+use Rattle.std.proofs.Common.{[], get_or, ap}
 use Rattle.routes_corners.proofs.find.goes_down.Goals as goal
 
 pub returns : goal.returns

@@ -1,6 +1,5 @@
 -- The tests on a wire, in the rules' order.
-use Rattle.std.proofs.Common.{sym, refl, ◌∙◌, rules}
-use borrow.Author.Tests.{not-true, not-false}
+use Rattle.std.proofs.Common.{sym, refl, ◌∙◌}
 use Rattle.base.proofs.Bools.{clash, pick_true, pick_false}
 use Rattle.board.specs.Tables.{nodes_alone}
 use Rattle.routes_corners.proofs.CornerLaws.{turns_rows}
@@ -23,20 +22,20 @@ pub returns-then-not-is_body : goal.returns-then-not-is_body
 returns-then-not-is_body c = let a = c.args in record {
   ends_there = λ e. clash e refl;
   value = λ b q pages f g.
-          turn_sourceless b q pages a.nodes.now a.wires.now a.facts.now f a.classes.now a.muted.now a.w c.requires.wire g c.if-facts-w-ne1.false c.if-muted-class-ne0.false
-          (c.is_body.ensures.id_value b f.nodes_are (source_anchor_lem b q pages a.nodes.now a.wires.now a.facts.now f a.classes.now a.muted.now a.w c.requires.wire g)
-          ∙ pick_false c.is_body.result _ _ c.if-not-is_body.true);
+      turn_sourceless b q pages a.nodes.now a.wires.now a.facts.now f a.classes.now a.muted.now a.w c.requires.wire g c.if-facts-w-ne1.false c.if-muted-class-ne0.false
+      (c.is_body.ensures.id_value b f.nodes_are (source_anchor_lem b q pages a.nodes.now a.wires.now a.facts.now f a.classes.now a.muted.now a.w c.requires.wire g)
+      ∙ pick_false c.is_body.result _ _ c.if-not-is_body.true);
 }
 
 pub returns-then-not-is_body-2 : goal.returns-then-not-is_body-2
 returns-then-not-is_body-2 c = let a = c.args in record {
   ends_there = λ e. clash e refl;
   value = λ b q pages f g.
-          turn_sinkless b q pages a.nodes.now a.wires.now a.facts.now f a.classes.now a.muted.now a.w c.requires.wire g c.if-facts-w-ne1.false c.if-muted-class-ne0.false _
-          (c.is_body.ensures.id_value b f.nodes_are (source_anchor_lem b q pages a.nodes.now a.wires.now a.facts.now f a.classes.now a.muted.now a.w c.requires.wire g)
-          ∙ pick_true c.is_body.result _ _ c.if-not-is_body.false)
-          (c.is_body-2.ensures.id_value b f.nodes_are (target_anchor_lem b q pages a.nodes.now a.wires.now a.facts.now f a.classes.now a.muted.now a.w c.requires.wire g)
-          ∙ pick_false c.is_body-2.result _ _ c.if-not-is_body-2.true);
+      turn_sinkless b q pages a.nodes.now a.wires.now a.facts.now f a.classes.now a.muted.now a.w c.requires.wire g c.if-facts-w-ne1.false c.if-muted-class-ne0.false _
+      (c.is_body.ensures.id_value b f.nodes_are (source_anchor_lem b q pages a.nodes.now a.wires.now a.facts.now f a.classes.now a.muted.now a.w c.requires.wire g)
+      ∙ pick_true c.is_body.result _ _ c.if-not-is_body.false)
+      (c.is_body-2.ensures.id_value b f.nodes_are (target_anchor_lem b q pages a.nodes.now a.wires.now a.facts.now f a.classes.now a.muted.now a.w c.requires.wire g)
+      ∙ pick_false c.is_body-2.result _ _ c.if-not-is_body-2.true);
 }
 
 pub goes_down-requires : goal.goes_down-requires
@@ -46,13 +45,13 @@ pub returns : goal.returns
 returns c = let a = c.args in
     let one = c.if-not-is_body.false in
     let two = c.if-not-is_body-2.false in record {
-  ends_there = λ e.
+      ends_there = λ e.
           let rows = turns_rows (nodes_alone a.nodes.now) _ _ (sym (c.goes_down.ensures (nodes_alone a.nodes.now) refl) ∙ e) in
           record { source = c.is_body.ensures.anchor_in_bounds one; target = c.is_body-2.ensures.anchor_in_bounds two; source_row = rows.0; on_row = rows.1 };
-  value = λ b q pages f g.
+      value = λ b q pages f g.
           turn_tested b q pages a.nodes.now a.wires.now a.facts.now f a.classes.now a.muted.now a.w c.requires.wire g c.if-facts-w-ne1.false c.if-muted-class-ne0.false _
           (c.is_body.ensures.id_value b f.nodes_are (source_anchor_lem b q pages a.nodes.now a.wires.now a.facts.now f a.classes.now a.muted.now a.w c.requires.wire g) ∙ pick_true c.is_body.result _ _ one)
           _
           (c.is_body-2.ensures.id_value b f.nodes_are (target_anchor_lem b q pages a.nodes.now a.wires.now a.facts.now f a.classes.now a.muted.now a.w c.requires.wire g) ∙ pick_true c.is_body-2.result _ _ two)
           c.goes_down.result (c.goes_down.ensures b f.nodes_are);
-}
+    }

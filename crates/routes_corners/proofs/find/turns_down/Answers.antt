@@ -1,6 +1,5 @@
 -- The tests on the two nodes, read off their rows.
 use Rattle.routes_corners.proofs.CornerLaws.{turns_in_lem}
-use Rattle.std.proofs.Common.{rules}
 use Rattle.routes_corners.proofs.find.turns_down.Goals as goal
 
 pub returns : goal.returns

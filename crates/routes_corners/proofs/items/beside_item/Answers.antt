@@ -1,5 +1,5 @@
 -- A rerouter's item, by the test on it.
-use Rattle.std.proofs.Common.{sym, ◌∙◌, rules}
+use Rattle.std.proofs.Common.{sym, ◌∙◌}
 use Rattle.routes.specs.Buffers.{rerouter_in}
 use Rattle.routes_corners.proofs.Listing.{beside_room, beside_there, beside_absent}
 use Rattle.routes_corners.proofs.items.beside_item.Goals as goal

@@ -1,4 +1,4 @@
-use Rattle.std.proofs.Common.{◌≡◌, ℕ, ◌+◌, ◌-◌, ◌<◌, ◌≤◌, List, [], length, get_or, refl, ◌∙◌, arith, length-set}
+use Rattle.std.proofs.Common.{ℕ, ◌+◌, ◌<◌, List, [], length, get_or, refl, ◌∙◌, arith, length-set}
 use Rattle.routes.specs.Buffers.{rerouter_in}
 use Rattle.routes_corners.specs.Listing.{BesideIs}
 use Rattle.routes_corners.proofs.Listing.{stored_at, kept_below}
@@ -17,17 +17,17 @@ pub beside_item-requires : goal.beside_item-requires
 beside_item-requires c = c.requires.bases
 
 pub overflow_add-bricks : goal.overflow_add-bricks
-overflow_add-bricks c = 
+overflow_add-bricks c =
     let room : length c.args.nodes.now + c.loop-i.i < length c.loop-i.items = omega (arith, c.loop-i-test.true, c.requires.m_in_bounds.1, c.loop-i.invariant.1) in
     omega (arith, room)
 
 pub offset_bounds-items-bricks : goal.offset_bounds-items-bricks
-offset_bounds-items-bricks c = 
+offset_bounds-items-bricks c =
     let room : length c.args.nodes.now + c.loop-i.i < length c.loop-i.items = omega (arith, c.loop-i-test.true, c.requires.m_in_bounds.1, c.loop-i.invariant.1) in
     omega (arith, room)
 
 pub bounds-items-bricks : goal.bounds-items-bricks
-bounds-items-bricks c = 
+bounds-items-bricks c =
     let room : length c.args.nodes.now + c.loop-i.i < length c.loop-i.items = omega (arith, c.loop-i-test.true, c.requires.m_in_bounds.1, c.loop-i.invariant.1) in
     room
 
@@ -38,7 +38,7 @@ pub loop-i-smaller : goal.loop-i-smaller
 loop-i-smaller c = omega (arith, c.loop-i-test.true)
 
 pub loop-i-preserved : goal.loop-i-preserved
-loop-i-preserved c = 
+loop-i-preserved c =
     let room : length c.args.nodes.now + c.loop-i.i < length c.loop-i.items = omega (arith, c.loop-i-test.true, c.requires.m_in_bounds.1, c.loop-i.invariant.1) in
     let a = c.args in
     let l = c.loop-i in
@@ -53,7 +53,7 @@ pub shape_of-items : goal.shape_of-items
 shape_of-items c = c.loop-i.invariant.1
 
 pub returns : goal.returns
-returns c =  record {
+returns c = record {
   by_index = λ j h. c.loop-i.invariant.2 j (omega (arith, c.loop-i-test.false));
   by_index_2 = c.loop-i.invariant.3;
 }

@@ -1,8 +1,7 @@
 -- The rerouters' items, stored one behind the other.
-use Rattle.std.proofs.Common.{◌≡◌, ℕ, ◌+◌, ◌-◌, ◌<◌, ◌≤◌, List, [], length, get_or, refl, ◌∙◌, arith, length-set}
+use Rattle.std.proofs.Common.{◌≡◌, ℕ, ◌+◌, ◌-◌, ◌<◌, ◌≤◌, [], length, get_or}
 use Rattle.routes.specs.Buffers.{rerouter_in}
 use Rattle.routes_corners.specs.Listing.{BesideIs}
-use Rattle.routes_corners.proofs.Listing.{stored_at, kept_below}
 use Rattle.routes_corners.proofs.items.fill_beside.Given as goal
 
 abbrev pub invariant-loop-i : goal.invariant-loop-i

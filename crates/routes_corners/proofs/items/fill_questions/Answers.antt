@@ -1,4 +1,4 @@
-use Rattle.std.proofs.Common.{◌≡◌, ℕ, ◌+◌, ◌-◌, ◌<◌, ◌≤◌, List, [], length, get_or, refl, ◌∙◌, arith, length-set}
+use Rattle.std.proofs.Common.{◌≡◌, ℕ, ◌+◌, ◌<◌, List, length, get_or, refl, ◌∙◌, arith, length-set}
 use Rattle.routes_corners.specs.Listing.{question_row}
 use Rattle.routes_corners.proofs.Listing.{stored_at, kept_below, question_same}
 use Rattle.routes_corners.proofs.items.fill_questions.Goals as goal
@@ -19,17 +19,17 @@ pub question_item-requires : goal.question_item-requires
 question_item-requires c = (c.requires.turns_listed.there c.loop-q.q c.loop-q-test.true, omega (arith, c.requires.nodes_len_bound.0, c.requires.nodes_len_bound.1, c.loop-q.invariant.1))
 
 pub overflow_add-first : goal.overflow_add-first
-overflow_add-first c = 
+overflow_add-first c =
     let room : c.args.first + c.loop-q.q < length c.loop-q.items = omega (arith, c.loop-q-test.true, c.requires.nodes_len_bound.1, c.loop-q.invariant.1) in
     omega (arith, room)
 
 pub offset_bounds-items-first : goal.offset_bounds-items-first
-offset_bounds-items-first c = 
+offset_bounds-items-first c =
     let room : c.args.first + c.loop-q.q < length c.loop-q.items = omega (arith, c.loop-q-test.true, c.requires.nodes_len_bound.1, c.loop-q.invariant.1) in
     omega (arith, room)
 
 pub bounds-items-first : goal.bounds-items-first
-bounds-items-first c = 
+bounds-items-first c =
     let room : c.args.first + c.loop-q.q < length c.loop-q.items = omega (arith, c.loop-q-test.true, c.requires.nodes_len_bound.1, c.loop-q.invariant.1) in
     room
 
@@ -40,7 +40,7 @@ pub loop-q-smaller : goal.loop-q-smaller
 loop-q-smaller c = omega (arith, c.loop-q-test.true)
 
 pub loop-q-preserved : goal.loop-q-preserved
-loop-q-preserved c = 
+loop-q-preserved c =
     let room : c.args.first + c.loop-q.q < length c.loop-q.items = omega (arith, c.loop-q-test.true, c.requires.nodes_len_bound.1, c.loop-q.invariant.1) in
     let a = c.args in
     let l = c.loop-q in
@@ -57,7 +57,7 @@ pub shape_of-items : goal.shape_of-items
 shape_of-items c = c.loop-q.invariant.1
 
 pub returns : goal.returns
-returns c =  record {
+returns c = record {
   by_index = λ j h. c.loop-q.invariant.2 j (omega (arith, c.loop-q-test.false));
   by_index_2 = c.loop-q.invariant.3;
 }

@@ -1,7 +1,6 @@
 -- The questions' items, stored one behind the other, each read off its sink's brick.
-use Rattle.std.proofs.Common.{◌≡◌, ℕ, ◌+◌, ◌-◌, ◌<◌, ◌≤◌, List, [], length, get_or, refl, ◌∙◌, arith, length-set}
+use Rattle.std.proofs.Common.{◌≡◌, ℕ, ◌+◌, ◌-◌, ◌<◌, ◌≤◌, [], length, get_or}
 use Rattle.routes_corners.specs.Listing.{question_row}
-use Rattle.routes_corners.proofs.Listing.{stored_at, kept_below, question_same}
 use Rattle.routes_corners.proofs.items.fill_questions.Given as goal
 
 abbrev pub invariant-loop-q : goal.invariant-loop-q

@@ -1,5 +1,5 @@
 -- The test on a rerouter.
-use Rattle.std.proofs.Common.{get_or, arith, rules}
+use Rattle.std.proofs.Common.{get_or, arith}
 use Rattle.routes_corners.proofs.Listing.{off_pages, on_pages_lem}
 use Rattle.routes_corners.proofs.items.is_beside.Goals as goal
 

@@ -1,5 +1,5 @@
-use Rattle.std.proofs.Common.{◌-◌, ◌<◌, ◌≤◌, length, arith}
-use Rattle.routes_corners.proofs.PortLaws.{Walked, walked_start, walked_on, walked_done}
+use Rattle.std.proofs.Common.{◌<◌, length, arith}
+use Rattle.routes_corners.proofs.PortLaws.{walked_start, walked_on, walked_done}
 use Rattle.routes_corners.proofs.ports.class_along.Goals as goal
 
 pub loop-p-init : goal.loop-p-init
@@ -15,7 +15,7 @@ pub offset_bounds-classes-wire_at : goal.offset_bounds-classes-wire_at
 offset_bounds-classes-wire_at c = omega (arith, c.wire_at.ensures)
 
 pub bounds-classes-wire_at : goal.bounds-classes-wire_at
-bounds-classes-wire_at c = 
+bounds-classes-wire_at c =
     let wire-there : c.wire_at.result < length c.loop-p.classes = let at = (c.requires.0.comes c.loop-p.p c.loop-p-test.true).0 in
     omega (arith, c.wire_at.ensures) in
     wire-there
@@ -27,10 +27,9 @@ pub loop-p-smaller : goal.loop-p-smaller
 loop-p-smaller c = omega (arith, c.loop-p-test.true)
 
 pub loop-p-preserved : goal.loop-p-preserved
-loop-p-preserved c = 
+loop-p-preserved c =
     let wire-there : c.wire_at.result < length c.loop-p.classes = let at = (c.requires.0.comes c.loop-p.p c.loop-p-test.true).0 in
-    omega (arith, c.wire_at.ensures) in
-    (
+    omega (arith, c.wire_at.ensures) in (
       omega (arith, c.loop-p-test.true),
       walked_on c.args.wires.now c.args.keys.now c.args.classes.now c.requires.0 c.loop-p.classes c.loop-p.class c.loop-p.p c.loop-p.invariant.1 c.class_at-class.result c.wire_at.result c.loop-p-test.true c.class_at-class.ensures c.wire_at.ensures (wire-there),
     )

@@ -1,6 +1,6 @@
 -- The wires passed have their classes.
-use Rattle.std.proofs.Common.{◌-◌, ◌<◌, ◌≤◌, length, arith}
-use Rattle.routes_corners.proofs.PortLaws.{Walked, walked_start, walked_on, walked_done}
+use Rattle.std.proofs.Common.{◌-◌, ◌≤◌, length}
+use Rattle.routes_corners.proofs.PortLaws.{Walked}
 use Rattle.routes_corners.proofs.ports.class_along.Given as goal
 
 abbrev pub invariant-loop-p : goal.invariant-loop-p

@@ -1,5 +1,5 @@
 -- The first key begins a class, and so does one that is another than the one before.
-use Rattle.std.proofs.Common.{◌∙◌, rules}
+use Rattle.std.proofs.Common.{◌∙◌}
 use Rattle.routes_corners.proofs.PortLaws.{class_first, class_same, class_new}
 use Rattle.routes_corners.proofs.ports.class_at.Goals as goal
 

@@ -1,5 +1,4 @@
-use Rattle.std.proofs.Common.{◌≡◌, ℕ, ◌+◌, ◌-◌, ◌*◌, ◌<◌, ◌≤◌, length, get_or, refl, ◌∙◌, arith, length-set}
-use Rattle.board_groups.proofs.Filling.{filled_more}
+use Rattle.std.proofs.Common.{◌≡◌, ℕ, ◌+◌, ◌-◌, ◌*◌, ◌<◌, ◌≤◌, length, get_or}
 use Rattle.routes_corners.specs.Ports.{wire_key}
 use Rattle.routes_corners.proofs.ports.fill_keys.Given as goal
 

@@ -1,6 +1,6 @@
 use Rattle.routes_corners.proofs.PortLaws.{flags_none, room_same}
 use Rattle.routes_corners.specs.Ports.{FlaggedBy, among_ports}
-use Rattle.std.proofs.Common.{◌≡◌, ℕ, ◌-◌, ◌≤◌, length, refl, ◌∙◌, subst, add-one, arith}
+use Rattle.std.proofs.Common.{◌≡◌, ℕ, refl, ◌∙◌, subst, add-one, arith}
 use Rattle.routes_corners.proofs.ports.flag_ports.Goals as goal
 
 pub loop-j-init : goal.loop-j-init

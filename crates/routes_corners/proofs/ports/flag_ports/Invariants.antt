@@ -1,7 +1,6 @@
 -- Each port handed in sets its flag.
-use Rattle.routes_corners.proofs.PortLaws.{flags_none, room_same}
 use Rattle.routes_corners.specs.Ports.{FlaggedBy, among_ports}
-use Rattle.std.proofs.Common.{◌≡◌, ℕ, ◌-◌, ◌≤◌, length, refl, ◌∙◌, subst, add-one, arith}
+use Rattle.std.proofs.Common.{◌≡◌, ◌-◌, ◌≤◌, length}
 use Rattle.routes_corners.proofs.ports.flag_ports.Given as goal
 
 abbrev pub invariant-loop-j : goal.invariant-loop-j

@@ -1,5 +1,5 @@
 -- A key that is there, and below.
-use Rattle.std.proofs.Common.{arith, rules}
+use Rattle.std.proofs.Common.{arith}
 use Rattle.routes_corners.proofs.PortLaws.{below_here, below_told}
 use Rattle.routes_corners.proofs.ports.is_below.Goals as goal
 

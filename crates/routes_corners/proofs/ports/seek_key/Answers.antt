@@ -1,5 +1,5 @@
-use Rattle.std.proofs.Common.{ℕ, ◌-◌, ◌<◌, ◌≤◌, get_or, arith, rules}
-use Rattle.routes_corners.proofs.PortLaws.{all_below, below_more, un_not}
+use Rattle.std.proofs.Common.{arith}
+use Rattle.routes_corners.proofs.PortLaws.{all_below, below_more}
 use Rattle.routes_corners.proofs.ports.seek_key.Goals as goal
 
 pub first_not_below-requires : goal.first_not_below-requires

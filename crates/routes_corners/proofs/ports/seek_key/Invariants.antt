@@ -1,6 +1,5 @@
 -- From a place on, behind keys that are all below.
-use Rattle.std.proofs.Common.{ℕ, ◌-◌, ◌<◌, ◌≤◌, get_or, arith, rules}
-use Rattle.routes_corners.proofs.PortLaws.{all_below, below_more, un_not}
+use Rattle.std.proofs.Common.{ℕ, ◌-◌, ◌<◌, ◌≤◌, get_or}
 use Rattle.routes_corners.proofs.ports.seek_key.Given as goal
 
 abbrev pub invariant-loop-p : goal.invariant-loop-p

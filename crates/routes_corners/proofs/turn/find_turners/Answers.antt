@@ -1,6 +1,6 @@
 -- Classes, flags, then the wires that turn.
 use Rattle.routes_corners.proofs.TurnLaws.{fresh_list, fresh_flags, found_by}
-use Rattle.std.proofs.Common.{◌≡◌, ℕ, length, ◌∙◌, arith, rules}
+use Rattle.std.proofs.Common.{◌≡◌, ℕ, length, ◌∙◌, arith}
 use lib.ListN.{length-replicate}
 use Rattle.routes_corners.proofs.turn.find_turners.Goals as goal
 
@@ -8,19 +8,19 @@ pub class_ports-requires : goal.class_ports-requires
 class_ports-requires c = let p = c.requires in
     let few = p.wires_len_bound.0 in
     let W = length c.args.wires.now in record {
-  ports_low = (p.wires_len_bound.3, few);
-  wires_in_bounds = (p.wires_in_bounds.0, fresh_list W few, fresh_list W few);
-}
+      ports_low = (p.wires_len_bound.3, few);
+      wires_in_bounds = (p.wires_in_bounds.0, fresh_list W few, fresh_list W few);
+    }
 
 pub flag_ports-requires : goal.flag_ports-requires
 flag_ports-requires c = let p = c.requires in
     let few = p.wires_len_bound.0 in
     let k = c.class_ports in
     let W = length c.args.wires.now in record {
-  ported = k.ensures;
-  port_room = record { class_room = omega arith; flag_room = fresh_list W few };
-  u_in_bounds = (p.wires_len_bound.2, fresh_flags W few);
-}
+      ported = k.ensures;
+      port_room = record { class_room = omega arith; flag_room = fresh_list W few };
+      u_in_bounds = (p.wires_len_bound.2, fresh_flags W few);
+    }
 
 pub find_turns-requires : goal.find_turns-requires
 find_turns-requires c = let p = c.requires in

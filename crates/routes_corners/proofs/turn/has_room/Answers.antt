@@ -1,5 +1,5 @@
 -- The three tests.
-use Rattle.std.proofs.Common.{refl, rules}
+use Rattle.std.proofs.Common.{refl}
 use Rattle.routes_corners.specs.Turning.{has_room}
 use Rattle.routes_corners.proofs.turn.has_room.Goals as goal
 

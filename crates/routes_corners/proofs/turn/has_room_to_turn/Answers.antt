@@ -1,14 +1,14 @@
 -- The wires that turn are found as where they are laid, and counted.
-use Rattle.std.proofs.Common.{length, sym, ◌∙◌, rules}
+use Rattle.std.proofs.Common.{length, sym, ◌∙◌}
 use Rattle.routes_corners.proofs.TurnLaws.{fresh_list, room_asked}
 use Rattle.routes_corners.proofs.turn.has_room_to_turn.Goals as goal
 
 pub find_turners-turning-requires : goal.find_turners-turning-requires
 find_turners-turning-requires c = let p = c.requires in
     let long = fresh_list (length c.args.wires.now) p.0 in record {
-  wires_len_bound = (p.0, p.1, p.2, p.5);
-  wires_in_bounds = (long, long);
-}
+      wires_len_bound = (p.0, p.1, p.2, p.5);
+      wires_in_bounds = (long, long);
+    }
 
 pub returns : goal.returns
 returns c = let a = c.args in

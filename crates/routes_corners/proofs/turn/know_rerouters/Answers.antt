@@ -1,4 +1,4 @@
-use Rattle.std.proofs.Common.{◌≡◌, ℕ, ◌-◌, ◌≤◌, subst, add-one, arith, rules}
+use Rattle.std.proofs.Common.{◌≡◌, ℕ, subst, add-one, arith}
 use Rattle.routes.proofs.Rows.{rows_none, rows_more}
 use Rattle.routes.specs.Buffers.{Rows}
 use Rattle.routes_corners.proofs.turn.know_rerouters.Goals as goal

@@ -1,6 +1,5 @@
 -- Row after row.
-use Rattle.std.proofs.Common.{◌≡◌, ℕ, ◌-◌, ◌≤◌, subst, add-one, arith, rules}
-use Rattle.routes.proofs.Rows.{rows_none, rows_more}
+use Rattle.std.proofs.Common.{◌-◌, ◌≤◌}
 use Rattle.routes.specs.Buffers.{Rows}
 use Rattle.routes_corners.proofs.turn.know_rerouters.Given as goal
 

@@ -1,5 +1,5 @@
 -- Decided row by row, and then written.
-use Rattle.std.proofs.Common.{ℕ, ◌∙◌, arith, rules}
+use Rattle.std.proofs.Common.{ℕ, ◌∙◌, arith}
 use lib.ListN.{length-replicate}
 use Rattle.routes_corners.proofs.ByRows.{list_ends, turns_of, laid_by_rows}
 use Rattle.routes_corners.proofs.turn.lay_corners.Goals as goal
@@ -15,10 +15,10 @@ pub write_corners-requires : goal.write_corners-requires
 write_corners-requires c = let room = c.requires.rows_room in
     let turns = c.requires.turns_listed in
     let long = c.decide_corners.auto.answers ∙ length-replicate {A = ℕ} 8192 0 in record {
-  board_fits = c.requires.board_fits;
-  writes_fit = record { list_long = turns.list_long; answers_long = omega arith; listed = room.listed; ends = λ q h. (turns.there q h).ends };
-  write_room = c.requires.write_room;
-}
+      board_fits = c.requires.board_fits;
+      writes_fit = record { list_long = turns.list_long; answers_long = omega arith; listed = room.listed; ends = λ q h. (turns.there q h).ends };
+      write_room = c.requires.write_room;
+    }
 
 pub returns : goal.returns
 returns c = let a = c.args in

@@ -1,6 +1,5 @@
 -- A corner's numbers, read off the tables.
 use Rattle.routes_corners.proofs.Writing.{corner_read}
-use Rattle.std.proofs.Common.{rules}
 use Rattle.routes_corners.proofs.write.corner_at.Goals as goal
 
 pub returns : goal.returns

@@ -1,6 +1,5 @@
 -- A corner pushed at its wire's source port, and the delivery from it.
 use Rattle.routes_corners.proofs.Writing.{corner_written}
-use Rattle.std.proofs.Common.{rules}
 use Rattle.routes_corners.proofs.write.write_corner.Goals as goal
 
 pub returns : goal.returns

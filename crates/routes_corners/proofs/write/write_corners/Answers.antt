@@ -1,5 +1,5 @@
-use Rattle.std.proofs.Common.{◌≡◌, ◌-◌, ◌<◌, length, refl, ◌∙◌, arith}
-use Rattle.routes_corners.proofs.Writing.{Writing, writing_start, writing_one, writing_more, writing_end}
+use Rattle.std.proofs.Common.{refl, ◌∙◌, arith}
+use Rattle.routes_corners.proofs.Writing.{writing_start, writing_one, writing_more, writing_end}
 use Rattle.routes_corners.proofs.write.write_corners.Goals as goal
 
 pub loop-q-init : goal.loop-q-init
@@ -25,10 +25,10 @@ pub write_told-done-requires : goal.write_told-done-requires
 write_told-done-requires c = let a = c.args in
     let k = c.loop-q.q in
     let t = c.loop-q-test.true in record {
-  board_fits = c.requires.board_fits;
-  ends_there = (c.requires.writes_fit.ends k t, c.requires.writes_fit.listed k t);
-  write_room = writing_one a.pages.now a.nodes.now a.wires.now a.facts.now a.list.now a.answers.now a.n a.rerouters.now a.bus_wires.now a.count k _ _ _ c.loop-q.invariant.0 t;
-}
+      board_fits = c.requires.board_fits;
+      ends_there = (c.requires.writes_fit.ends k t, c.requires.writes_fit.listed k t);
+      write_room = writing_one a.pages.now a.nodes.now a.wires.now a.facts.now a.list.now a.answers.now a.n a.rerouters.now a.bus_wires.now a.count k _ _ _ c.loop-q.invariant.0 t;
+    }
 
 pub overflow_add-q : goal.overflow_add-q
 overflow_add-q c = omega (arith, c.loop-q-test.true, c.ranges.n)
@@ -38,8 +38,7 @@ loop-q-smaller c = omega (arith, c.loop-q-test.true)
 
 pub loop-q-preserved : goal.loop-q-preserved
 loop-q-preserved c = let a = c.args in
-    let l = c.loop-q.invariant in
-     (
+    let l = c.loop-q.invariant in (
       writing_more a.pages.now a.nodes.now a.wires.now a.facts.now a.list.now a.answers.now a.n a.rerouters.now a.bus_wires.now a.count c.loop-q.q _ _ _ l.0 c.loop-q-test.true _ _ _ c.write_told-done.ensures,
       (c.write_told-done.auto.rerouters ∙ l.1.0, c.write_told-done.auto.bus_wires ∙ l.1.1),
     )

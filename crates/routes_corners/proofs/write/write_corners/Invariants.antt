@@ -1,6 +1,6 @@
 -- The corners of the wires listed. The loop's invariant: what is written holds the bus with the corners of the wires passed, and there is room for the rest.
-use Rattle.std.proofs.Common.{◌≡◌, ◌-◌, ◌<◌, length, refl, ◌∙◌, arith}
-use Rattle.routes_corners.proofs.Writing.{Writing, writing_start, writing_one, writing_more, writing_end}
+use Rattle.std.proofs.Common.{◌≡◌, ◌-◌, length}
+use Rattle.routes_corners.proofs.Writing.{Writing}
 use Rattle.routes_corners.proofs.write.write_corners.Given as goal
 
 abbrev pub invariant-loop-q : goal.invariant-loop-q

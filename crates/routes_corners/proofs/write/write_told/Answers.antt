@@ -1,6 +1,5 @@
 -- The corner of a wire, by its answer.
 use Rattle.routes_corners.proofs.Writing.{corner_there, none_written, told_written}
-use Rattle.std.proofs.Common.{rules}
 use Rattle.routes_corners.proofs.write.write_told.Goals as goal
 
 pub returns-then-level-eq-MISSING : goal.returns-then-level-eq-MISSING

@@ -1,6 +1,5 @@
 -- `answers_at` meets its contract. Assumes nothing.
 use Rattle.routes_emit.proofs.Steps.{answers_read}
-use borrow.Author.Rules.{rules}
 use Rattle.routes_emit.proofs.answers.answers_at.Goals as goal
 
 pub returns : goal.returns

@@ -1,6 +1,5 @@
 -- `chain_on` meets its contract: one rerouter placed. Assumes nothing.
 use Rattle.routes_emit.proofs.Emitting.{one_place, chained}
-use borrow.Author.Rules.{rules}
 use Rattle.routes_emit.proofs.chain.chain_on.Goals as goal
 
 pub push_bus_node-placed-requires : goal.push_bus_node-placed-requires

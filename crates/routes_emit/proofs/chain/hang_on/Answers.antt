@@ -1,6 +1,5 @@
 -- `hang_on` meets its contract: one rerouter placed. Assumes nothing.
 use Rattle.routes_emit.proofs.Emitting.{one_place, hung}
-use borrow.Author.Rules.{rules}
 use Rattle.routes_emit.proofs.chain.hang_on.Goals as goal
 
 pub push_bus_node-placed-requires : goal.push_bus_node-placed-requires

@@ -1,6 +1,5 @@
 -- `tap_off` meets its contract: one rerouter placed. Assumes nothing.
 use Rattle.routes_emit.proofs.Emitting.{one_place, tapped}
-use borrow.Author.Rules.{rules}
 use Rattle.routes_emit.proofs.chain.tap_off.Goals as goal
 
 pub push_bus_node-placed-requires : goal.push_bus_node-placed-requires

@@ -4,7 +4,6 @@ use Rattle.routes_emit.proofs.Steps.{spends_port, spends_then, becomes_as, becom
 use Rattle.routes_emit.specs.declared.chain.Emission.{Emission}
 use Rattle.routes_taps.specs.Asking.{at_port, group_by}
 use Rattle.routes_emit.specs.Emitting.{Ready, Spends, Becomes, told}
-use borrow.Author.Rules.{rules}
 use Rattle.routes_emit.proofs.group.start_group.Goals as goal
 
 pub with_source-sourced-requires : goal.with_source-sourced-requires
@@ -21,23 +20,23 @@ pub returns-then-answers : goal.returns-then-answers
 returns-then-answers c = let n = c.lane_rerouter in
     let p = c.at_port-begun in
     let a = c.args in record {
-  spends = spends_then _ _ _ _ _ _ _ _ _ 1 1 1 1
+      spends = spends_then _ _ _ _ _ _ _ _ _ 1 1 1 1
           (spends_then _ _ _ _ _ _ _ _ _ 0 0 1 1 (subst (λ (x : Emission). Spends 0 0 a.rerouters.now a.bus_wires.now a.e a.rerouters.now a.bus_wires.now x) (sym p.ensures) (spends_port 0 0 a.rerouters.now a.bus_wires.now a.e a.l)) c.with_source-sourced.ensures.spends)
           c.hang_on.ensures.spends;
-  becomes = λ b ts ps t kn.
+      becomes = λ b ts ps t kn.
           becomes_as _ (λ s. group_by b ts ps (told a.answers) s t) _ _ _ _ _ _
           (becomes_then _ _ _ _ _ _ _ _ _ _ _
           (becomes_then _ _ _ _ _ _ _ _ _ _ _ (subst (λ (x : Emission). Becomes (λ s. at_port b ts ps s t) a.rerouters.now a.bus_wires.now a.e a.rerouters.now a.bus_wires.now x) (sym p.ensures) (becomes_port b ts ps t a.l kn a.rerouters.now a.bus_wires.now a.e)) (c.with_source-sourced.ensures.becomes b ts ps t kn))
           c.hang_on.ensures.becomes)
           (λ s. group_headed b ts ps t a.l kn (told a.answers) s n.result n.ensures c.if-answers.true);
-}
+    }
 
 pub returns : goal.returns
 returns c = let p = c.at_port-begun in
     let a = c.args in record {
-  spends = subst (λ (x : Emission). Spends 2 2 a.rerouters.now a.bus_wires.now a.e a.rerouters.now a.bus_wires.now x) (sym p.ensures) (spends_port 2 2 a.rerouters.now a.bus_wires.now a.e a.l);
-  becomes = λ b ts ps t kn.
+      spends = subst (λ (x : Emission). Spends 2 2 a.rerouters.now a.bus_wires.now a.e a.rerouters.now a.bus_wires.now x) (sym p.ensures) (spends_port 2 2 a.rerouters.now a.bus_wires.now a.e a.l);
+      becomes = λ b ts ps t kn.
           becomes_as _ (λ s. group_by b ts ps (told a.answers) s t) _ _ _ _ _ _
           (subst (λ (x : Emission). Becomes (λ s. at_port b ts ps s t) a.rerouters.now a.bus_wires.now a.e a.rerouters.now a.bus_wires.now x) (sym p.ensures) (becomes_port b ts ps t a.l kn a.rerouters.now a.bus_wires.now a.e))
           (λ s. group_headless b ts ps t a.l kn (told a.answers) s c.if-answers.false);
-}
+    }

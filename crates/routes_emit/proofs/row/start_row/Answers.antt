@@ -7,15 +7,14 @@ use Rattle.routes.specs.declared.levels.Level.TheVariants.{Own}
 use Rattle.routes_taps.specs.Asking.{row_by}
 use Rattle.routes_taps.specs.Taps.{LevelRange}
 use Rattle.routes_emit.specs.Emitting.{Spends, Becomes, told}
-use borrow.Author.Rules.{rules}
 use Rattle.routes_emit.proofs.row.start_row.Goals as goal
 
 pub with_link-linked-requires : goal.with_link-linked-requires
 with_link-linked-requires c = let a = c.args in
     let small : LevelRange (Own c.in-Own.x) = subst LevelRange c.in-Own.is c.requires.level_range in record {
-  ready = (spends_none 1 1 a.rerouters.now a.bus_wires.now a.e).spent 1 1 c.requires.ready;
-  level_bound = small;
-}
+      ready = (spends_none 1 1 a.rerouters.now a.bus_wires.now a.e).spent 1 1 c.requires.ready;
+      level_bound = small;
+    }
 
 pub tap_off-requires : goal.tap_off-requires
 tap_off-requires c = c.with_link-linked.ensures.spends.spent 1 1 c.requires.ready
@@ -23,27 +22,27 @@ tap_off-requires c = c.with_link-linked.ensures.spends.spent 1 1 c.requires.read
 pub returns-in-Dropped : goal.returns-in-Dropped
 returns-in-Dropped c = let a = c.args in
     let g = c.in-Dropped.is in record {
-  spends = spends_none 2 2 a.rerouters.now a.bus_wires.now a.e;
-  becomes = λ b ts ps t kn.
+      spends = spends_none 2 2 a.rerouters.now a.bus_wires.now a.e;
+      becomes = λ b ts ps t kn.
           becomes_as _ (λ s. row_by b ts ps (told a.answers) s t (stop_level_of a.level)) _ _ _ _ _ _ (becomes_none a.rerouters.now a.bus_wires.now a.e)
           (λ s. row_dropped b ts ps t a.l kn (told a.answers) s ∙ ap (λ v. row_by b ts ps (told a.answers) s t (stop_level_of v)) (sym g));
-}
+    }
 
 pub returns-in-Shared : goal.returns-in-Shared
 returns-in-Shared c = let a = c.args in record {
   spends = subst (λ (x : Emission). Spends 2 2 a.rerouters.now a.bus_wires.now a.e a.rerouters.now a.bus_wires.now x) (sym c.share_tap.ensures) (spends_shared 2 2 a.rerouters.now a.bus_wires.now a.e);
   becomes = λ b ts ps t kn.
-          becomes_as _ (λ s. row_by b ts ps (told a.answers) s t (stop_level_of a.level)) _ _ _ _ _ _
-          (subst (λ (x : Emission). Becomes sharing a.rerouters.now a.bus_wires.now a.e a.rerouters.now a.bus_wires.now x) (sym c.share_tap.ensures) (becomes_shared a.rerouters.now a.bus_wires.now a.e))
-          (λ s. row_shared b ts ps t a.l kn (told a.answers) s c.in-Shared.field-0 ∙ ap (λ v. row_by b ts ps (told a.answers) s t (stop_level_of v)) (sym c.in-Shared.is));
+      becomes_as _ (λ s. row_by b ts ps (told a.answers) s t (stop_level_of a.level)) _ _ _ _ _ _
+      (subst (λ (x : Emission). Becomes sharing a.rerouters.now a.bus_wires.now a.e a.rerouters.now a.bus_wires.now x) (sym c.share_tap.ensures) (becomes_shared a.rerouters.now a.bus_wires.now a.e))
+      (λ s. row_shared b ts ps t a.l kn (told a.answers) s c.in-Shared.field-0 ∙ ap (λ v. row_by b ts ps (told a.answers) s t (stop_level_of v)) (sym c.in-Shared.is));
 }
 
 pub returns-in-Own : goal.returns-in-Own
 returns-in-Own c = let n = c.lane_rerouter in
     let a = c.args in record {
-  spends = spends_then _ _ _ _ _ _ _ _ _ 1 1 1 1 c.with_link-linked.ensures.spends c.tap_off.ensures.spends;
-  becomes = λ b ts ps t kn.
+      spends = spends_then _ _ _ _ _ _ _ _ _ 1 1 1 1 c.with_link-linked.ensures.spends c.tap_off.ensures.spends;
+      becomes = λ b ts ps t kn.
           becomes_as _ (λ s. row_by b ts ps (told a.answers) s t (stop_level_of a.level)) _ _ _ _ _ _
           (becomes_then _ _ _ _ _ _ _ _ _ _ _ (c.with_link-linked.ensures.becomes b ts ps t kn) c.tap_off.ensures.becomes)
           (λ s. row_own b ts ps t a.l kn (told a.answers) s c.in-Own.x n.result n.ensures ∙ ap (λ v. row_by b ts ps (told a.answers) s t (stop_level_of v)) (sym c.in-Own.is));
-}
+    }

@@ -1,6 +1,5 @@
 -- `deliver` meets its contract. Assumes nothing.
 use Rattle.routes_emit.proofs.Steps.{delivered}
-use borrow.Author.Rules.{rules}
 use Rattle.routes_emit.proofs.serve.deliver.Goals as goal
 
 pub returns : goal.returns

@@ -1,12 +1,9 @@
 -- `emit_lanes` meets its contract: after k taps the buffers hold their emission. Assumes nothing.
 use Prim.Native.Nat.{◌-◌}
-use mathlib.Core.Path.{◌≡◌, refl, ◌∙◌}
+use mathlib.Core.Path.{◌≡◌}
 use lib.ListN.{length}
 use Rattle.routes_taps.specs.Asking.{told_in}
-use Rattle.routes_taps.proofs.Reaching.{next_in_range}
-use Rattle.routes_emit.proofs.Next.{Come, answers_there, come_start, come_next, come_end, room_for_one}
-use borrow.Author.Rules.{rules}
-use native.Mathlib.Omega.{arith}
+use Rattle.routes_emit.proofs.Next.{Come}
 use Rattle.routes_emit.proofs.walk.emit_lanes.Given as goal
 
 abbrev pub invariant-loop-k : goal.invariant-loop-k

@@ -1,7 +1,7 @@
 -- Planned, laid and settled, by the lengths that are lent.
 use Prim.Native.Nat.{ℕ, ◌≤◌}
 use native.Mathlib.Omega.{arith}
-use mathlib.Core.Path.{◌≡◌, ◌∙◌}
+use mathlib.Core.Path.{◌≡◌}
 use lib.ListN.{length}
 use mathlib.Core.Bool.{Bool}
 use Rattle.board.specs.Board.{Board}
@@ -14,24 +14,18 @@ use Rattle.routes_gutter.specs.Bus.{RowsReady}
 use Rattle.routes_gutter.specs.Calls.{bus_fits, lay_call, BusCalled}
 use Rattle.routes_gutter.specs.declared.bus.BusPlan.TheVariants.{Refused}
 use Rattle.routes_gutter.proofs.Planned.{work_again, rows_ready, bus_lent, lay_refused, lay_done}
-use borrow.Author.Rules.{rules}
-use Rattle.routes_gutter.proofs.bus.lay_bus.Reads as reads
-use Rattle.routes_gutter.proofs.bus.lay_bus.Lts as lts
-use Rattle.routes_gutter.proofs.laying.lay_and_settle.Reads as lay-and-settle-reads
-use Rattle.board_plan.proofs.plan_text.Reads as plan-text-reads
-use Rattle.board_plan.proofs.ask.Reads as ask-reads
 use Rattle.routes_gutter.proofs.bus.lay_bus.Goals as goal
 
 pub plan_text-requires : goal.plan_text-requires
 plan_text-requires c = let a = c.args in
     let q = c.ask-asked in
     let room = asked_room q.result a.records.now a.facts.now a.taps.now a.groups.now a.demands.now a.keys.now a.marks.now q.ensures in record {
-  work_lent = room.0.lent;
-  within_library = room.1;
-}
+      work_lent = room.0.lent;
+      within_library = room.1;
+    }
 
 pub lay_and_settle-laid-requires : goal.lay_and_settle-laid-requires
-lay_and_settle-laid-requires c = 
+lay_and_settle-laid-requires c =
     let asked_of : Asked = c.ask-asked.result in
     let fits-of : Board → Bool = fits_lent (asked_of).lent in
     let plan-of : Planning = planning (asked_of).most (fits-of) c.args.text.now in
@@ -50,7 +44,7 @@ lay_and_settle-laid-requires c =
     ((told).on_board, (told).lanes, (ready).0, (ready).1)
 
 pub returns-in-Refused : goal.returns-in-Refused
-returns-in-Refused c = 
+returns-in-Refused c =
     let asked_of : Asked = c.ask-asked.result in
     let fits-of : Board → Bool = fits_lent (asked_of).lent in
     let plan-of : Planning = planning (asked_of).most (fits-of) c.args.text.now in
@@ -59,7 +53,7 @@ returns-in-Refused c =
     refused-by _ _ (let p = c.plan_text in text_refusal p.new.records p.new.facts p.new.taps p.new.groups _ (fits-of) c.args.text.now p.result p.ensures _ _ c.in-Refused.is)
 
 pub returns-in-Crowded : goal.returns-in-Crowded
-returns-in-Crowded c = 
+returns-in-Crowded c =
     let asked_of : Asked = c.ask-asked.result in
     let fits-of : Board → Bool = fits_lent (asked_of).lent in
     let plan-of : Planning = planning (asked_of).most (fits-of) c.args.text.now in
@@ -74,7 +68,7 @@ pub shape_of-facts-in-Laned : goal.shape_of-facts-in-Laned
 shape_of-facts-in-Laned c = c.plan_text.auto.facts
 
 pub returns-in-Laned : goal.returns-in-Laned
-returns-in-Laned c = 
+returns-in-Laned c =
     let asked_of : Asked = c.ask-asked.result in
     let fits-of : Board → Bool = fits_lent (asked_of).lent in
     let plan-of : Planning = planning (asked_of).most (fits-of) c.args.text.now in

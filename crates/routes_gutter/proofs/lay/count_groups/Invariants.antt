@@ -1,12 +1,9 @@
 -- The groups counted tap by tap.
 use Prim.Native.Nat.{◌-◌, ◌≤◌}
-use mathlib.Core.Path.{◌≡◌, refl, sym, ap, ◌∙◌}
-use native.Mathlib.Omega.{arith}
-use borrow.Author.Rules.{rules}
+use mathlib.Core.Path.{◌≡◌}
 use Rattle.base.specs.Views.{view}
 use Rattle.board.specs.Tables.{tap_in}
 use Rattle.routes.specs.Plan.{group_count}
-use Rattle.routes_gutter.proofs.Loops.{count_new, count_same}
 use Rattle.routes_gutter.proofs.lay.count_groups.Given as goal
 
 abbrev pub invariant-loop-k : goal.invariant-loop-k

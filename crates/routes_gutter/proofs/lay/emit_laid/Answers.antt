@@ -1,10 +1,10 @@
 -- The columns asked for, the rows answered, the lanes emitted by the answers.
-use Prim.Native.Nat.{ℕ, ◌+◌, ◌*◌}
+use Prim.Native.Nat.{ℕ}
 use native.Mathlib.Omega.{arith}
-use mathlib.Core.Path.{◌≡◌, refl, subst}
+use mathlib.Core.Path.{refl, subst}
 use mathlib.Core.List.{List}
 use lib.Dec.{lit≤}
-use lib.ListN.{length, replicate, length-replicate, get_or-replicate}
+use lib.ListN.{replicate, length-replicate, get_or-replicate}
 use Rattle.board.specs.Board.{Board}
 use Rattle.board.specs.Groups.{taps_of}
 use Rattle.board.specs.Demands.{PageLanes}
@@ -17,7 +17,6 @@ use Rattle.routes_taps.specs.Asking.{QuestionsIn}
 use Rattle.routes_gutter.specs.Lay.{LaidReady}
 use Rattle.routes_gutter.proofs.Supply.{few_nodes}
 use Rattle.routes_gutter.proofs.Emitted.{range, board_tables, taps_on_lem, few_taps, room_to_ask, lanes_to_ask, room_to_emit, can_answer, bus_emitted}
-use borrow.Author.Rules.{rules}
 use Rattle.routes_gutter.proofs.lay.emit_laid.Goals as goal
 
 pub ask_taps-requires : goal.ask_taps-requires
@@ -27,7 +26,7 @@ ask_taps-requires c = let l = c.requires.3 in record {
 }
 
 pub answer_rows-requires : goal.answer_rows-requires
-answer_rows-requires c = 
+answer_rows-requires c =
     let questions : List (List ℕ) = c.ask_taps.new.asked in
     let Given : Board → List PageLanes → ℕ → Type 0 = λ b ps m. let a = c.args in
     LaidReady b ps a.pages.now a.nodes.now a.wires.now a.facts.now a.groups.now a.asked.now m a.laid.now a.n a.stops.now a.s a.marks.now a.rerouters.now a.bus_wires.now in
@@ -42,13 +41,13 @@ emit_lanes-requires c = let l = c.requires.3 in
     let few-t = few_taps l in
     let room = room_to_ask l in
     let all = length-replicate {A = ℕ} 20480 0 in record {
-  laid_in_range = range l;
-  room_for_taps = room_to_emit l;
-  n_in_bounds = (omega arith, omega arith);
-}
+      laid_in_range = range l;
+      room_for_taps = room_to_emit l;
+      n_in_bounds = (omega arith, omega arith);
+    }
 
 pub returns : goal.returns
-returns c = 
+returns c =
     let questions : List (List ℕ) = c.ask_taps.new.asked in
     let Given : Board → List PageLanes → ℕ → Type 0 = λ b ps m. let a = c.args in
     LaidReady b ps a.pages.now a.nodes.now a.wires.now a.facts.now a.groups.now a.asked.now m a.laid.now a.n a.stops.now a.s a.marks.now a.rerouters.now a.bus_wires.now in

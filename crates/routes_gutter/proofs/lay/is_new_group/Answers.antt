@@ -1,6 +1,5 @@
 -- A tap begins a group where the tap before it is of another.
 use Rattle.routes_gutter.proofs.Loops.{group_after}
-use borrow.Author.Rules.{rules}
 use Rattle.routes_gutter.proofs.lay.is_new_group.Goals as goal
 
 pub returns : goal.returns

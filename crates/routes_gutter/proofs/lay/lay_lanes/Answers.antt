@@ -14,7 +14,6 @@ use Rattle.routes.specs.Tables.{stop_in}
 use Rattle.routes_gutter.specs.Lay.{LanesReady, LaidReady}
 use Rattle.routes_gutter.proofs.Supply.{laid_are, taps_fit, laid_fits, laid_known, groups_laid}
 use Rattle.routes_gutter.proofs.Emitted.{laid_ready}
-use borrow.Author.Rules.{rules}
 use Rattle.routes_gutter.proofs.lay.lay_lanes.Goals as goal
 
 pub lay_taps-n-requires : goal.lay_taps-n-requires
@@ -24,7 +23,7 @@ lay_taps-n-requires c = let r = c.requires.2 in record {
 }
 
 pub lane_stops-s-requires : goal.lane_stops-s-requires
-lane_stops-s-requires c = 
+lane_stops-s-requires c =
     let rows : List (List ℕ) = c.lay_taps-n.new.laid in
     let Given : Board → List PageLanes → Type 0 = λ b ps. let a = c.args in
     LanesReady b ps a.pages.now a.nodes.now a.wires.now a.facts.now a.groups.now a.taps.now a.m a.laid.now a.stops.now a.marks.now a.rerouters.now a.bus_wires.now in
@@ -35,7 +34,7 @@ lane_stops-s-requires c =
     (laid_fits r (rows) c.lay_taps-n.result few c.lay_taps-n.auto.laid (rows_are g.0 g.1 r), omega arith)
 
 pub emit_laid-count-requires : goal.emit_laid-count-requires
-emit_laid-count-requires c = 
+emit_laid-count-requires c =
     let rows : List (List ℕ) = c.lay_taps-n.new.laid in
     let spare : List (List ℕ) = c.lay_taps-n.new.spare in
     let levels : List (List ℕ) = c.lane_stops-s.new.stops in
@@ -53,7 +52,7 @@ count_groups-requires c = let r = c.requires.2 in
     omega (arith, r.laid_room)
 
 pub returns : goal.returns
-returns c = 
+returns c =
     let rows : List (List ℕ) = c.lay_taps-n.new.laid in
     let Given : Board → List PageLanes → Type 0 = λ b ps. let a = c.args in
     LanesReady b ps a.pages.now a.nodes.now a.wires.now a.facts.now a.groups.now a.taps.now a.m a.laid.now a.stops.now a.marks.now a.rerouters.now a.bus_wires.now in

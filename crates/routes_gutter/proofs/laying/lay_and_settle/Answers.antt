@@ -1,10 +1,5 @@
 -- The lanes laid, then the ports of their deliveries: what is left is the lanes' bus.
 use Rattle.routes_gutter.proofs.Settling.{suppressible, stands}
-use borrow.Author.Rules.{rules}
-use Rattle.routes_gutter.proofs.laying.lay_and_settle.Reads as reads
-use Rattle.routes_gutter.proofs.laying.lay_and_settle.Lts as lts
-use Rattle.routes_gutter.proofs.laying.lay_rows.Reads as lay-rows-reads
-use Rattle.routes_ports.proofs.settle.settle_ports.Reads as settle-ports-reads
 use Rattle.routes_gutter.proofs.laying.lay_and_settle.Goals as goal
 
 pub settle_ports-u-requires : goal.settle_ports-u-requires

@@ -1,9 +1,5 @@
 use mathlib.Core.Path.{refl}
 use Rattle.routes_hits.specs.Hits.{on_board}
-use borrow.Author.Rules.{rules}
-use Rattle.routes_hits.proofs.boxes.is_on_board.Reads as reads
-use Rattle.routes_hits.proofs.boxes.is_on_board.Lts as lts
-use Rattle.routes_hits.proofs.boxes.lifted.Reads as lifted-reads
 use Rattle.routes_hits.proofs.boxes.is_on_board.Goals as goal
 
 pub returns : goal.returns

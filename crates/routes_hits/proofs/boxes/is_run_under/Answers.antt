@@ -4,10 +4,6 @@ use mathlib.Core.Path.{sym}
 use lib.ListN.{get_or}
 use Rattle.routes_hits.proofs.Hitting.{run_rows}
 use borrow.Author.Rules.{rules}
-use Rattle.routes_hits.proofs.boxes.is_run_under.Reads as reads
-use Rattle.routes_hits.proofs.boxes.is_run_under.Lts as lts
-use Rattle.routes_hits.proofs.boxes.lifted.Reads as lifted-reads
-use Rattle.routes_hits.proofs.boxes.meets.Reads as meets-reads
 use Rattle.routes_hits.proofs.boxes.is_run_under.Goals as goal
 
 pub returns : goal.returns

@@ -5,9 +5,6 @@ use lib.ListN.{get_or}
 use Rattle.board.specs.Rows.{cells_overlap}
 use Rattle.routes_hits.proofs.Hitting.{under_row}
 use borrow.Author.Rules.{rules}
-use Rattle.routes_hits.proofs.boxes.is_under.Reads as reads
-use Rattle.routes_hits.proofs.boxes.is_under.Lts as lts
-use Rattle.routes_hits.proofs.boxes.lifted.Reads as lifted-reads
 use Rattle.routes_hits.proofs.boxes.is_under.Goals as goal
 
 pub returns : goal.returns

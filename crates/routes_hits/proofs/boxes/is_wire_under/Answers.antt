@@ -1,9 +1,5 @@
 use Rattle.routes_hits.proofs.Hitting.{port_first, port_second, past_first, past_second, found_both}
 use mathlib.Core.Path.{sym, ◌∙◌}
-use borrow.Author.Rules.{rules}
-use Rattle.routes_hits.proofs.boxes.is_wire_under.Reads as reads
-use Rattle.routes_hits.proofs.boxes.is_wire_under.Lts as lts
-use Rattle.routes_hits.proofs.boxes.is_run_under.Reads as is-run-under-reads
 use Rattle.routes_hits.proofs.boxes.is_wire_under.Goals as goal
 
 pub returns-then-wire : goal.returns-then-wire

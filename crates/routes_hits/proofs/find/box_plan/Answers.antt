@@ -1,10 +1,6 @@
 use mathlib.Core.Path.{sym, ap, ◌∙◌}
 use Rattle.routes_hits.specs.Boxing.{box_plan}
 use Rattle.routes_hits.proofs.Calling.{box_yes, box_no}
-use borrow.Author.Rules.{rules}
-use Rattle.routes_hits.proofs.find.box_plan.Reads as reads
-use Rattle.routes_hits.proofs.find.box_plan.Lts as lts
-use Rattle.routes_hits.proofs.boxes.is_on_board.Reads as is-on-board-reads
 use Rattle.routes_hits.proofs.find.box_plan.Goals as goal
 
 pub returns-in-Refused : goal.returns-in-Refused

@@ -2,7 +2,7 @@
 use Prim.Native.Nat.{ℕ, ◌/◌, min}
 use native.Mathlib.Omega.{arith}
 use mathlib.Core.Path.{◌≡◌, sym, ap, ◌∙◌}
-use mathlib.Core.List.{List, [], ◌∷◌}
+use mathlib.Core.List.{[], ◌∷◌}
 use lib.ListN.{length}
 use Rattle.sheet.specs.declared.Counts.{Counts}
 use Rattle.board_plan.specs.declared.Asked.{Asked}
@@ -11,7 +11,7 @@ use Rattle.board_plan.specs.TextPlan.{asked_for, work_rows, fits_lent}
 use Rattle.board_plan.proofs.Surveying.{LanesTold}
 use Rattle.board_plan.proofs.Calling.{asked_room}
 use Rattle.routes_gutter.proofs.Planned.{work_again}
-use Rattle.routes_gutter.specs.Bus.{BusLent, BusStands}
+use Rattle.routes_gutter.specs.Bus.{BusStands}
 use Rattle.routes.specs.Plan.{finished}
 use Rattle.routes_calls.specs.Finish.{PlanReady}
 use Rattle.routes_calls.proofs.Routing.{plan_ready}
@@ -19,31 +19,22 @@ use Rattle.routes_hits.specs.declared.find.BoxPlan.TheVariants.{Laned}
 use Rattle.routes_hits.specs.Boxing.{box_plan}
 use Rattle.routes_hits.specs.Finding.{HITS_A_WIRE}
 use Rattle.routes_hits.proofs.Calling.{box_refused, box_told, box_call, box_room, nothing_found, list_ready, hits_found}
-use borrow.Author.Rules.{rules}
-use Rattle.routes_hits.proofs.find.find_hits.Reads as reads
-use Rattle.routes_hits.proofs.find.find_hits.Lts as lts
-use Rattle.board_plan.proofs.ask.Reads as ask-reads
-use Rattle.board_plan.proofs.lesser.Reads as lesser-reads
-use Rattle.board_plan.proofs.plan_text.Reads as plan-text-reads
-use Rattle.routes_calls.proofs.route.finish_plan.Reads as finish-plan-reads
-use Rattle.routes_hits.proofs.find.box_plan.Reads as box-plan-reads
-use Rattle.routes_hits.proofs.list.list_hits.Reads as list-hits-reads
 use Rattle.routes_hits.proofs.find.find_hits.Goals as goal
 
 pub plan_text-planned-requires : goal.plan_text-planned-requires
-plan_text-planned-requires c = 
+plan_text-planned-requires c =
     let asked_is : c.ask-asked.result ≡ asked_for (length c.args.rerouters.now ∷ length c.args.bus_wires.now ∷ min (length c.args.ports.now) (length c.args.hits.now / HITS_A_WIRE) ∷ length c.args.answers.now ∷ []) (work_rows c.args.records.now c.args.facts.now c.args.taps.now c.args.groups.now c.args.demands.now c.args.keys.now c.args.marks.now) = let a = c.args in
     c.ask-asked.ensures
     ∙ ap (λ (z : ℕ). asked_for (length a.rerouters.now ∷ length a.bus_wires.now ∷ z ∷ length a.answers.now ∷ []) (work_rows a.records.now a.facts.now a.taps.now a.groups.now a.demands.now a.keys.now a.marks.now))
     c.lesser.ensures in
     let a = c.args in
     let room = asked_room c.ask-asked.result a.records.now a.facts.now a.taps.now a.groups.now a.demands.now a.keys.now a.marks.now (asked_is) in record {
-  work_lent = room.0.lent;
-  within_library = room.1;
-}
+      work_lent = room.0.lent;
+      within_library = room.1;
+    }
 
 pub finish_plan-laid-requires : goal.finish_plan-laid-requires
-finish_plan-laid-requires c = 
+finish_plan-laid-requires c =
     let asked_is : c.ask-asked.result ≡ asked_for (length c.args.rerouters.now ∷ length c.args.bus_wires.now ∷ min (length c.args.ports.now) (length c.args.hits.now / HITS_A_WIRE) ∷ length c.args.answers.now ∷ []) (work_rows c.args.records.now c.args.facts.now c.args.taps.now c.args.groups.now c.args.demands.now c.args.keys.now c.args.marks.now) = let a = c.args in
     c.ask-asked.ensures
     ∙ ap (λ (z : ℕ). asked_for (length a.rerouters.now ∷ length a.bus_wires.now ∷ z ∷ length a.answers.now ∷ []) (work_rows a.records.now a.facts.now a.taps.now a.groups.now a.demands.now a.keys.now a.marks.now))
@@ -74,7 +65,7 @@ finish_plan-laid-requires c =
     ((told).on_board, (told).lanes, ready)
 
 pub list_hits-found-requires : goal.list_hits-found-requires
-list_hits-found-requires c = 
+list_hits-found-requires c =
     let asked_is : c.ask-asked.result ≡ asked_for (length c.args.rerouters.now ∷ length c.args.bus_wires.now ∷ min (length c.args.ports.now) (length c.args.hits.now / HITS_A_WIRE) ∷ length c.args.answers.now ∷ []) (work_rows c.args.records.now c.args.facts.now c.args.taps.now c.args.groups.now c.args.demands.now c.args.keys.now c.args.marks.now) = let a = c.args in
     c.ask-asked.ensures
     ∙ ap (λ (z : ℕ). asked_for (length a.rerouters.now ∷ length a.bus_wires.now ∷ z ∷ length a.answers.now ∷ []) (work_rows a.records.now a.facts.now a.taps.now a.groups.now a.demands.now a.keys.now a.marks.now))
@@ -133,7 +124,7 @@ pub shape_of-marks-in-Refused : goal.shape_of-marks-in-Refused
 shape_of-marks-in-Refused c = c.plan_text-planned.auto.spare
 
 pub returns-in-Refused : goal.returns-in-Refused
-returns-in-Refused c = 
+returns-in-Refused c =
     let asked_is : c.ask-asked.result ≡ asked_for (length c.args.rerouters.now ∷ length c.args.bus_wires.now ∷ min (length c.args.ports.now) (length c.args.hits.now / HITS_A_WIRE) ∷ length c.args.answers.now ∷ []) (work_rows c.args.records.now c.args.facts.now c.args.taps.now c.args.groups.now c.args.demands.now c.args.keys.now c.args.marks.now) = let a = c.args in
     c.ask-asked.ensures
     ∙ ap (λ (z : ℕ). asked_for (length a.rerouters.now ∷ length a.bus_wires.now ∷ z ∷ length a.answers.now ∷ []) (work_rows a.records.now a.facts.now a.taps.now a.groups.now a.demands.now a.keys.now a.marks.now))
@@ -165,7 +156,7 @@ pub shape_of-marks-in-Laned : goal.shape_of-marks-in-Laned
 shape_of-marks-in-Laned c = c.finish_plan-laid.auto.marks ∙ c.plan_text-planned.auto.spare
 
 pub returns-in-Laned : goal.returns-in-Laned
-returns-in-Laned c = 
+returns-in-Laned c =
     let asked_is : c.ask-asked.result ≡ asked_for (length c.args.rerouters.now ∷ length c.args.bus_wires.now ∷ min (length c.args.ports.now) (length c.args.hits.now / HITS_A_WIRE) ∷ length c.args.answers.now ∷ []) (work_rows c.args.records.now c.args.facts.now c.args.taps.now c.args.groups.now c.args.demands.now c.args.keys.now c.args.marks.now) = let a = c.args in
     c.ask-asked.ensures
     ∙ ap (λ (z : ℕ). asked_for (length a.rerouters.now ∷ length a.bus_wires.now ∷ z ∷ length a.answers.now ∷ []) (work_rows a.records.now a.facts.now a.taps.now a.groups.now a.demands.now a.keys.now a.marks.now))

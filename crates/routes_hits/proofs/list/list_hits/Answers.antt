@@ -1,13 +1,7 @@
-use Prim.Native.Nat.{◌+◌, ◌*◌, ◌≤◌}
 use native.Mathlib.Omega.{arith}
 use Rattle.base.specs.Views.{view}
 use Rattle.routes.specs.Buffers.{rerouter_in, wire_in}
 use Rattle.routes_hits.proofs.Listing.{hits_listed}
-use borrow.Author.Rules.{rules}
-use Rattle.routes_hits.proofs.list.list_hits.Reads as reads
-use Rattle.routes_hits.proofs.list.list_hits.Lts as lts
-use Rattle.routes_hits.proofs.list.put_rerouters.Reads as put-rerouters-reads
-use Rattle.routes_hits.proofs.list.put_wires.Reads as put-wires-reads
 use Rattle.routes_hits.proofs.list.list_hits.Goals as goal
 
 pub returns : goal.returns

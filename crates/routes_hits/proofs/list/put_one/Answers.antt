@@ -1,7 +1,4 @@
 use Rattle.sheet.proofs.Writing.{wrote_byte}
-use borrow.Author.Rules.{rules}
-use Rattle.routes_hits.proofs.list.put_one.Reads as reads
-use Rattle.routes_hits.proofs.list.put_one.Lts as lts
 use Rattle.routes_hits.proofs.list.put_one.Goals as goal
 
 pub returns : goal.returns

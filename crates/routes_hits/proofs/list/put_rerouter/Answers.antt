@@ -5,12 +5,6 @@ use Rattle.sheet.proofs.Writing.{wrote_nothing}
 use mathlib.Core.Bool.{true, false}
 use mathlib.Core.Path.{◌≡◌, sym, ◌∙◌}
 use native.Mathlib.Omega.{arith}
-use Prim.Native.Nat.{◌+◌, ◌≤◌}
-use borrow.Author.Rules.{rules}
-use Rattle.routes_hits.proofs.list.put_rerouter.Reads as reads
-use Rattle.routes_hits.proofs.list.put_rerouter.Lts as lts
-use Rattle.routes_hits.proofs.boxes.is_under.Reads as is-under-reads
-use Rattle.routes_hits.proofs.list.put_three.Reads as put-three-reads
 use Rattle.routes_hits.proofs.list.put_rerouter.Goals as goal
 
 pub returns-then-is_under : goal.returns-then-is_under

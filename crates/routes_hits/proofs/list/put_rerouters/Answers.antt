@@ -1,17 +1,10 @@
-use Prim.Native.Nat.{ℕ, ◌+◌, ◌*◌, ◌-◌, ◌≤◌}
 use native.Mathlib.Omega.{arith}
 use mathlib.Core.Path.{◌≡◌, refl}
 use lib.ListN.{length}
 use borrow.Author.Rules.{rules}
-use Rattle.base.specs.Views.{view}
-use Rattle.sheet.specs.Written.{Wrote}
 use Rattle.sheet.proofs.Writing.{wrote_nothing}
-use Rattle.routes.specs.Buffers.{rerouter_in}
 use Rattle.routes_hits.specs.Hits.{rerouters_hit}
 use Rattle.routes_hits.proofs.Listing.{rerouters_step}
-use Rattle.routes_hits.proofs.list.put_rerouters.Reads as reads
-use Rattle.routes_hits.proofs.list.put_rerouters.Lts as lts
-use Rattle.routes_hits.proofs.list.put_rerouter.Reads as put-rerouter-reads
 use Rattle.routes_hits.proofs.list.put_rerouters.Goals as goal
 
 pub loop-i-init : goal.loop-i-init

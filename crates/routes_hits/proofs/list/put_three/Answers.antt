@@ -1,8 +1,4 @@
 use Rattle.routes_hits.proofs.Listing.{wrote_three}
-use borrow.Author.Rules.{rules}
-use Rattle.routes_hits.proofs.list.put_three.Reads as reads
-use Rattle.routes_hits.proofs.list.put_three.Lts as lts
-use Rattle.routes_hits.proofs.list.put_one.Reads as put-one-reads
 use Rattle.routes_hits.proofs.list.put_three.Goals as goal
 
 pub returns : goal.returns

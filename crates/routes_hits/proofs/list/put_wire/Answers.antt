@@ -8,12 +8,6 @@ use mathlib.Core.List.{List}
 use mathlib.Core.Bool.{true, false}
 use mathlib.Core.Path.{◌≡◌, sym, ◌∙◌}
 use native.Mathlib.Omega.{arith}
-use Prim.Native.Nat.{◌+◌, ◌≤◌}
-use borrow.Author.Rules.{rules}
-use Rattle.routes_hits.proofs.list.put_wire.Reads as reads
-use Rattle.routes_hits.proofs.list.put_wire.Lts as lts
-use Rattle.routes_hits.proofs.boxes.is_wire_under.Reads as is-wire-under-reads
-use Rattle.routes_hits.proofs.list.put_one.Reads as put-one-reads
 use Rattle.routes_hits.proofs.list.put_wire.Goals as goal
 
 pub returns-then-is_wire_under : goal.returns-then-is_wire_under

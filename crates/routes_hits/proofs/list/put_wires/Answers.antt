@@ -1,17 +1,12 @@
-use Prim.Native.Nat.{ℕ, ◌+◌, ◌-◌, ◌≤◌}
 use native.Mathlib.Omega.{arith}
 use mathlib.Core.Path.{◌≡◌, refl}
 use lib.ListN.{length}
 use borrow.Author.Rules.{rules}
 use Rattle.base.specs.Views.{view}
-use Rattle.sheet.specs.Written.{Wrote}
 use Rattle.sheet.proofs.Writing.{wrote_nothing}
-use Rattle.routes.specs.Buffers.{rerouter_in, wire_in}
+use Rattle.routes.specs.Buffers.{rerouter_in}
 use Rattle.routes_hits.specs.Hits.{wires_hit}
 use Rattle.routes_hits.proofs.Listing.{wires_step}
-use Rattle.routes_hits.proofs.list.put_wires.Reads as reads
-use Rattle.routes_hits.proofs.list.put_wires.Lts as lts
-use Rattle.routes_hits.proofs.list.put_wire.Reads as put-wire-reads
 use Rattle.routes_hits.proofs.list.put_wires.Goals as goal
 
 pub loop-i-init : goal.loop-i-init

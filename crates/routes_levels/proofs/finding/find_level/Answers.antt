@@ -1,7 +1,6 @@
 -- The level picked, else base.
 use mathlib.Core.Path.{sym, ◌∙◌}
 use Rattle.routes_levels.proofs.Picking.{find_picked, find_at_base, find_none}
-use borrow.Author.Rules.{rules}
 use Rattle.routes_levels.proofs.finding.find_level.Goals as goal
 
 pub returns-in-At : goal.returns-in-At

@@ -1,6 +1,5 @@
 -- A window made, weighed and looked along.
 use Rattle.routes_levels.proofs.WindowLaws.{zero_window}
-use borrow.Author.Rules.{rules}
 use Rattle.routes_levels.proofs.finding.free_in_many.Goals as goal
 
 pub weigh_window-requires : goal.weigh_window-requires

@@ -1,9 +1,8 @@
-use Prim.Native.Nat.{◌+◌, ◌-◌, ◌≤◌}
+use Prim.Native.Nat.{◌+◌, ◌-◌}
 use native.Mathlib.Omega.{arith}
 use mathlib.Core.Path.{◌≡◌, refl}
 use Rattle.routes_levels.specs.Search.{load_in, open_in, Best}
 use Rattle.routes_levels.proofs.Searches.{best_start, best_all}
-use borrow.Author.Rules.{rules}
 use Rattle.routes_levels.proofs.finding.least_loaded.Goals as goal
 
 pub loop-k-init : goal.loop-k-init

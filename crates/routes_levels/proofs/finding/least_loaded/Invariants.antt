@@ -1,10 +1,6 @@
 -- Window after window, from the highest down. The invariant: the best of the levels from the k-th on.
-use Prim.Native.Nat.{◌+◌, ◌-◌, ◌≤◌}
-use native.Mathlib.Omega.{arith}
-use mathlib.Core.Path.{◌≡◌, refl}
+use Prim.Native.Nat.{◌≤◌}
 use Rattle.routes_levels.specs.Search.{load_in, open_in, Best}
-use Rattle.routes_levels.proofs.Searches.{best_start, best_all}
-use borrow.Author.Rules.{rules}
 use Rattle.routes_levels.proofs.finding.least_loaded.Given as goal
 
 abbrev pub invariant-loop-k : goal.invariant-loop-k

@@ -1,12 +1,11 @@
-use Prim.Native.Nat.{◌*◌, ◌+◌, ◌-◌, ◌≤◌}
+use Prim.Native.Nat.{◌*◌, ◌+◌, ◌-◌}
 use native.Mathlib.Omega.{arith}
-use mathlib.Core.Path.{◌≡◌, sym, ap, ◌∙◌}
+use mathlib.Core.Path.{sym, ap, ◌∙◌}
 use Rattle.routes.specs.Levels.{STAGGER_STEP, lowest}
 use Rattle.routes_levels.specs.Laying.{level_answer}
 use Rattle.routes_levels.specs.Search.{free_in}
 use Rattle.routes_levels.proofs.Searches.{found_at, found_none}
 use Rattle.routes_levels.proofs.WindowLaws.{past_none, in_window, past_more, past_all}
-use borrow.Author.Rules.{rules}
 use Rattle.routes_levels.proofs.finding.lowest_free.Goals as goal
 
 pub loop-done-init : goal.loop-done-init

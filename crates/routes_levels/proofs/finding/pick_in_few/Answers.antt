@@ -1,6 +1,5 @@
 -- A window made, weighed, and one of its levels picked.
 use Rattle.routes_levels.proofs.WindowLaws.{zero_window}
-use borrow.Author.Rules.{rules}
 use Rattle.routes_levels.proofs.finding.pick_in_few.Goals as goal
 
 pub weigh_window-requires : goal.weigh_window-requires

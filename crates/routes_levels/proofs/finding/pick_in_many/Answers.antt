@@ -1,7 +1,6 @@
 -- The lowest free level, else the least loaded.
 use mathlib.Core.Path.{sym, ◌∙◌}
 use Rattle.routes_levels.proofs.Picking.{picked_low, picked_light}
-use borrow.Author.Rules.{rules}
 use Rattle.routes_levels.proofs.finding.pick_in_many.Goals as goal
 
 pub returns-in-At : goal.returns-in-At

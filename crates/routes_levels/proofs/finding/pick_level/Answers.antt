@@ -2,7 +2,6 @@
 use native.Mathlib.Omega.{arith}
 use mathlib.Core.Path.{sym, ◌∙◌}
 use Rattle.routes_levels.proofs.Picking.{picked_first}
-use borrow.Author.Rules.{rules}
 use Rattle.routes_levels.proofs.finding.pick_level.Goals as goal
 
 pub returns-in-At : goal.returns-in-At

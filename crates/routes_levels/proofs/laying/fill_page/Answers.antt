@@ -1,19 +1,8 @@
-use Prim.Native.Nat.{◌+◌, ◌-◌, ◌<◌, ◌≤◌}
+use Prim.Native.Nat.{◌+◌, ◌<◌, ◌≤◌}
 use native.Mathlib.Omega.{arith}
-use mathlib.Core.Path.{◌≡◌, refl, sym, ◌∙◌}
-use mathlib.Core.List.{List}
-use lib.ListN.{length}
-use Rattle.base.specs.Views.{view}
-use Rattle.board.specs.Board.{Board, field}
-use Rattle.board.specs.Demands.{PageLanes}
-use Rattle.board.specs.Tables.{tap_in}
-use Rattle.routes.specs.Levels.{stops_of}
-use Rattle.routes.specs.Tables.{stop_in}
-use Rattle.routes_levels.specs.Laying.{StopIndex, LaidFacts}
-use Rattle.routes_levels.specs.Pages.{PageRuns, Used}
+use mathlib.Core.Path.{refl, sym, ◌∙◌}
 use Rattle.routes_levels.proofs.LayLaws.{stops_all}
 use Rattle.routes_levels.proofs.Paging.{fits_fewer, facts_fewer, index_fewer, index_kept, page_same, page_room_lem, page_used, used_none}
-use borrow.Author.Rules.{rules}
 use Rattle.routes_levels.proofs.laying.fill_page.Goals as goal
 
 pub loop-k-init : goal.loop-k-init
@@ -25,10 +14,10 @@ lay_tap-count-requires c = let l = c.loop-k in
     let h : l.k < c.args.e = omega (arith, c.loop-k-test.true) in
     let m : l.k + 1 ≤ c.args.e = omega arith in
     let same = c.requires.laid_fits.1.same l.k i.0 h in record {
-  laid_fits = fits_fewer m c.requires.laid_fits.0;
-  stop_index = (index_fewer m i.4, i.2);
-  page_runs = (page_same (sym same) i.5, page_room_lem c.args.groups.now c.args.laid.now c.args.a l.k c.args.starts.now l.nexts i.0 c.args.e h c.requires.laid_fits.0.places c.requires.wide.0 i.6);
-}
+      laid_fits = fits_fewer m c.requires.laid_fits.0;
+      stop_index = (index_fewer m i.4, i.2);
+      page_runs = (page_same (sym same) i.5, page_room_lem c.args.groups.now c.args.laid.now c.args.a l.k c.args.starts.now l.nexts i.0 c.args.e h c.requires.laid_fits.0.places c.requires.wide.0 i.6);
+    }
 
 pub loop-k-preserved : goal.loop-k-preserved
 loop-k-preserved c = let l = c.loop-k in
@@ -37,8 +26,7 @@ loop-k-preserved c = let l = c.loop-k in
     let m : l.k + 1 ≤ c.args.e = omega arith in
     let same = c.requires.laid_fits.1.same l.k i.0 h in
     let tap = c.lay_tap-count in
-    let laid = tap.ensures.stop_laid in
-    (
+    let laid = tap.ensures.stop_laid in (
       omega (arith, i.0),
       m,
       tap.ensures.upper_bound.0,
@@ -64,6 +52,6 @@ shape_of-xs c = c.loop-k.invariant.3.3
 pub returns : goal.returns
 returns c = let l = c.loop-k in
     let i = l.invariant in record {
-  stop_index_2 = (i.4, i.5.later);
-  upper_bound = (omega (arith, i.2, i.1), λ b ps f g. stops_all b ps _ _ _ _ i.1 c.loop-k-test.false (i.7 b ps f g));
-}
+      stop_index_2 = (i.4, i.5.later);
+      upper_bound = (omega (arith, i.2, i.1), λ b ps f g. stops_all b ps _ _ _ _ i.1 c.loop-k-test.false (i.7 b ps f g));
+    }

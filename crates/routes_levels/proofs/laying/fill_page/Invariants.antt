@@ -1,7 +1,6 @@
 -- The stops of a page, tap by tap. The invariant: the stops so far are those of the taps passed, and the runs hold what they keep.
-use Prim.Native.Nat.{◌+◌, ◌-◌, ◌<◌, ◌≤◌}
-use native.Mathlib.Omega.{arith}
-use mathlib.Core.Path.{◌≡◌, refl, sym, ◌∙◌}
+use Prim.Native.Nat.{◌-◌, ◌≤◌}
+use mathlib.Core.Path.{◌≡◌}
 use mathlib.Core.List.{List}
 use lib.ListN.{length}
 use Rattle.base.specs.Views.{view}
@@ -12,9 +11,6 @@ use Rattle.routes.specs.Levels.{stops_of}
 use Rattle.routes.specs.Tables.{stop_in}
 use Rattle.routes_levels.specs.Laying.{StopIndex, LaidFacts}
 use Rattle.routes_levels.specs.Pages.{PageRuns, Used}
-use Rattle.routes_levels.proofs.LayLaws.{stops_all}
-use Rattle.routes_levels.proofs.Paging.{fits_fewer, facts_fewer, index_fewer, index_kept, page_same, page_room_lem, page_used, used_none}
-use borrow.Author.Rules.{rules}
 use Rattle.routes_levels.proofs.laying.fill_page.Given as goal
 
 abbrev pub invariant-loop-k : goal.invariant-loop-k

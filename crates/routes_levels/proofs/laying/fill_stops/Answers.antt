@@ -1,16 +1,5 @@
-use Prim.Native.Nat.{◌-◌, ◌<◌, ◌≤◌}
 use native.Mathlib.Omega.{arith}
-use mathlib.Core.Path.{◌≡◌, refl, ◌∙◌}
-use mathlib.Core.List.{List}
-use lib.ListN.{length}
-use Rattle.base.specs.Views.{view}
-use Rattle.board.specs.Board.{Board, field}
-use Rattle.board.specs.Demands.{PageLanes}
-use Rattle.board.specs.Tables.{tap_in}
-use Rattle.routes.specs.Levels.{stops_of}
-use Rattle.routes.specs.Tables.{stop_in}
-use Rattle.routes_levels.specs.Laying.{StopIndex, LaidFacts}
-use Rattle.routes_levels.specs.Pages.{NoneFrom}
+use mathlib.Core.Path.{refl, ◌∙◌}
 use Rattle.routes_levels.proofs.LayLaws.{no_stops, stops_all}
 use Rattle.routes_levels.proofs.PageLaws.{none_yet}
 use Rattle.routes_levels.proofs.Paging.{fits_fewer, facts_fewer, index_fewer, index_kept, next_page}
@@ -26,10 +15,10 @@ pub lay_page-count-requires : goal.lay_page-count-requires
 lay_page-count-requires c = let l = c.loop-k in
     let i = l.invariant in
     let p = c.page_end-e.ensures in record {
-  laid_fits = (fits_fewer p.1 c.requires.0, p.2, omega (arith, p.0));
-  stop_index = (index_fewer p.1 i.3, i.1);
-  none_from = i.4 (omega (arith, c.loop-k-test.true));
-}
+      laid_fits = (fits_fewer p.1 c.requires.0, p.2, omega (arith, p.0));
+      stop_index = (index_fewer p.1 i.3, i.1);
+      none_from = i.4 (omega (arith, c.loop-k-test.true));
+    }
 
 pub loop-k-smaller : goal.loop-k-smaller
 loop-k-smaller c = omega (arith, c.page_end-e.ensures.0, c.page_end-e.ensures.1)
@@ -38,8 +27,7 @@ pub loop-k-preserved : goal.loop-k-preserved
 loop-k-preserved c = let l = c.loop-k in
     let i = l.invariant in
     let p = c.page_end-e.ensures in
-    let page = c.lay_page-count in
-    (
+    let page = c.lay_page-count in (
       p.1,
       page.ensures.upper_bound.0,
       (c.lay_page-count.auto.stops ∙ i.2.0, c.lay_page-count.auto.ends ∙ i.2.1),

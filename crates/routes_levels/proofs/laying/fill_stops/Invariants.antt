@@ -1,7 +1,6 @@
 -- The stops of the laid taps, page by page. The invariant: the stops so far are those of the taps passed, and none is of the page that comes.
 use Prim.Native.Nat.{◌-◌, ◌<◌, ◌≤◌}
-use native.Mathlib.Omega.{arith}
-use mathlib.Core.Path.{◌≡◌, refl, ◌∙◌}
+use mathlib.Core.Path.{◌≡◌}
 use mathlib.Core.List.{List}
 use lib.ListN.{length}
 use Rattle.base.specs.Views.{view}
@@ -12,9 +11,6 @@ use Rattle.routes.specs.Levels.{stops_of}
 use Rattle.routes.specs.Tables.{stop_in}
 use Rattle.routes_levels.specs.Laying.{StopIndex, LaidFacts}
 use Rattle.routes_levels.specs.Pages.{NoneFrom}
-use Rattle.routes_levels.proofs.LayLaws.{no_stops, stops_all}
-use Rattle.routes_levels.proofs.PageLaws.{none_yet}
-use Rattle.routes_levels.proofs.Paging.{fits_fewer, facts_fewer, index_fewer, index_kept, next_page}
 use Rattle.routes_levels.proofs.laying.fill_stops.Given as goal
 
 abbrev pub invariant-loop-k : goal.invariant-loop-k

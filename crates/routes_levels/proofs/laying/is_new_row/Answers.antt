@@ -3,7 +3,6 @@ use Rattle.board.specs.Tables.{tap_in}
 use lib.ListN.{get_or}
 use mathlib.Core.List.{[]}
 use Rattle.routes_levels.proofs.LayLaws.{group_differs, row_decides}
-use borrow.Author.Rules.{rules}
 use Rattle.routes_levels.proofs.laying.is_new_row.Goals as goal
 
 pub returns-then-before-tap : goal.returns-then-before-tap

@@ -3,7 +3,6 @@ use mathlib.Core.Path.{sym, ap, ◌∙◌}
 use Rattle.routes.specs.Levels.{kept_at}
 use Rattle.routes_levels.specs.Laying.{level_answer}
 use Rattle.routes_levels.proofs.EndLaws.{dropped_is, shared_is, own_is}
-use borrow.Author.Rules.{rules}
 use Rattle.routes_levels.proofs.laying.kept_at.Goals as goal
 
 pub returns-in-Dropped : goal.returns-in-Dropped

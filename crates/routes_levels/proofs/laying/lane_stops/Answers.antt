@@ -4,7 +4,6 @@ use mathlib.Core.Path.{refl}
 use lib.Dec.{lit≤}
 use lib.ListN.{replicate}
 use Rattle.routes_levels.proofs.LayLaws.{no_index, zero_rows}
-use borrow.Author.Rules.{rules}
 use Rattle.routes_levels.proofs.laying.lane_stops.Goals as goal
 
 pub fill_stops-requires : goal.fill_stops-requires

@@ -2,7 +2,6 @@
 use mathlib.Core.Path.{sym, ◌∙◌}
 use Rattle.board.specs.Tables.{tap_in}
 use Rattle.routes_levels.proofs.EndLaws.{level_shared, level_own, level_dropped}
-use borrow.Author.Rules.{rules}
 use Rattle.routes_levels.proofs.laying.level_of.Goals as goal
 
 pub returns-then-end-base : goal.returns-then-end-base

@@ -4,7 +4,6 @@ use mathlib.Core.Path.{refl, sym, ap, ◌∙◌}
 use Rattle.routes.specs.Levels.{kept_at}
 use Rattle.routes_levels.proofs.Searches.{found_at, found_none}
 use Rattle.routes_levels.proofs.EndLaws.{ends_kept, ends_dropped}
-use borrow.Author.Rules.{rules}
 use Rattle.routes_levels.proofs.laying.note_end.Goals as goal
 
 pub returns-in-At : goal.returns-in-At

@@ -1,7 +1,6 @@
 -- A stop's row, read back.
 use mathlib.Core.Path.{sym, ◌∙◌}
 use Rattle.routes_levels.proofs.EndLaws.{dropped_is, shared_is, own_is, stop_with_lem}
-use borrow.Author.Rules.{rules}
 use Rattle.routes_levels.proofs.laying.stop_row.Goals as goal
 
 pub returns-in-Dropped : goal.returns-in-Dropped

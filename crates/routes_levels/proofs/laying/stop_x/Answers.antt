@@ -2,7 +2,6 @@
 use mathlib.Core.Path.{sym, ◌∙◌}
 use native.Mathlib.Omega.{arith}
 use Rattle.routes_levels.proofs.EndLaws.{stop_first, stop_shares, stop_apart}
-use borrow.Author.Rules.{rules}
 use Rattle.routes_levels.proofs.laying.stop_x.Goals as goal
 
 pub returns-then-previous-eq0 : goal.returns-then-previous-eq0

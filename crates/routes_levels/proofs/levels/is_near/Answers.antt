@@ -1,6 +1,5 @@
 -- Two x under 2 apart, by their difference.
 use Rattle.routes_levels.proofs.EndLaws.{near_less, near_more}
-use borrow.Author.Rules.{rules}
 use Rattle.routes_levels.proofs.levels.is_near.Goals as goal
 
 pub returns-then-x-p : goal.returns-then-x-p

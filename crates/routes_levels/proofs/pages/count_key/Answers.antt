@@ -2,7 +2,6 @@
 use native.Mathlib.Numerals.{add-one}
 use mathlib.Core.Path.{ap}
 use lib.ListN.{get_or, set}
-use borrow.Author.Rules.{rules}
 use Rattle.routes_levels.proofs.pages.count_key.Goals as goal
 
 pub returns : goal.returns

@@ -1,12 +1,10 @@
-use Prim.Native.Nat.{ℕ, ◌*◌, ◌-◌, ◌<◌, ◌≤◌}
+use Prim.Native.Nat.{ℕ, ◌-◌, ◌<◌, ◌≤◌}
 use native.Mathlib.Omega.{arith}
 use mathlib.Core.Path.{◌≡◌, refl, ap, ◌∙◌}
 use lib.ListN.{length, get_or}
-use Rattle.base.specs.Runs.{sums}
 use Rattle.board.specs.Board.{field}
 use Rattle.routes_levels.specs.Pages.{lane_key, share}
 use Rattle.routes_levels.proofs.ShareLaws.{share_most, counts_start, sums_start, counts_turn, sums_turn, bumped_most}
-use borrow.Author.Rules.{rules}
 use Rattle.routes_levels.proofs.pages.count_taps.Goals as goal
 
 pub loop-i-init : goal.loop-i-init
@@ -70,6 +68,6 @@ shape_of-counts c = c.loop-i.invariant.2
 pub returns : goal.returns
 returns c = let l = c.loop-i in
     let z : l.i - c.args.a ≡ c.args.e - c.args.a = omega (arith, l.invariant.1, c.loop-i-test.false) in record {
-  by_index = λ k. l.invariant.3 k ∙ ap (share c.args.groups.now c.args.laid.now c.args.a k) z;
-  by_index_2 = λ n. omega (arith, l.invariant.4 n, z);
-}
+      by_index = λ k. l.invariant.3 k ∙ ap (share c.args.groups.now c.args.laid.now c.args.a k) z;
+      by_index_2 = λ n. omega (arith, l.invariant.4 n, z);
+    }

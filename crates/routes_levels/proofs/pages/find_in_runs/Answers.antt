@@ -1,9 +1,7 @@
 -- The runs of a row and a lane lent to the finder.
-use Prim.Native.Nat.{◌-◌}
 use native.Mathlib.Omega.{arith}
 use lib.ListN.{get_or}
 use Rattle.routes_levels.proofs.PageLaws.{run_inside, part_few, walked}
-use borrow.Author.Rules.{rules}
 use Rattle.routes_levels.proofs.pages.find_in_runs.Goals as goal
 
 pub overflow_cast-row_start : goal.overflow_cast-row_start

@@ -1,8 +1,5 @@
-use Prim.Native.Nat.{◌-◌, ◌<◌, ◌≤◌}
 use native.Mathlib.Omega.{arith}
-use Rattle.routes_levels.specs.Pages.{OnePage}
 use Rattle.routes_levels.proofs.PageLaws.{page_one, page_more}
-use borrow.Author.Rules.{rules}
 use Rattle.routes_levels.proofs.pages.page_end.Goals as goal
 
 pub loop-e-init : goal.loop-e-init

@@ -1,9 +1,6 @@
 -- The page of a tap goes on as long as its number does. The invariant: the taps passed are of that page.
 use Prim.Native.Nat.{◌-◌, ◌<◌, ◌≤◌}
-use native.Mathlib.Omega.{arith}
 use Rattle.routes_levels.specs.Pages.{OnePage}
-use Rattle.routes_levels.proofs.PageLaws.{page_one, page_more}
-use borrow.Author.Rules.{rules}
 use Rattle.routes_levels.proofs.pages.page_end.Given as goal
 
 abbrev pub invariant-loop-e : goal.invariant-loop-e

@@ -1,11 +1,9 @@
 -- `copy_along` meets its contract: the front copied grows by one with each turn. Assumes nothing.
-use native.Mathlib.Omega.{arith}
-use Prim.Native.Nat.{◌%◌, ◌-◌, ◌≤◌, ◌<◌}
-use mathlib.Core.Path.{◌≡◌, refl, ◌∙◌}
+use Prim.Native.Nat.{◌-◌, ◌≤◌}
+use mathlib.Core.Path.{◌≡◌}
 use mathlib.Core.List.{map}
-use lib.ListN.{length, get_or, take, length-set}
-use Rattle.routes_levels.specs.Laying.{WIRES_MOST, row_at}
-use Rattle.routes_levels.proofs.NearLaws.{along_more, along_all}
+use lib.ListN.{length, take}
+use Rattle.routes_levels.specs.Laying.{row_at}
 use Rattle.routes_levels.proofs.stops.copy_along.Given as goal
 
 abbrev pub invariant-loop-p : goal.invariant-loop-p

@@ -1,10 +1,8 @@
 -- `fill_keys` meets its contract: the keys filled have their numbers behind them. Assumes nothing.
-use native.Mathlib.Omega.{arith}
 use Prim.Native.Nat.{◌≤◌, ◌-◌}
-use mathlib.Core.Path.{◌≡◌, refl, ◌∙◌}
-use lib.ListN.{length, length-set}
+use mathlib.Core.Path.{◌≡◌}
+use lib.ListN.{length}
 use Rattle.routes_levels.specs.Laying.{Numbered}
-use Rattle.routes_levels.proofs.NearLaws.{numbered_more}
 use Rattle.routes_levels.proofs.stops.fill_keys.Given as goal
 
 abbrev pub invariant-loop-i : goal.invariant-loop-i

@@ -1,6 +1,5 @@
 -- Whether a group's taps are laid: it has a lane, and the lane is long enough.
 use Rattle.routes_levels.proofs.StopLaws.{laid_none, laid_long}
-use borrow.Author.Rules.{rules}
 use Rattle.routes_levels.proofs.stops.is_laid.Goals as goal
 
 pub returns-then-groups-g : goal.returns-then-groups-g

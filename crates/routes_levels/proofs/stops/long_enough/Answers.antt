@@ -1,6 +1,5 @@
 -- Whether a group's lane is long enough: by the x of its source anchor and the least and greatest x of its taps.
 use Rattle.routes_levels.proofs.StopLaws.{long_unplaced, long_placed}
-use borrow.Author.Rules.{rules}
 use Rattle.routes_levels.proofs.stops.long_enough.Goals as goal
 
 pub returns-then-x : goal.returns-then-x

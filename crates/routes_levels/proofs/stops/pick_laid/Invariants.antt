@@ -1,18 +1,15 @@
 -- The taps of laid groups, newest first. The loop's invariant: the rows picked so far, then those of the laid taps below row k, are the rows of all laid taps.
-use Prim.Native.Nat.{◌≤◌, ◌<◌, ◌+◌, ◌-◌}
-use mathlib.Core.Path.{◌≡◌, refl, sym, ◌∙◌}
-use mathlib.Core.List.{List, []}
-use native.Mathlib.Omega.{arith}
-use lib.ListN.{length, length-set, get_or}
+use Prim.Native.Nat.{◌≤◌, ◌+◌}
+use mathlib.Core.Path.{◌≡◌}
+use mathlib.Core.List.{List}
+use lib.ListN.{length}
 use Rattle.board.specs.Board.{Board}
 use Rattle.board.specs.Demands.{PageLanes}
 use Rattle.base.specs.Views.{view}
 use Rattle.board.specs.Tables.{tap_in}
-use Rattle.base.proofs.Views.{view_mem}
 use Rattle.routes.specs.Stops.{is_laid}
 use Rattle.routes_levels.specs.Laying.{Tabled}
-use Rattle.routes_levels.proofs.PickLaws.{Picked, picked_more, picked_less, picked_all}
-use borrow.Author.Rules.{rules}
+use Rattle.routes_levels.proofs.PickLaws.{Picked}
 use Rattle.routes_levels.proofs.stops.pick_laid.Given as goal
 
 abbrev pub invariant-loop-k : goal.invariant-loop-k

@@ -2,7 +2,6 @@
 use Prim.Native.Nat.{◌-◌, ◌/◌}
 use native.Mathlib.Omega.{arith}
 use Rattle.routes_levels.proofs.WindowLaws.{count_missed, count_hit}
-use borrow.Author.Rules.{rules}
 use Rattle.routes_levels.proofs.windows.count_level.Goals as goal
 
 pub returns-then-level-start : goal.returns-then-level-start

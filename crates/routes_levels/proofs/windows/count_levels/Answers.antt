@@ -1,4 +1,4 @@
-use Prim.Native.Nat.{ℕ, ◌*◌, ◌+◌, ◌-◌, ◌<◌, ◌≤◌}
+use Prim.Native.Nat.{◌*◌, ◌+◌}
 use native.Mathlib.Omega.{arith}
 use mathlib.Core.Path.{◌≡◌, refl, ap, ◌∙◌}
 use lib.ListN.{length, get_or}
@@ -7,7 +7,6 @@ use Rattle.base.proofs.RunLaws.{having_most}
 use Rattle.routes.specs.Levels.{STAGGER_STEP}
 use Rattle.routes_levels.specs.Search.{load_in}
 use Rattle.routes_levels.proofs.WindowLaws.{count_more}
-use borrow.Author.Rules.{rules}
 use Rattle.routes_levels.proofs.windows.count_levels.Goals as goal
 
 pub loop-i-init : goal.loop-i-init

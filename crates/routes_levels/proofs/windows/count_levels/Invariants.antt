@@ -1,14 +1,9 @@
 -- The loop over the levels of a row: each of the window is counted as often as it was met.
 use Prim.Native.Nat.{ℕ, ◌*◌, ◌+◌, ◌-◌, ◌<◌, ◌≤◌}
-use native.Mathlib.Omega.{arith}
-use mathlib.Core.Path.{◌≡◌, refl, ap, ◌∙◌}
+use mathlib.Core.Path.{◌≡◌}
 use lib.ListN.{length, get_or}
 use Rattle.base.specs.Runs.{having}
-use Rattle.base.proofs.RunLaws.{having_most}
 use Rattle.routes.specs.Levels.{STAGGER_STEP}
-use Rattle.routes_levels.specs.Search.{load_in}
-use Rattle.routes_levels.proofs.WindowLaws.{count_more}
-use borrow.Author.Rules.{rules}
 use Rattle.routes_levels.proofs.windows.count_levels.Given as goal
 
 abbrev pub invariant-loop-i : goal.invariant-loop-i

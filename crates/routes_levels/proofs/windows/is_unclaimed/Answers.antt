@@ -1,11 +1,9 @@
-use Prim.Native.Nat.{◌-◌, ◌≤◌}
 use native.Mathlib.Omega.{arith}
 use native.Mathlib.Numerals.{add-one}
 use mathlib.Core.Path.{◌≡◌, refl, sym, ap, ◌∙◌}
 use mathlib.Core.Bool.{not, ◌||◌}
 use lib.ListN.{length}
 use Rattle.routes_levels.specs.Search.{near_one, open_in}
-use borrow.Author.Rules.{rules}
 use Rattle.routes_levels.proofs.windows.is_unclaimed.Goals as goal
 
 pub loop-i-init : goal.loop-i-init

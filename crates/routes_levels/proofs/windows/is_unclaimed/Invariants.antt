@@ -1,12 +1,8 @@
 -- The loop over the claims of a lane: whether one of them is near.
 use Prim.Native.Nat.{◌-◌, ◌≤◌}
-use native.Mathlib.Omega.{arith}
-use native.Mathlib.Numerals.{add-one}
-use mathlib.Core.Path.{◌≡◌, refl, sym, ap, ◌∙◌}
-use mathlib.Core.Bool.{not, ◌||◌}
+use mathlib.Core.Path.{◌≡◌}
 use lib.ListN.{length}
-use Rattle.routes_levels.specs.Search.{near_one, open_in}
-use borrow.Author.Rules.{rules}
+use Rattle.routes_levels.specs.Search.{near_one}
 use Rattle.routes_levels.proofs.windows.is_unclaimed.Given as goal
 
 abbrev pub invariant-loop-i : goal.invariant-loop-i

@@ -1,14 +1,11 @@
 -- The lightest level along a window, from the highest down. The invariant: the best of the levels from the j-th of the window on.
 use Prim.Native.Nat.{ℕ, ◌*◌, ◌+◌, ◌<◌, ◌≤◌}
-use native.Mathlib.Omega.{arith}
 use mathlib.Core.Path.{◌≡◌}
 use mathlib.Core.List.{List}
 use lib.ListN.{length}
 use Rattle.routes.specs.Levels.{STAGGER_STEP}
 use Rattle.sheet.specs.Table.{MISSING}
 use Rattle.routes_levels.specs.Search.{load_in, open_in, Weighed, Best}
-use Rattle.routes_levels.proofs.WindowLaws.{window_passed, window_heavier, window_lighter, window_done}
-use borrow.Author.Rules.{rules}
 use Rattle.routes_levels.proofs.windows.lightest_in.Given as goal
 
 abbrev pub invariant-loop-j : goal.invariant-loop-j

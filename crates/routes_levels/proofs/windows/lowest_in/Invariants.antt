@@ -1,14 +1,9 @@
 -- The lowest free level along a window. The invariant: from the j-th level on the search finds what it finds from the first on.
 use Prim.Native.Nat.{ℕ, ◌*◌, ◌+◌, ◌-◌, ◌≤◌}
-use native.Mathlib.Omega.{arith}
-use mathlib.Core.Path.{◌≡◌, sym, ap, ◌∙◌}
+use mathlib.Core.Path.{◌≡◌}
 use mathlib.Core.List.{List}
-use borrow.Author.Tests.{eq-eqb, ne_eqb}
 use Rattle.routes.specs.Levels.{STAGGER_STEP, lowest}
-use Rattle.routes_levels.specs.Laying.{level_answer}
 use Rattle.routes_levels.specs.Search.{free_in, Weighed}
-use Rattle.routes_levels.proofs.WindowLaws.{weight_free, along_start, along_none, along_here, along_next}
-use borrow.Author.Rules.{rules}
 use Rattle.routes_levels.proofs.windows.lowest_in.Given as goal
 
 abbrev pub invariant-loop-j : goal.invariant-loop-j

@@ -1,6 +1,5 @@
 -- A level marked, where the window has it.
 use Rattle.routes_levels.proofs.WindowLaws.{mark_out, mark_in}
-use borrow.Author.Rules.{rules}
 use Rattle.routes_levels.proofs.windows.mark.Goals as goal
 
 pub returns-then-j-loads : goal.returns-then-j-loads

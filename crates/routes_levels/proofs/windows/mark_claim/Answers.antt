@@ -1,7 +1,6 @@
 -- A claim marked: near no level of the window, the first, or at most two.
 use native.Mathlib.Omega.{arith}
 use Rattle.routes_levels.proofs.WindowLaws.{claim_far, mark_first, mark_two}
-use borrow.Author.Rules.{rules}
 use Rattle.routes_levels.proofs.windows.mark_claim.Goals as goal
 
 pub returns-then-start-claim-lt-REROUTER_SIZE : goal.returns-then-start-claim-lt-REROUTER_SIZE

@@ -1,11 +1,10 @@
-use Prim.Native.Nat.{ℕ, ◌*◌, ◌+◌, ◌-◌, ◌<◌, ◌≤◌}
+use Prim.Native.Nat.{◌*◌, ◌+◌}
 use native.Mathlib.Omega.{arith}
 use mathlib.Core.Path.{◌≡◌, refl, ap, ◌∙◌}
 use lib.ListN.{length, get_or}
 use Rattle.routes.specs.Levels.{STAGGER_STEP}
 use Rattle.routes_levels.specs.Search.{weigh, near_one}
 use Rattle.routes_levels.proofs.WindowLaws.{claim_more}
-use borrow.Author.Rules.{rules}
 use Rattle.routes_levels.proofs.windows.mark_claims.Goals as goal
 
 pub loop-i-init : goal.loop-i-init

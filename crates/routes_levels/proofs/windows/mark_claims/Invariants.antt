@@ -1,12 +1,9 @@
 -- The loop over the claims of a lane: each level of the window that one of them is near is marked.
 use Prim.Native.Nat.{ℕ, ◌*◌, ◌+◌, ◌-◌, ◌<◌, ◌≤◌}
-use native.Mathlib.Omega.{arith}
-use mathlib.Core.Path.{◌≡◌, refl, ap, ◌∙◌}
+use mathlib.Core.Path.{◌≡◌}
 use lib.ListN.{length, get_or}
 use Rattle.routes.specs.Levels.{STAGGER_STEP}
 use Rattle.routes_levels.specs.Search.{weigh, near_one}
-use Rattle.routes_levels.proofs.WindowLaws.{claim_more}
-use borrow.Author.Rules.{rules}
 use Rattle.routes_levels.proofs.windows.mark_claims.Given as goal
 
 abbrev pub invariant-loop-i : goal.invariant-loop-i

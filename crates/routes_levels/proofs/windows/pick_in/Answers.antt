@@ -4,7 +4,6 @@ use mathlib.Core.Path.{sym, ◌∙◌}
 use Rattle.routes_levels.specs.Search.{load_in, open_in}
 use Rattle.routes_levels.proofs.Picking.{picked_low, picked_light}
 use Rattle.routes_levels.proofs.Searches.{best_start, best_all}
-use borrow.Author.Rules.{rules}
 use Rattle.routes_levels.proofs.windows.pick_in.Goals as goal
 
 pub returns-in-At : goal.returns-in-At

@@ -1,7 +1,6 @@
 -- The row counted, then the lane marked.
 use native.Mathlib.Omega.{arith}
 use Rattle.routes_levels.proofs.WindowLaws.{weighed}
-use borrow.Author.Rules.{rules}
 use Rattle.routes_levels.proofs.windows.weigh_window.Goals as goal
 
 pub returns : goal.returns

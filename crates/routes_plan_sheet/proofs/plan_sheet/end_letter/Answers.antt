@@ -1,6 +1,4 @@
 use Rattle.routes_plan_sheet.proofs.Lines.{letter_port, letter_rerouter}
-use Rattle.routes_plan_sheet.proofs.plan_sheet.end_letter.Reads as reads
-use Rattle.routes_plan_sheet.proofs.plan_sheet.end_letter.Lts as lts
 use Rattle.routes_plan_sheet.proofs.plan_sheet.end_letter.Goals as goal
 
 pub returns-then-port-eq-MISSING : goal.returns-then-port-eq-MISSING

@@ -1,9 +1,6 @@
-use Rattle.std.proofs.Common.{◌≡◌, ℕ, ◌-◌, ◌≤◌, length, arith, rules}
-use Rattle.routes_plan_sheet.specs.Fields.{WroteLines, lane_line_in}
+use Rattle.std.proofs.Common.{◌≡◌, arith, rules}
+use Rattle.routes_plan_sheet.specs.Fields.{lane_line_in}
 use Rattle.routes_plan_sheet.proofs.Lines.{lines_none, lines_step}
-use Rattle.routes_plan_sheet.proofs.plan_sheet.put_lane_lines.Reads as reads
-use Rattle.routes_plan_sheet.proofs.plan_sheet.put_lane_lines.Lts as lts
-use Rattle.routes_plan_sheet.proofs.plan_sheet.put_lane_line.Reads as put-lane-line-reads
 use Rattle.routes_plan_sheet.proofs.plan_sheet.put_lane_lines.Goals as goal
 
 pub loop-k-init : goal.loop-k-init

@@ -1,12 +1,6 @@
-use Rattle.std.proofs.Common.{◌≡◌, ℕ, ◌+◌, ◌-◌, ◌*◌, ◌≤◌, List, [], ◌∷◌, map, length, take, arith, rules}
-use Rattle.sheet.specs.Written.{Wrote}
+use Rattle.std.proofs.Common.{◌≡◌, ◌+◌, ◌≤◌, length, arith, rules}
 use Rattle.sheet.proofs.Writing.{wrote_nothing}
-use Rattle.routes_plan_sheet.specs.Fields.{field_text}
 use Rattle.routes_plan_sheet.proofs.Lines.{tabs, line_step, line_whole}
-use Rattle.routes_plan_sheet.proofs.plan_sheet.put_line.Reads as reads
-use Rattle.routes_plan_sheet.proofs.plan_sheet.put_line.Lts as lts
-use Rattle.routes_plan_sheet.proofs.plan_sheet.put_field.Reads as put-field-reads
-use Rattle.sheet.proofs.write.put_byte.Reads as put-byte-reads
 use Rattle.routes_plan_sheet.proofs.plan_sheet.put_line.Goals as goal
 
 pub loop-i-init : goal.loop-i-init
@@ -25,6 +19,6 @@ loop-i-preserved c = let written = c.put_field-next.ensures in
 pub returns : goal.returns
 returns c = let done = c.loop-i.invariant in
     let all : c.loop-i.i ≡ length c.args.fields.now = omega arith in record {
-  wrote = line_whole _ _ _ _ _ _ c.loop-i.next _ _ c.args.fields.now (omega arith) c.put_byte-next.ensures (rw all at done.3) c.put_byte.ensures (search rules);
-  upper_bound = omega (arith, c.put_byte.ensures.place, c.put_byte-next.ensures.place, done.2);
-}
+      wrote = line_whole _ _ _ _ _ _ c.loop-i.next _ _ c.args.fields.now (omega arith) c.put_byte-next.ensures (rw all at done.3) c.put_byte.ensures (search rules);
+      upper_bound = omega (arith, c.put_byte.ensures.place, c.put_byte-next.ensures.place, done.2);
+    }

@@ -1,12 +1,7 @@
-use Rattle.std.proofs.Common.{◌≡◌, ℕ, ◌+◌, ◌-◌, ◌*◌, ◌≤◌, List, [], ◌∷◌, map, length, take, arith, rules}
+use Rattle.std.proofs.Common.{◌≡◌, ◌+◌, ◌-◌, ◌*◌, ◌≤◌, map, length, take}
 use Rattle.sheet.specs.Written.{Wrote}
-use Rattle.sheet.proofs.Writing.{wrote_nothing}
 use Rattle.routes_plan_sheet.specs.Fields.{field_text}
-use Rattle.routes_plan_sheet.proofs.Lines.{tabs, line_step, line_whole}
-use Rattle.routes_plan_sheet.proofs.plan_sheet.put_line.Reads as reads
-use Rattle.routes_plan_sheet.proofs.plan_sheet.put_line.Lts as lts
-use Rattle.routes_plan_sheet.proofs.plan_sheet.put_field.Reads as put-field-reads
-use Rattle.sheet.proofs.write.put_byte.Reads as put-byte-reads
+use Rattle.routes_plan_sheet.proofs.Lines.{tabs}
 use Rattle.routes_plan_sheet.proofs.plan_sheet.put_line.Given as goal
 
 abbrev pub invariant-loop-i : goal.invariant-loop-i

@@ -1,10 +1,5 @@
-use Rattle.std.proofs.Common.{arith, rules}
+use Rattle.std.proofs.Common.{arith}
 use Rattle.routes_plan_sheet.proofs.Lines.{wrote_join}
-use Rattle.routes_plan_sheet.proofs.plan_sheet.put_plan.Reads as reads
-use Rattle.routes_plan_sheet.proofs.plan_sheet.put_plan.Lts as lts
-use Rattle.routes_plan_sheet.proofs.plan_sheet.put_bus.Reads as put-bus-reads
-use Rattle.routes_plan_sheet.proofs.plan_sheet.put_end.Reads as put-end-reads
-use Rattle.routes_plan_sheet.proofs.plan_sheet.put_lane_lines.Reads as put-lane-lines-reads
 use Rattle.routes_plan_sheet.proofs.plan_sheet.put_plan.Goals as goal
 
 pub returns : goal.returns

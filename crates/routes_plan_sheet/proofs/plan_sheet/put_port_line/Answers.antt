@@ -1,14 +1,11 @@
-use Rattle.std.proofs.Common.{arith, rules}
+use Rattle.std.proofs.Common.{arith}
 use Rattle.routes.specs.PlanSheet.{port_line}
 use Rattle.routes_plan_sheet.specs.Fields.{field_text}
-use Rattle.routes_plan_sheet.proofs.plan_sheet.put_port_line.Reads as reads
-use Rattle.routes_plan_sheet.proofs.plan_sheet.put_port_line.Lts as lts
-use Rattle.routes_plan_sheet.proofs.plan_sheet.put_line.Reads as put-line-reads
 use Rattle.routes_plan_sheet.proofs.plan_sheet.put_port_line.Goals as goal
 
 pub returns : goal.returns
 unfolding field_text port_line
-returns c =  record {
+returns c = record {
   wrote = c.put_line.ensures.wrote;
   upper_bound = omega (arith, c.put_line.ensures.upper_bound);
 }

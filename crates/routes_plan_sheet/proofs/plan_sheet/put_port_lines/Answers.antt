@@ -1,9 +1,6 @@
-use Rattle.std.proofs.Common.{◌≡◌, ℕ, ◌-◌, ◌≤◌, length, arith, rules}
-use Rattle.routes_plan_sheet.specs.Fields.{WroteLines, port_line_in}
+use Rattle.std.proofs.Common.{◌≡◌, arith, rules}
+use Rattle.routes_plan_sheet.specs.Fields.{port_line_in}
 use Rattle.routes_plan_sheet.proofs.Lines.{lines_none, lines_step}
-use Rattle.routes_plan_sheet.proofs.plan_sheet.put_port_lines.Reads as reads
-use Rattle.routes_plan_sheet.proofs.plan_sheet.put_port_lines.Lts as lts
-use Rattle.routes_plan_sheet.proofs.plan_sheet.put_port_line.Reads as put-port-line-reads
 use Rattle.routes_plan_sheet.proofs.plan_sheet.put_port_lines.Goals as goal
 
 pub loop-k-init : goal.loop-k-init

@@ -1,9 +1,5 @@
-use Rattle.std.proofs.Common.{◌≡◌, ℕ, ◌-◌, ◌≤◌, length, arith, rules}
+use Rattle.std.proofs.Common.{◌≡◌, ◌-◌, ◌≤◌, length}
 use Rattle.routes_plan_sheet.specs.Fields.{WroteLines, port_line_in}
-use Rattle.routes_plan_sheet.proofs.Lines.{lines_none, lines_step}
-use Rattle.routes_plan_sheet.proofs.plan_sheet.put_port_lines.Reads as reads
-use Rattle.routes_plan_sheet.proofs.plan_sheet.put_port_lines.Lts as lts
-use Rattle.routes_plan_sheet.proofs.plan_sheet.put_port_line.Reads as put-port-line-reads
 use Rattle.routes_plan_sheet.proofs.plan_sheet.put_port_lines.Given as goal
 
 abbrev pub invariant-loop-k : goal.invariant-loop-k

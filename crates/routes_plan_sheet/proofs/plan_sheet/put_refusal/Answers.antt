@@ -1,9 +1,5 @@
-use Rattle.std.proofs.Common.{rules}
 use Rattle.routes.specs.PlanSheet.{refusal_sheet}
 use Rattle.routes_plan_sheet.specs.Fields.{field_text}
-use Rattle.routes_plan_sheet.proofs.plan_sheet.put_refusal.Reads as reads
-use Rattle.routes_plan_sheet.proofs.plan_sheet.put_refusal.Lts as lts
-use Rattle.routes_plan_sheet.proofs.plan_sheet.put_line.Reads as put-line-reads
 use Rattle.routes_plan_sheet.proofs.plan_sheet.put_refusal.Goals as goal
 
 pub returns : goal.returns

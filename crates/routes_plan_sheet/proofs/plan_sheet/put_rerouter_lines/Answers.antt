@@ -1,9 +1,6 @@
-use Rattle.std.proofs.Common.{◌≡◌, ℕ, ◌-◌, ◌≤◌, length, arith, rules}
-use Rattle.routes_plan_sheet.specs.Fields.{WroteLines, rerouter_line_in}
+use Rattle.std.proofs.Common.{◌≡◌, arith, rules}
+use Rattle.routes_plan_sheet.specs.Fields.{rerouter_line_in}
 use Rattle.routes_plan_sheet.proofs.Lines.{lines_none, lines_step}
-use Rattle.routes_plan_sheet.proofs.plan_sheet.put_rerouter_lines.Reads as reads
-use Rattle.routes_plan_sheet.proofs.plan_sheet.put_rerouter_lines.Lts as lts
-use Rattle.routes_plan_sheet.proofs.plan_sheet.put_rerouter_line.Reads as put-rerouter-line-reads
 use Rattle.routes_plan_sheet.proofs.plan_sheet.put_rerouter_lines.Goals as goal
 
 pub loop-k-init : goal.loop-k-init

@@ -1,9 +1,5 @@
-use Rattle.std.proofs.Common.{◌≡◌, ℕ, ◌-◌, ◌≤◌, length, arith, rules}
+use Rattle.std.proofs.Common.{◌≡◌, ◌-◌, ◌≤◌, length}
 use Rattle.routes_plan_sheet.specs.Fields.{WroteLines, rerouter_line_in}
-use Rattle.routes_plan_sheet.proofs.Lines.{lines_none, lines_step}
-use Rattle.routes_plan_sheet.proofs.plan_sheet.put_rerouter_lines.Reads as reads
-use Rattle.routes_plan_sheet.proofs.plan_sheet.put_rerouter_lines.Lts as lts
-use Rattle.routes_plan_sheet.proofs.plan_sheet.put_rerouter_line.Reads as put-rerouter-line-reads
 use Rattle.routes_plan_sheet.proofs.plan_sheet.put_rerouter_lines.Given as goal
 
 abbrev pub invariant-loop-k : goal.invariant-loop-k

@@ -1,11 +1,4 @@
-use Rattle.std.proofs.Common.{rules}
 use Rattle.routes_plan_sheet.proofs.Lines.{text_decimal, text_coordinate, text_number, text_letter}
-use Rattle.routes_plan_sheet.proofs.plan_sheet.put_text.Reads as reads
-use Rattle.routes_plan_sheet.proofs.plan_sheet.put_text.Lts as lts
-use Rattle.sheet.proofs.write.put_byte.Reads as put-byte-reads
-use Rattle.sheet.proofs.write.put_coordinate.Reads as put-coordinate-reads
-use Rattle.sheet.proofs.write.put_decimal.Reads as put-decimal-reads
-use Rattle.sheet.proofs.write.put_number.Reads as put-number-reads
 use Rattle.routes_plan_sheet.proofs.plan_sheet.put_text.Goals as goal
 
 pub returns-then-how-eq-DECIMAL : goal.returns-then-how-eq-DECIMAL

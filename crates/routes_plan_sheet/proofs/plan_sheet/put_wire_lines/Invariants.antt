@@ -1,9 +1,5 @@
-use Rattle.std.proofs.Common.{◌≡◌, ℕ, ◌-◌, ◌≤◌, length, arith, rules}
+use Rattle.std.proofs.Common.{◌≡◌, ◌-◌, ◌≤◌, length}
 use Rattle.routes_plan_sheet.specs.Fields.{WroteLines, wire_text_in}
-use Rattle.routes_plan_sheet.proofs.Lines.{lines_none, lines_step}
-use Rattle.routes_plan_sheet.proofs.plan_sheet.put_wire_lines.Reads as reads
-use Rattle.routes_plan_sheet.proofs.plan_sheet.put_wire_lines.Lts as lts
-use Rattle.routes_plan_sheet.proofs.plan_sheet.put_wire_line.Reads as put-wire-line-reads
 use Rattle.routes_plan_sheet.proofs.plan_sheet.put_wire_lines.Given as goal
 
 abbrev pub invariant-loop-k : goal.invariant-loop-k

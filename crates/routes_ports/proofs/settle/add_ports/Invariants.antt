@@ -1,12 +1,9 @@
 -- The ports handed in, one by one, behind the keys that stand already.
 use Prim.Native.Nat.{◌+◌, ◌-◌, ◌≤◌}
-use mathlib.Core.Path.{◌≡◌, sym, ap, ◌∙◌}
-use mathlib.Core.List.{◌∷◌, ◌++◌, map}
-use native.Mathlib.Omega.{arith}
+use mathlib.Core.List.{◌++◌, map}
 use lib.ListN.{take}
 use Rattle.routes_ports.specs.Settling.{key_port}
-use Rattle.routes_ports.proofs.Filling.{Filled, filled_behind, filled_room, filled_more, filled_front, handed_from, handed_length, handed_next, handed_done}
-use borrow.Author.Rules.{rules}
+use Rattle.routes_ports.proofs.Filling.{Filled, handed_from}
 use Rattle.routes_ports.proofs.settle.add_ports.Given as goal
 
 abbrev pub invariant-loop-i : goal.invariant-loop-i

@@ -1,6 +1,5 @@
 -- Whether a row is a delivery: by its port, its wire, its distance.
 use Rattle.routes_ports.proofs.Filling.{sent_nowhere, sent_named, sent_far}
-use borrow.Author.Rules.{rules}
 use Rattle.routes_ports.proofs.settle.delivers.Goals as goal
 
 pub returns-then-row : goal.returns-then-row

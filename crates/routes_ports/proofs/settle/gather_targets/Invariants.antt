@@ -1,11 +1,7 @@
 -- The targets of deliveries, newest first. The loop's invariant: the keys written so far, then those of the bus wires still left, are those of all.
-use Prim.Native.Nat.{◌-◌, ◌≤◌}
-use mathlib.Core.Path.{◌≡◌, refl, sym, ◌∙◌}
-use mathlib.Core.List.{◌∷◌}
-use native.Mathlib.Omega.{arith}
+use Prim.Native.Nat.{◌≤◌}
 use Rattle.routes_ports.specs.Settling.{key_port}
-use Rattle.routes_ports.proofs.Filling.{Filled, filled_none, filled_room, filled_more, filled_same, filled_count, filled_front, sent_from, sent_next, sent_same, sent_done}
-use borrow.Author.Rules.{rules}
+use Rattle.routes_ports.proofs.Filling.{Filled, sent_from}
 use Rattle.routes_ports.proofs.settle.gather_targets.Given as goal
 
 abbrev pub invariant-loop-left : goal.invariant-loop-left

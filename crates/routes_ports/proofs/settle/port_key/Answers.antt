@@ -3,7 +3,6 @@ use mathlib.Core.Path.{◌≡◌}
 use Prim.Native.Nat.{◌+◌, ◌*◌, ◌/◌, ◌%◌}
 use native.Mathlib.Omega.{arith}
 use Rattle.routes_ports.specs.Settling.{WORD}
-use borrow.Author.Rules.{rules}
 use Rattle.routes_ports.proofs.settle.port_key.Goals as goal
 
 pub returns : goal.returns

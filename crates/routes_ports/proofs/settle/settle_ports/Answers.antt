@@ -7,37 +7,36 @@ use lib.ListN.{length, take, drop, length-append, length-replicate}
 use lib.Seq.{length-take-le, take_at}
 use Rattle.routes_ports.specs.Settling.{key_port, unique, settled, ports_over}
 use Rattle.routes_ports.proofs.SetLaws.{settled_once}
-use borrow.Author.Rules.{rules}
 use Rattle.routes_ports.proofs.settle.settle_ports.Goals as goal
 
 pub slice_bounds-sort_keys-end : goal.slice_bounds-sort_keys-end
-slice_bounds-sort_keys-end c = 
+slice_bounds-sort_keys-end c =
     let taken : length (take (c.gather_targets-n.result + c.args.u) c.add_ports.new.keys) ≡ c.gather_targets-n.result + c.args.u = length-take-le (c.gather_targets-n.result + c.args.u) c.add_ports.new.keys
     (omega (arith, length-replicate {A = ℕ} 8192 0, c.add_ports.auto.keys, c.gather_targets-n.auto.keys, c.gather_targets-n.ensures.value, c.requires.few)) in
     sym (taken)
 
 pub sort_keys-requires : goal.sort_keys-requires
-sort_keys-requires c = 
+sort_keys-requires c =
     let taken : length (take (c.gather_targets-n.result + c.args.u) c.add_ports.new.keys) ≡ c.gather_targets-n.result + c.args.u = length-take-le (c.gather_targets-n.result + c.args.u) c.add_ports.new.keys
     (omega (arith, length-replicate {A = ℕ} 8192 0, c.add_ports.auto.keys, c.gather_targets-n.auto.keys, c.gather_targets-n.ensures.value, c.requires.few)) in
     omega (arith, taken, length-replicate {A = ℕ} 8192 0, c.gather_targets-n.ensures.value, c.requires.few)
 
 pub slice_bounds-keys-end-2 : goal.slice_bounds-keys-end-2
-slice_bounds-keys-end-2 c = 
+slice_bounds-keys-end-2 c =
     let taken : length (take (c.gather_targets-n.result + c.args.u) c.add_ports.new.keys) ≡ c.gather_targets-n.result + c.args.u = length-take-le (c.gather_targets-n.result + c.args.u) c.add_ports.new.keys
     (omega (arith, length-replicate {A = ℕ} 8192 0, c.add_ports.auto.keys, c.gather_targets-n.auto.keys, c.gather_targets-n.ensures.value, c.requires.few)) in
     let long : length c.sort_keys.new.keys ≡ c.gather_targets-n.result + c.args.u = c.sort_keys.auto.keys ∙ taken in
     omega (arith, long, length-append c.sort_keys.new.keys (drop (c.gather_targets-n.result + c.args.u) c.add_ports.new.keys))
 
 pub slice_bounds-write_once_each-end : goal.slice_bounds-write_once_each-end
-slice_bounds-write_once_each-end c = 
+slice_bounds-write_once_each-end c =
     let taken : length (take (c.gather_targets-n.result + c.args.u) c.add_ports.new.keys) ≡ c.gather_targets-n.result + c.args.u = length-take-le (c.gather_targets-n.result + c.args.u) c.add_ports.new.keys
     (omega (arith, length-replicate {A = ℕ} 8192 0, c.add_ports.auto.keys, c.gather_targets-n.auto.keys, c.gather_targets-n.ensures.value, c.requires.few)) in
     let long : length c.sort_keys.new.keys ≡ c.gather_targets-n.result + c.args.u = c.sort_keys.auto.keys ∙ taken in
     let l = long in sym (ap length (take_at c.sort_keys.new.keys _ _ l) ∙ l)
 
 pub write_once_each-requires : goal.write_once_each-requires
-write_once_each-requires c = 
+write_once_each-requires c =
     let taken : length (take (c.gather_targets-n.result + c.args.u) c.add_ports.new.keys) ≡ c.gather_targets-n.result + c.args.u = length-take-le (c.gather_targets-n.result + c.args.u) c.add_ports.new.keys
     (omega (arith, length-replicate {A = ℕ} 8192 0, c.add_ports.auto.keys, c.gather_targets-n.auto.keys, c.gather_targets-n.ensures.value, c.requires.few)) in
     let long : length c.sort_keys.new.keys ≡ c.gather_targets-n.result + c.args.u = c.sort_keys.auto.keys ∙ taken in
@@ -47,7 +46,7 @@ write_once_each-requires c =
     subst (λ l. length l ≤ length c.args.ports.now) (sym (once _)) c.requires.fits
 
 pub returns : goal.returns
-returns c = 
+returns c =
     let taken : length (take (c.gather_targets-n.result + c.args.u) c.add_ports.new.keys) ≡ c.gather_targets-n.result + c.args.u = length-take-le (c.gather_targets-n.result + c.args.u) c.add_ports.new.keys
     (omega (arith, length-replicate {A = ℕ} 8192 0, c.add_ports.auto.keys, c.gather_targets-n.auto.keys, c.gather_targets-n.ensures.value, c.requires.few)) in
     let long : length c.sort_keys.new.keys ≡ c.gather_targets-n.result + c.args.u = c.sort_keys.auto.keys ∙ taken in

@@ -5,21 +5,20 @@ use native.Mathlib.Omega.{arith}
 use lib.ListN.{length, set}
 use Rattle.routes_rows.specs.Blocked.{count_in, Blocks, cell_meets}
 use Rattle.routes_rows.proofs.Blocking.{within_all, within_below, within_above, within_beside, cell_blocks, cell_left, cell_passed}
-use borrow.Author.Rules.{rules}
 use Rattle.routes_rows.proofs.blocked.block.Goals as goal
 
 pub bounds-ends-k : goal.bounds-ends-k
-bounds-ends-k c = 
+bounds-ends-k c =
     let first-inside : c.first_level-first.result < length c.args.ends.now = omega (arith, c.if-first-levels_in.true, c.levels_in.ensures, c.requires) in
     first-inside
 
 pub bounds-ends-k-then-first-levels_in : goal.bounds-ends-k-then-first-levels_in
-bounds-ends-k-then-first-levels_in c = 
+bounds-ends-k-then-first-levels_in c =
     let first-inside : c.first_level-first.result < length c.args.ends.now = omega (arith, c.if-first-levels_in.true, c.levels_in.ensures, c.requires) in
     first-inside
 
 pub returns-then-first-levels_in : goal.returns-then-first-levels_in
-returns-then-first-levels_in c = 
+returns-then-first-levels_in c =
     let first-inside : c.first_level-first.result < length c.args.ends.now = omega (arith, c.if-first-levels_in.true, c.levels_in.ensures, c.requires) in
     let a = c.args in
     let first = c.first_level-first in

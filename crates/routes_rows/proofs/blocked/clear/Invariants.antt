@@ -1,11 +1,8 @@
 -- The ends before k are 0, and those past the count. The loop's invariant says so.
 use Prim.Native.Nat.{ℕ, ◌-◌, ◌≤◌, ◌<◌}
-use mathlib.Core.Path.{◌≡◌, refl, ◌∙◌}
-use mathlib.Core.Logic.{◌⊎◌, inl, inr}
-use native.Mathlib.Omega.{arith}
-use lib.ListN.{length, get_or, length-set}
-use lib.Seq.{get_or-set_other}
-use Rattle.routes_rows.proofs.Blocking.{zeros_next, either}
+use mathlib.Core.Path.{◌≡◌}
+use mathlib.Core.Logic.{◌⊎◌}
+use lib.ListN.{length, get_or}
 use Rattle.routes_rows.proofs.blocked.clear.Given as goal
 
 abbrev pub invariant-loop-k : goal.invariant-loop-k

@@ -1,9 +1,8 @@
-use Prim.Native.Nat.{◌-◌, ◌<◌}
+use Prim.Native.Nat.{◌<◌}
 use native.Mathlib.Omega.{arith}
 use native.Mathlib.Numerals.{add-one}
 use lib.ListN.{length}
-use Rattle.routes_rows.proofs.Blocking.{Spreading, spreading_start, spreading_next, spreading_end}
-use borrow.Author.Rules.{rules}
+use Rattle.routes_rows.proofs.Blocking.{spreading_start, spreading_next, spreading_end}
 use Rattle.routes_rows.proofs.blocked.spread.Goals as goal
 
 pub loop-k-init : goal.loop-k-init
@@ -13,7 +12,7 @@ pub offset_bounds-ends-k : goal.offset_bounds-ends-k
 offset_bounds-ends-k c = omega (arith, c.loop-k-test.true, c.ranges.count)
 
 pub bounds-ends-k : goal.bounds-ends-k
-bounds-ends-k c = 
+bounds-ends-k c =
     let inside : c.loop-k.k < length c.loop-k.ends = omega (arith, c.loop-k-test.true, c.loop-k.invariant.long, c.requires) in
     inside
 
@@ -21,7 +20,7 @@ pub offset_bounds-ends-k-in-loop-k : goal.offset_bounds-ends-k-in-loop-k
 offset_bounds-ends-k-in-loop-k c = omega (arith, c.loop-k-test.true, c.ranges.count)
 
 pub bounds-ends-k-in-loop-k : goal.bounds-ends-k-in-loop-k
-bounds-ends-k-in-loop-k c = 
+bounds-ends-k-in-loop-k c =
     let inside : c.loop-k.k < length c.loop-k.ends = omega (arith, c.loop-k-test.true, c.loop-k.invariant.long, c.requires) in
     inside
 
@@ -32,7 +31,7 @@ pub loop-k-smaller : goal.loop-k-smaller
 loop-k-smaller c = omega (arith, c.loop-k-test.true)
 
 pub loop-k-preserved : goal.loop-k-preserved
-loop-k-preserved c = 
+loop-k-preserved c =
     let inside : c.loop-k.k < length c.loop-k.ends = omega (arith, c.loop-k-test.true, c.loop-k.invariant.long, c.requires) in
     let a = c.args in
     let l = c.loop-k in

@@ -1,10 +1,6 @@
 -- The ends before k are spread. The loop's invariant: `Spreading`.
-use Prim.Native.Nat.{◌-◌, ◌<◌}
-use native.Mathlib.Omega.{arith}
-use native.Mathlib.Numerals.{add-one}
-use lib.ListN.{length}
-use Rattle.routes_rows.proofs.Blocking.{Spreading, spreading_start, spreading_next, spreading_end}
-use borrow.Author.Rules.{rules}
+use Prim.Native.Nat.{◌-◌}
+use Rattle.routes_rows.proofs.Blocking.{Spreading}
 use Rattle.routes_rows.proofs.blocked.spread.Given as goal
 
 abbrev pub invariant-loop-k : goal.invariant-loop-k

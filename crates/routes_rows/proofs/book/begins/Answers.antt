@@ -6,7 +6,6 @@ use mathlib.Core.List.{List}
 use native.Mathlib.Numerals.{unary_clauses}
 use native.Mathlib.Omega.{arith}
 use lib.Dec.{eqb}
-use borrow.Author.Rules.{rules}
 use Rattle.routes_rows.specs.Booking.{key_of, order_at, begins as beginsRow}
 use Rattle.routes_rows.proofs.book.begins.Goals as goal
 

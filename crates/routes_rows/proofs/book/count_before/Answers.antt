@@ -2,7 +2,6 @@
 use mathlib.Core.Path.{◌≡◌, refl, sym, ◌∙◌}
 use Prim.Native.Nat.{ℕ}
 use mathlib.Core.Bool.{Bool, true, false}
-use borrow.Author.Rules.{rules}
 use Rattle.routes_rows.specs.Booking.{unless}
 use Rattle.routes_rows.proofs.book.count_before.Goals as goal
 

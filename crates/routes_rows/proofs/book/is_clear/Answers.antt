@@ -16,7 +16,7 @@ loop-k-preserved c =
     let back : c.loop-k.k - 8 + 8 ≡ c.loop-k.k = omega arith in (
       omega arith,
       c.loop-k.invariant.1 ∙ ap (λ (n : ℕ). clear_of (first_cells xs n) (cell_of c.args.c)) (sym back)
-      ∙ passes xs (c.loop-k.k - 8) (c.loop-k.k - 8 + 8) (cell_of c.args.c) (omega arith) (sym c.any_overlaps.ensures ∙ c.if-any_overlaps.false),
+          ∙ passes xs (c.loop-k.k - 8) (c.loop-k.k - 8 + 8) (cell_of c.args.c) (omega arith) (sym c.any_overlaps.ensures ∙ c.if-any_overlaps.false),
     )
 
 pub returns : goal.returns

@@ -4,7 +4,6 @@ use Prim.Native.Nat.{ℕ, ◌+◌}
 use mathlib.Core.Bool.{Bool, true, false}
 use mathlib.Core.List.{List}
 use lib.ListN.{set}
-use borrow.Author.Rules.{rules}
 use Rattle.board.specs.Tables.{flag}
 use Rattle.routes_rows.specs.Booking.{order_at, count_after}
 use Rattle.routes_rows.proofs.book.note.Goals as goal

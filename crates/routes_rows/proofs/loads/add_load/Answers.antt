@@ -1,7 +1,6 @@
 -- A level counts if it is one of those from x0 on.
 use native.Mathlib.Omega.{arith}
 use Rattle.routes_rows.proofs.LoadLaws.{added_beyond, added_between, added_at}
-use borrow.Author.Rules.{rules}
 use Rattle.routes_rows.proofs.loads.add_load.Goals as goal
 
 pub returns-then-k-ge-LOADED : goal.returns-then-k-ge-LOADED

@@ -1,8 +1,6 @@
-use Prim.Native.Nat.{ℕ, ◌+◌, ◌-◌, ◌≤◌, ◌<◌}
-use mathlib.Core.Path.{◌≡◌}
+use Prim.Native.Nat.{◌+◌, ◌<◌}
 use native.Mathlib.Omega.{arith}
 use lib.ListN.{length}
-use Rattle.routes_rows.specs.Notes.{load_no, LoadsOnly}
 use Rattle.routes_rows.proofs.LoadLaws.{only_self, only_both, only_one, clear_next}
 use Rattle.routes_rows.proofs.loads.clear_loads.Goals as goal
 
@@ -16,7 +14,7 @@ pub offset_bounds-notes-k : goal.offset_bounds-notes-k
 offset_bounds-notes-k c = omega (arith, c.loop-k-test.true)
 
 pub bounds-notes-k : goal.bounds-notes-k
-bounds-notes-k c = 
+bounds-notes-k c =
     let inside : 9196 + c.loop-k.k < length c.loop-k.notes = let l = c.loop-k.invariant.1.long in omega (arith, c.loop-k-test.true, l, c.requires) in
     inside
 
@@ -27,7 +25,7 @@ pub loop-k-smaller : goal.loop-k-smaller
 loop-k-smaller c = omega (arith, c.loop-k-test.true)
 
 pub loop-k-preserved : goal.loop-k-preserved
-loop-k-preserved c = 
+loop-k-preserved c =
     let inside : 9196 + c.loop-k.k < length c.loop-k.notes = let l = c.loop-k.invariant.1.long in omega (arith, c.loop-k-test.true, l, c.requires) in
     let l = c.loop-k in
     (omega (arith, c.loop-k-test.true), only_both l.invariant.1 (only_one l.notes l.k 0 c.loop-k-test.true), clear_next l.notes l.k l.invariant.2 (inside))

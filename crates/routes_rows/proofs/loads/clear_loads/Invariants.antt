@@ -1,10 +1,7 @@
 -- The loads before k are 0. The loop's invariant says so.
-use Prim.Native.Nat.{ℕ, ◌+◌, ◌-◌, ◌≤◌, ◌<◌}
+use Prim.Native.Nat.{ℕ, ◌-◌, ◌≤◌, ◌<◌}
 use mathlib.Core.Path.{◌≡◌}
-use native.Mathlib.Omega.{arith}
-use lib.ListN.{length}
 use Rattle.routes_rows.specs.Notes.{load_no, LoadsOnly}
-use Rattle.routes_rows.proofs.LoadLaws.{only_self, only_both, only_one, clear_next}
 use Rattle.routes_rows.proofs.loads.clear_loads.Given as goal
 
 abbrev pub invariant-loop-k : goal.invariant-loop-k

@@ -1,60 +1,59 @@
-use Prim.Native.Nat.{ℕ, ◌-◌, ◌≤◌, ◌<◌}
+use Prim.Native.Nat.{ℕ, ◌≤◌, ◌<◌}
 use mathlib.Core.Path.{◌≡◌, refl, sym, subst}
 use native.Mathlib.Omega.{arith}
 use native.Mathlib.Numerals.{add-one}
 use lib.ListN.{length}
 use Rattle.routes_rows.specs.Notes.{listed}
 use Rattle.routes_rows.proofs.LoadLaws.{only_self, Counting, counting_other, counting_more, counting_small}
-use borrow.Author.Rules.{rules}
 use Rattle.routes_rows.proofs.loads.count_loads.Goals as goal
 
 pub loop-q-init : goal.loop-q-init
 loop-q-init c = (omega arith, record { only = only_self c.args.notes.now; loads = c.requires.2 })
 
 pub overflow_mul-at : goal.overflow_mul-at
-overflow_mul-at c = 
+overflow_mul-at c =
     let this : c.loop-q.q < 8192 = omega (arith, c.loop-q-test.true, c.requires.1) in
     omega (arith, this)
 
 pub overflow_add-at : goal.overflow_add-at
-overflow_add-at c = 
+overflow_add-at c =
     let this : c.loop-q.q < 8192 = omega (arith, c.loop-q-test.true, c.requires.1) in
     omega (arith, this)
 
 pub overflow_add-q : goal.overflow_add-q
-overflow_add-q c = 
+overflow_add-q c =
     let this : c.loop-q.q < 8192 = omega (arith, c.loop-q-test.true, c.requires.1) in
     omega (arith, this)
 
 pub offset_bounds-notes-at : goal.offset_bounds-notes-at
-offset_bounds-notes-at c = 
+offset_bounds-notes-at c =
     let this : c.loop-q.q < 8192 = omega (arith, c.loop-q-test.true, c.requires.1) in
     omega (arith, this)
 
 pub bounds-notes-at : goal.bounds-notes-at
-bounds-notes-at c = 
+bounds-notes-at c =
     let this : c.loop-q.q < 8192 = omega (arith, c.loop-q-test.true, c.requires.1) in
     let long : 26580 ≤ length c.loop-q.notes = let l = c.loop-q.invariant.1.only.long in omega (arith, l, c.requires.0) in
     omega (arith, this, long)
 
 pub overflow_add-level : goal.overflow_add-level
-overflow_add-level c = 
+overflow_add-level c =
     let this : c.loop-q.q < 8192 = omega (arith, c.loop-q-test.true, c.requires.1) in
     omega (arith, this)
 
 pub offset_bounds-notes-at-then-notes-at : goal.offset_bounds-notes-at-then-notes-at
-offset_bounds-notes-at-then-notes-at c = 
+offset_bounds-notes-at-then-notes-at c =
     let this : c.loop-q.q < 8192 = omega (arith, c.loop-q-test.true, c.requires.1) in
     omega (arith, this)
 
 pub bounds-notes-at-then-notes-at : goal.bounds-notes-at-then-notes-at
-bounds-notes-at-then-notes-at c = 
+bounds-notes-at-then-notes-at c =
     let this : c.loop-q.q < 8192 = omega (arith, c.loop-q-test.true, c.requires.1) in
     let long : 26580 ≤ length c.loop-q.notes = let l = c.loop-q.invariant.1.only.long in omega (arith, l, c.requires.0) in
     omega (arith, this, long)
 
 pub add_load-requires : goal.add_load-requires
-add_load-requires c = 
+add_load-requires c =
     let this : c.loop-q.q < 8192 = omega (arith, c.loop-q-test.true, c.requires.1) in
     let long : 26580 ≤ length c.loop-q.notes = let l = c.loop-q.invariant.1.only.long in omega (arith, l, c.requires.0) in
     let a = c.args in

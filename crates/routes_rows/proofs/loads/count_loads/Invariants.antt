@@ -1,12 +1,6 @@
 -- The loop's invariant: the first q corners listed are counted.
-use Prim.Native.Nat.{ℕ, ◌-◌, ◌≤◌, ◌<◌}
-use mathlib.Core.Path.{◌≡◌, refl, sym, subst}
-use native.Mathlib.Omega.{arith}
-use native.Mathlib.Numerals.{add-one}
-use lib.ListN.{length}
-use Rattle.routes_rows.specs.Notes.{listed}
-use Rattle.routes_rows.proofs.LoadLaws.{only_self, Counting, counting_other, counting_more, counting_small}
-use borrow.Author.Rules.{rules}
+use Prim.Native.Nat.{◌-◌, ◌≤◌}
+use Rattle.routes_rows.proofs.LoadLaws.{Counting}
 use Rattle.routes_rows.proofs.loads.count_loads.Given as goal
 
 abbrev pub invariant-loop-q : goal.invariant-loop-q

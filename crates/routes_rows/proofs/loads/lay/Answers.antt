@@ -1,6 +1,5 @@
 -- Laid where the level is one.
 use Rattle.routes_rows.proofs.NoteLaws.{laid_none}
-use borrow.Author.Rules.{rules}
 use Rattle.routes_rows.proofs.loads.lay.Goals as goal
 
 pub lay_corner-requires : goal.lay_corner-requires

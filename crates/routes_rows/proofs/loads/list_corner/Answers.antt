@@ -2,7 +2,6 @@
 use native.Mathlib.Omega.{arith}
 use lib.ListN.{length-set}
 use Rattle.routes_rows.proofs.LoadLaws.{listed_behind}
-use borrow.Author.Rules.{rules}
 use Rattle.routes_rows.proofs.loads.list_corner.Goals as goal
 
 pub bounds-notes-at-2 : goal.bounds-notes-at-2

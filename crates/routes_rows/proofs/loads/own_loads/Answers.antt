@@ -1,7 +1,6 @@
 -- As they are, or counted anew.
 use mathlib.Core.Path.{sym, ◌∙◌}
 use Rattle.routes_rows.proofs.LoadLaws.{owns_already}
-use borrow.Author.Rules.{rules}
 use Rattle.routes_rows.proofs.loads.own_loads.Goals as goal
 
 pub is_owner-requires : goal.is_owner-requires

@@ -1,7 +1,6 @@
 -- Raised where the sink is the owner.
 use native.Mathlib.Omega.{arith}
 use Rattle.routes_rows.proofs.LoadLaws.{raise_small, raised_own, raised_other}
-use borrow.Author.Rules.{rules}
 use Rattle.routes_rows.proofs.loads.raise_load.Goals as goal
 
 pub bounds-notes-9194 : goal.bounds-notes-9194

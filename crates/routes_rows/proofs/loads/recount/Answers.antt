@@ -2,7 +2,6 @@
 use native.Mathlib.Omega.{arith}
 use lib.ListN.{length-set}
 use Rattle.routes_rows.proofs.LoadLaws.{owns_anew}
-use borrow.Author.Rules.{rules}
 use Rattle.routes_rows.proofs.loads.recount.Goals as goal
 
 pub count_loads-requires : goal.count_loads-requires

@@ -2,7 +2,6 @@
 use native.Mathlib.Omega.{arith}
 use lib.ListN.{length-set}
 use Rattle.routes_rows.proofs.NoteLaws.{begun_already, begun_anew}
-use borrow.Author.Rules.{rules}
 use Rattle.routes_rows.proofs.notes.begin_row.Goals as goal
 
 pub bounds-notes-9192 : goal.bounds-notes-9192

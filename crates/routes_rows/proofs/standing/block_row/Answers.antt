@@ -2,7 +2,7 @@ use Prim.Native.Nat.{◌-◌}
 use mathlib.Core.Path.{sym, ◌∙◌}
 use native.Mathlib.Omega.{arith}
 use Rattle.routes_rows.specs.Entries.{row_before}
-use Rattle.routes_rows.proofs.EntryLaws.{Barring, barring_start, barring_next, barring_end, Back, back_start, back_next, follows_some, row_more, row_ends, row_less}
+use Rattle.routes_rows.proofs.EntryLaws.{barring_start, barring_next, barring_end, back_start, back_next, follows_some, row_more, row_ends, row_less}
 use Rattle.routes_rows.proofs.standing.block_row.Goals as goal
 
 pub key_at-key-requires : goal.key_at-key-requires

@@ -3,7 +3,6 @@ use mathlib.Core.Path.{sym, ap, ◌∙◌}
 use native.Mathlib.Omega.{arith}
 use Rattle.routes_rows.specs.Turning.{Entry}
 use Rattle.routes_rows.proofs.EntryLaws.{cell_at, corner_at}
-use borrow.Author.Rules.{rules}
 use Rattle.routes_rows.proofs.standing.booked_cell.Goals as goal
 
 pub overflow_cast-i : goal.overflow_cast-i

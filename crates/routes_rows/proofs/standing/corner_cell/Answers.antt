@@ -4,7 +4,6 @@ use borrow.Author.Tests.{lt-ltb, le-ltb}
 use Rattle.base.specs.Lists.{none, at}
 use Rattle.base.proofs.Bools.{pick_true, pick_false}
 use Rattle.routes_rows.specs.Entries.{corner_box}
-use borrow.Author.Rules.{rules}
 use Rattle.routes_rows.proofs.standing.corner_cell.Goals as goal
 
 pub returns-then-level-lt-LEVELS_END : goal.returns-then-level-lt-LEVELS_END

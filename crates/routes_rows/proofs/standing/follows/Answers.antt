@@ -3,7 +3,6 @@ use Prim.Native.Nat.{◌-◌}
 use mathlib.Core.Path.{sym}
 use native.Mathlib.Omega.{arith}
 use Rattle.routes_rows.proofs.EntryLaws.{follows_at}
-use borrow.Author.Rules.{rules}
 use Rattle.routes_rows.proofs.standing.follows.Goals as goal
 
 pub overflow_cast-i : goal.overflow_cast-i

@@ -1,7 +1,6 @@
 -- Nothing more where the slice holds all.
 use mathlib.Core.Path.{refl}
 use Rattle.routes_rows.proofs.EntryLaws.{blocks_twice}
-use borrow.Author.Rules.{rules}
 use Rattle.routes_rows.proofs.turn.block_rest.Goals as goal
 
 pub block_row-requires : goal.block_row-requires

@@ -1,11 +1,9 @@
 -- None where the class stands, or no level is clear; else what is sought.
 use mathlib.Core.Path.{refl, sym, ◌∙◌}
 use native.Mathlib.Omega.{arith}
-use borrow.Author.Tests.{not-true}
 use Rattle.routes_rows.specs.Turning.{clear_at}
 use Rattle.routes_rows.proofs.Deciding.{level_taken, level_closed, clear_kept}
 use Rattle.routes_rows.proofs.NoteLaws.{noted_owns, tells_loads}
-use borrow.Author.Rules.{rules}
 use Rattle.routes_rows.proofs.turn.corner_level.Goals as goal
 
 pub has_class-requires : goal.has_class-requires

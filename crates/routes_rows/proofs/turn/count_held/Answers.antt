@@ -2,7 +2,6 @@
 use mathlib.Core.Path.{ap, ◌∙◌}
 use lib.Dec.{ltb}
 use Rattle.routes_rows.specs.Booking.{order_at, unless}
-use borrow.Author.Rules.{rules}
 use Rattle.routes_rows.proofs.turn.count_held.Goals as goal
 
 pub returns : goal.returns

@@ -1,7 +1,6 @@
 -- A cell, or a question.
 use native.Mathlib.Omega.{arith}
 use Rattle.routes_rows.proofs.Deciding.{turnable, decided_cell, decided_turn}
-use borrow.Author.Rules.{rules}
 use Rattle.routes_rows.proofs.turn.decide.Goals as goal
 
 pub begin_row-requires : goal.begin_row-requires

@@ -1,17 +1,12 @@
 -- The least loaded clear level, from the highest down. The loop's invariant: the best of the levels from the k-th on, and its load.
-use Prim.Native.Nat.{ℕ, ◌-◌, ◌<◌, ◌≤◌, ◌+◌, ◌*◌}
-use mathlib.Core.Path.{◌≡◌, refl, sym, ap, ◌∙◌}
+use Prim.Native.Nat.{ℕ, ◌<◌, ◌≤◌, ◌+◌, ◌*◌}
+use mathlib.Core.Path.{◌≡◌}
 use mathlib.Core.Bool.{Bool}
-use native.Mathlib.Omega.{arith}
 use lib.Dec.{leb}
 use lib.ListN.{get_or}
-use borrow.Author.Tests.{le-leb, lt-leb}
 use Rattle.sheet.specs.Table.{MISSING}
-use Rattle.routes.specs.Levels.{lightest}
 use Rattle.routes_rows.specs.Notes.{load_no}
-use Rattle.routes_levels.specs.Laying.{level_answer}
-use Rattle.routes_levels.proofs.Searches.{Best, best_start, best_passed, best_heavier, best_lighter, best_all}
-use borrow.Author.Rules.{rules}
+use Rattle.routes_levels.proofs.Searches.{Best}
 use Rattle.routes_rows.proofs.turn.least_loaded_corner.Given as goal
 
 abbrev pub invariant-loop-k : goal.invariant-loop-k

@@ -1,16 +1,11 @@
 -- The lowest open level. The loop's invariant: the level at hand is the k-th, and from it on the search finds what it finds from the first on.
-use Prim.Native.Nat.{ℕ, ◌-◌, ◌<◌, ◌≤◌, ◌+◌, ◌*◌}
-use mathlib.Core.Path.{◌≡◌, refl, sym, ap, ◌∙◌}
-use mathlib.Core.Bool.{Bool, true, ◌&&◌}
-use native.Mathlib.Omega.{arith}
-use lib.Dec.{eqb, leb}
-use borrow.Author.Tests.{leb-true, not-true, not-false}
+use Prim.Native.Nat.{ℕ, ◌-◌, ◌+◌, ◌*◌}
+use mathlib.Core.Path.{◌≡◌}
+use mathlib.Core.Bool.{Bool, ◌&&◌}
+use lib.Dec.{eqb}
 use Rattle.routes.specs.Levels.{STAGGER_STEP, lowest, levels_in}
-use Rattle.routes_levels.specs.Laying.{level_answer}
-use Rattle.routes_levels.proofs.Searches.{lowest_none, lowest_here, lowest_next}
 use Rattle.routes_rows.specs.Entries.{TellsClear, TellsLoads}
-use Rattle.routes_rows.proofs.EntryLaws.{across, open_at}
-use borrow.Author.Rules.{rules}
+use Rattle.routes_rows.proofs.EntryLaws.{across}
 use Rattle.routes_rows.proofs.turn.lowest_corner.Given as goal
 
 abbrev pub invariant-loop-level : goal.invariant-loop-level

@@ -2,7 +2,6 @@
 use mathlib.Core.Path.{refl, sym}
 use Rattle.routes_rows.specs.Turning.{clear_at, load_at}
 use Rattle.routes_rows.proofs.Deciding.{level_lowest, level_lightest}
-use borrow.Author.Rules.{rules}
 use Rattle.routes_rows.proofs.turn.seek_level.Goals as goal
 
 pub returns-in-At : goal.returns-in-At

@@ -2,7 +2,6 @@
 use mathlib.Core.Path.{sym, ◌∙◌}
 use borrow.Author.Tests.{lt-ltb, le-ltb}
 use Rattle.base.proofs.Bools.{pick_true, pick_false}
-use borrow.Author.Rules.{rules}
 use Rattle.routes_rows.proofs.turn.span_of.Goals as goal
 
 pub returns-then-i-first : goal.returns-then-i-first

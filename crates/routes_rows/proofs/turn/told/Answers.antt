@@ -2,7 +2,6 @@
 use mathlib.Core.Path.{sym, ap, ◌∙◌}
 use Rattle.board.specs.Tables.{held}
 use Rattle.routes_levels.proofs.Searches.{found_at, found_none}
-use borrow.Author.Rules.{rules}
 use Rattle.routes_rows.proofs.turn.told.Goals as goal
 
 pub returns-in-At : goal.returns-in-At

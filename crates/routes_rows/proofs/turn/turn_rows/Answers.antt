@@ -38,14 +38,17 @@ count_next-n-requires c =
     omega (arith, h, k, c.loop-p-test.true)
 
 pub loop-p-preserved : goal.loop-p-preserved
-loop-p-preserved c = (omega arith, turned c.loop-p.invariant.1 c.requires c.loop-p-test.true record {
-  stood = c.count_before-before.ensures;
-  counts = c.count_held-held.ensures;
-  spans = c.span_of-span.ensures;
-  blocks = c.block_cells.ensures;
-  decided = c.decide-c.ensures;
-  same = c.append.ensures.0;
-  added = c.append.ensures.1;
-  left = c.append.ensures.2;
-  next = c.count_next-n.ensures;
-})
+loop-p-preserved c = (
+  omega arith,
+  turned c.loop-p.invariant.1 c.requires c.loop-p-test.true record {
+    stood = c.count_before-before.ensures;
+    counts = c.count_held-held.ensures;
+    spans = c.span_of-span.ensures;
+    blocks = c.block_cells.ensures;
+    decided = c.decide-c.ensures;
+    same = c.append.ensures.0;
+    added = c.append.ensures.1;
+    left = c.append.ensures.2;
+    next = c.count_next-n.ensures;
+  },
+)

@@ -10,22 +10,21 @@ use Rattle.routes_rows.specs.Notes.{Noted, SamePast}
 use Rattle.routes_rows.specs.declared.book.Cell.{Cell}
 use Rattle.routes_rows.proofs.Deciding.{ends_tell, weighed_by}
 use Rattle.routes_rows.proofs.NoteLaws.{noted_same, notes_fit}
-use borrow.Author.Rules.{rules}
 use Rattle.routes_rows.proofs.turn.weigh.Goals as goal
 
 pub overflow_cast-i : goal.overflow_cast-i
-overflow_cast-i c = 
+overflow_cast-i c =
     let order-here : order_at c.args.items.now c.args.p < length c.args.items.now = c.requires.row.ordered c.args.p (omega arith) in
     omega (arith, order-here, c.well_formed)
 
 pub span_at-span-requires : goal.span_at-span-requires
-span_at-span-requires c = 
+span_at-span-requires c =
     let order-here : order_at c.args.items.now c.args.p < length c.args.items.now = c.requires.row.ordered c.args.p (omega arith) in
     let asks-here : Askable c.args.items.now (order_at c.args.items.now c.args.p) = c.requires.row.asks c.args.p (omega arith) c.requires.question in
     (order-here, (asks-here).low)
 
 pub block_rest-requires : goal.block_rest-requires
-block_rest-requires c = 
+block_rest-requires c =
     let asks-here : Askable c.args.items.now (order_at c.args.items.now c.args.p) = c.requires.row.asks c.args.p (omega arith) c.requires.question in
     let few : count_in c.span_at-span.result ≤ 1000 = let h = (asks-here).few in let e = ap count_in c.span_at-span.ensures in omega (arith, h, e) in
     let a = c.args in
@@ -34,7 +33,7 @@ block_rest-requires c =
     (c.requires.row, omega (arith, h, l), subst (λ (s : Cell). BlockedFor a.n s (row_before a.items.now a.first a.answers.now a.p) a.notes.now) (sym c.span_at-span.ensures) c.requires.blocks)
 
 pub spread-requires : goal.spread-requires
-spread-requires c = 
+spread-requires c =
     let asks-here : Askable c.args.items.now (order_at c.args.items.now c.args.p) = c.requires.row.asks c.args.p (omega arith) c.requires.question in
     let few : count_in c.span_at-span.result ≤ 1000 = let h = (asks-here).few in let e = ap count_in c.span_at-span.ensures in omega (arith, h, e) in
     let h = few in
@@ -42,27 +41,27 @@ spread-requires c =
     omega (arith, h, l, c.levels_in-count.ensures, c.block_rest.ensures.0)
 
 pub offset_bounds-items-i : goal.offset_bounds-items-i
-offset_bounds-items-i c = 
+offset_bounds-items-i c =
     let order-here : order_at c.args.items.now c.args.p < length c.args.items.now = c.requires.row.ordered c.args.p (omega arith) in
     omega (arith, order-here, c.well_formed)
 
 pub bounds-items-i : goal.bounds-items-i
-bounds-items-i c = 
+bounds-items-i c =
     let order-here : order_at c.args.items.now c.args.p < length c.args.items.now = c.requires.row.ordered c.args.p (omega arith) in
     order-here
 
 pub offset_bounds-items-i-2 : goal.offset_bounds-items-i-2
-offset_bounds-items-i-2 c = 
+offset_bounds-items-i-2 c =
     let order-here : order_at c.args.items.now c.args.p < length c.args.items.now = c.requires.row.ordered c.args.p (omega arith) in
     omega (arith, order-here, c.well_formed)
 
 pub bounds-items-i-2 : goal.bounds-items-i-2
-bounds-items-i-2 c = 
+bounds-items-i-2 c =
     let order-here : order_at c.args.items.now c.args.p < length c.args.items.now = c.requires.row.ordered c.args.p (omega arith) in
     order-here
 
 pub corner_level-found-requires : goal.corner_level-found-requires
-corner_level-found-requires c = 
+corner_level-found-requires c =
     let asks-here : Askable c.args.items.now (order_at c.args.items.now c.args.p) = c.requires.row.asks c.args.p (omega arith) c.requires.question in
     let few : count_in c.span_at-span.result ≤ 1000 = let h = (asks-here).few in let e = ap count_in c.span_at-span.ensures in omega (arith, h, e) in
     let past-spread : SamePast c.args.notes.now c.spread.new.ends = λ k high.
@@ -74,7 +73,7 @@ corner_level-found-requires c =
     (few, notes_fit (omega (arith, most)) (noted-spread), asks.has_sink, asks.class_few)
 
 pub clear-requires : goal.clear-requires
-clear-requires c = 
+clear-requires c =
     let asks-here : Askable c.args.items.now (order_at c.args.items.now c.args.p) = c.requires.row.asks c.args.p (omega arith) c.requires.question in
     let few : count_in c.span_at-span.result ≤ 1000 = let h = (asks-here).few in let e = ap count_in c.span_at-span.ensures in omega (arith, h, e) in
     let h = few in
@@ -87,7 +86,7 @@ clear-requires c =
     (omega (arith, h, e, k.long, s.long, b.0, l), λ i high low. k.ends i low ∙ s.rest i high ∙ b.2 i (omega (arith, e, high)) ∙ c.requires.past i (omega (arith, e, f, high)) low)
 
 pub returns : goal.returns
-returns c = 
+returns c =
     let asks-here : Askable c.args.items.now (order_at c.args.items.now c.args.p) = c.requires.row.asks c.args.p (omega arith) c.requires.question in
     let few : count_in c.span_at-span.result ≤ 1000 = let h = (asks-here).few in let e = ap count_in c.span_at-span.ensures in omega (arith, h, e) in
     let past-spread : SamePast c.args.notes.now c.spread.new.ends = λ k high.

@@ -1,6 +1,5 @@
 -- `lane_of` meets its contract. Assumes nothing.
 use Rattle.routes_taps.proofs.Lanes.{lane_read_lem}
-use borrow.Author.Rules.{rules}
 use Rattle.routes_taps.proofs.taps.lane_of.Goals as goal
 
 pub returns : goal.returns

@@ -2,7 +2,6 @@
 use Rattle.routes_taps.proofs.Lanes.{level_dropped, level_shared, level_own}
 use lib.ListN.{get_or}
 use mathlib.Core.List.{[]}
-use borrow.Author.Rules.{rules}
 use Rattle.routes_taps.proofs.taps.level_at.Goals as goal
 
 pub returns-then-kind-eq0 : goal.returns-then-kind-eq0

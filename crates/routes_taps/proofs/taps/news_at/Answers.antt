@@ -1,6 +1,5 @@
 -- `news_at` meets its contract. Assumes nothing.
 use Rattle.routes_taps.proofs.Lanes.{news_after}
-use borrow.Author.Rules.{rules}
 use Rattle.routes_taps.proofs.taps.news_at.Goals as goal
 
 pub returns : goal.returns

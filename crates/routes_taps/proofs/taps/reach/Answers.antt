@@ -1,7 +1,6 @@
 -- `reach` meets its contract. Assumes nothing.
 use Rattle.routes_taps.proofs.Lanes.{reach_next}
 use native.Mathlib.Omega.{arith}
-use borrow.Author.Rules.{rules}
 use Rattle.routes_taps.proofs.taps.reach.Goals as goal
 
 pub level_at-level-requires : goal.level_at-level-requires

@@ -5,7 +5,6 @@ use Rattle.sheet.specs.Table.{MISSING}
 use borrow.Author.Tests.{eq-eqb, ne_eqb}
 use lib.Dec.{eqb}
 use mathlib.Core.Path.{sym}
-use borrow.Author.Rules.{rules}
 use Rattle.routes_taps.proofs.taps.source_row.Goals as goal
 
 pub returns-then-nodes-s : goal.returns-then-nodes-s

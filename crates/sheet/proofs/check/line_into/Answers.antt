@@ -1,5 +1,5 @@
 -- `sheet::check::line_into` meets its contract. Assumes nothing.
-use Rattle.std.proofs.Common.{sym, rules}
+use Rattle.std.proofs.Common.{sym}
 use lib.Seq.{set_out}
 use Rattle.sheet.proofs.check.line_into.Goals as goal
 

@@ -1,5 +1,5 @@
 -- `sheet::check::survey_by` meets its contract. Assumes nothing.
-use Rattle.std.proofs.Common.{ap, ◌∙◌, rules}
+use Rattle.std.proofs.Common.{ap, ◌∙◌}
 use Rattle.sheet.specs.declared.check.Survey.TheVariants.{Fine}
 use Rattle.sheet.proofs.Surveys.{survey_over, survey_wide, survey_fine}
 use Rattle.sheet.proofs.check.survey_by.Goals as goal

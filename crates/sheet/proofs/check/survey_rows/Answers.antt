@@ -1,9 +1,9 @@
-use Rattle.std.proofs.Common.{◌≡◌, ◌+◌, ◌-◌, ◌<◌, length, sym, refl, ap, ◌∙◌, arith}
+use Rattle.std.proofs.Common.{◌<◌, sym, refl, ap, ◌∙◌, arith}
 use borrow.Author.Tests.{not-true, not-false}
 use Rattle.sheet.specs.Table.{SECTIONS}
 use Rattle.sheet.specs.Walk.{survey_of}
-use Rattle.sheet.proofs.Surveys.{Tallied, tally_start, tally_unread, tally_unordered, tally_step, tally_ends, line_read_lem}
-use Rattle.sheet.proofs.Keeping.{Keeping, keeping_start, keeping_step, keeping_ends, held_refused}
+use Rattle.sheet.proofs.Surveys.{tally_start, tally_unread, tally_unordered, tally_step, tally_ends, line_read_lem}
+use Rattle.sheet.proofs.Keeping.{keeping_start, keeping_step, keeping_ends, held_refused}
 use Rattle.sheet.proofs.check.survey_rows.Goals as goal
 
 pub loop-at-init : goal.loop-at-init

@@ -1,11 +1,8 @@
 -- `sheet::check::survey_rows` meets its contract. The pass keeps, at each line, the first line of each refusal so far, how many records there are, and the rows of
 -- the lines behind. Assumes nothing.
-use Rattle.std.proofs.Common.{◌≡◌, ◌+◌, ◌-◌, ◌<◌, length, sym, refl, ap, ◌∙◌, arith}
-use borrow.Author.Tests.{not-true, not-false}
-use Rattle.sheet.specs.Table.{SECTIONS}
-use Rattle.sheet.specs.Walk.{survey_of}
-use Rattle.sheet.proofs.Surveys.{Tallied, tally_start, tally_unread, tally_unordered, tally_step, tally_ends, line_read_lem}
-use Rattle.sheet.proofs.Keeping.{Keeping, keeping_start, keeping_step, keeping_ends, held_refused}
+use Rattle.std.proofs.Common.{◌≡◌, ◌+◌, ◌-◌, length}
+use Rattle.sheet.proofs.Surveys.{Tallied}
+use Rattle.sheet.proofs.Keeping.{Keeping}
 use Rattle.sheet.proofs.check.survey_rows.Given as goal
 
 abbrev pub invariant-loop-at : goal.invariant-loop-at

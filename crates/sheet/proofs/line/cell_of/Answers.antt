@@ -1,5 +1,5 @@
 -- `sheet::line::cell_of` meets its contract, by cases. Assumes nothing.
-use Rattle.std.proofs.Common.{true, false, [], get_or, sym, ap, ◌∙◌, rules}
+use Rattle.std.proofs.Common.{true, false, [], get_or, sym, ap, ◌∙◌}
 use Rattle.sheet.specs.declared.number.Scanned.{Scanned}
 use Rattle.sheet.specs.Record.{is_missing}
 use Rattle.sheet.specs.Walk.{column_in, number_in, is_gone}

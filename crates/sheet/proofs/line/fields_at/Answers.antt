@@ -1,8 +1,8 @@
-use Rattle.std.proofs.Common.{◌≡◌, ℕ, ◌+◌, ◌-◌, ◌^◌, ◌<◌, ◌≤◌, length, drop, sym, ap, ◌∙◌, arith}
+use Rattle.std.proofs.Common.{◌≡◌, ℕ, ◌+◌, ◌^◌, ◌<◌, ◌≤◌, length, drop, sym, ap, ◌∙◌, arith}
 use Rattle.sheet.specs.Text.{part_of}
 use Rattle.sheet.specs.Table.{columns_of}
 use Rattle.sheet.proofs.Columns.{spread, ranged}
-use Rattle.sheet.proofs.Turns.{Along, along_start, Taken, as_many, along_malformed, along_inside, along_turn, along_unended, along_done, says_unread}
+use Rattle.sheet.proofs.Turns.{along_start, Taken, as_many, along_malformed, along_inside, along_turn, along_unended, along_done, says_unread}
 use Rattle.sheet.proofs.line.fields_at.Goals as goal
 
 pub overflow_sub-last : goal.overflow_sub-last

@@ -1,10 +1,7 @@
 -- `sheet::line::fields_at` meets its contract. The record is what the fields passed leave of it: the columns from `i` on, over the text from `next` on.
 -- Assumes nothing.
-use Rattle.std.proofs.Common.{◌≡◌, ℕ, ◌+◌, ◌-◌, ◌^◌, ◌<◌, ◌≤◌, length, drop, sym, ap, ◌∙◌, arith}
-use Rattle.sheet.specs.Text.{part_of}
-use Rattle.sheet.specs.Table.{columns_of}
-use Rattle.sheet.proofs.Columns.{spread, ranged}
-use Rattle.sheet.proofs.Turns.{Along, along_start, Taken, as_many, along_malformed, along_inside, along_turn, along_unended, along_done, says_unread}
+use Rattle.std.proofs.Common.{◌-◌, length}
+use Rattle.sheet.proofs.Turns.{Along}
 use Rattle.sheet.proofs.line.fields_at.Given as goal
 
 abbrev pub invariant-loop-i : goal.invariant-loop-i

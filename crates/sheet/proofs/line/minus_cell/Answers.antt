@@ -1,5 +1,5 @@
 -- `sheet::line::minus_cell` meets its contract. Assumes nothing.
-use Rattle.std.proofs.Common.{◌-◌, leb, arith, rules, le-leb}
+use Rattle.std.proofs.Common.{◌-◌, leb, arith, le-leb}
 use borrow.Author.Tests.{lt-leb}
 use Rattle.sheet.proofs.Cells.{within_holds, within_low, within-not}
 use Rattle.sheet.proofs.line.minus_cell.Goals as goal

@@ -1,5 +1,5 @@
 -- `sheet::line::plus_cell` meets its contract. Assumes nothing.
-use Rattle.std.proofs.Common.{◌+◌, true, arith, rules}
+use Rattle.std.proofs.Common.{◌+◌, true, arith}
 use Rattle.sheet.proofs.Cells.{within_holds, within_low, within_high}
 use Rattle.sheet.proofs.line.plus_cell.Goals as goal
 

@@ -1,5 +1,5 @@
 -- `sheet::line::put_cell` meets its contract. Assumes nothing.
-use Rattle.std.proofs.Common.{refl, rules}
+use Rattle.std.proofs.Common.{refl}
 use Rattle.sheet.proofs.line.put_cell.Goals as goal
 
 pub returns-in-Holds : goal.returns-in-Holds

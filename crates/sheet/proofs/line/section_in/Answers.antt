@@ -1,5 +1,5 @@
 -- `sheet::line::section_in` meets its contract: one byte is looked up, and any other field names no section. Assumes nothing.
-use Rattle.std.proofs.Common.{sym, ◌∙◌, rules}
+use Rattle.std.proofs.Common.{sym, ◌∙◌}
 use Rattle.sheet.proofs.Lines.{section_byte, section_other}
 use Rattle.sheet.proofs.line.section_in.Goals as goal
 

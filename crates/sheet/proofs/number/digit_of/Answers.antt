@@ -1,5 +1,5 @@
 -- `sheet::number::digit_of` meets its contract. Assumes nothing.
-use Rattle.std.proofs.Common.{arith, rules}
+use Rattle.std.proofs.Common.{arith}
 use Rattle.sheet.proofs.Numbers.{digit_says}
 use Rattle.sheet.proofs.number.digit_of.Goals as goal
 

@@ -1,5 +1,4 @@
-use Rattle.std.proofs.Common.{◌≡◌, suc, ◌+◌, ◌-◌, ◌*◌, ◌^◌, ◌<◌, ◌≤◌, length, drop, sym, refl, ◌∙◌, add-one, arith, rules}
-use Rattle.sheet.specs.Walk.{digits_read}
+use Rattle.std.proofs.Common.{suc, ◌+◌, ◌*◌, ◌^◌, ◌<◌, ◌≤◌, sym, refl, ◌∙◌, add-one, arith}
 use Rattle.sheet.proofs.Numbers.{digits_stop, digits_more, digits_end, value_grows, power_small}
 use Rattle.sheet.proofs.number.digits_of.Goals as goal
 

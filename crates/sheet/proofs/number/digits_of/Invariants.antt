@@ -1,9 +1,8 @@
 -- `sheet::number::digits_of` meets its contract. The digits passed have written a value below their power of ten, so ten digits fit; the rest of the field
 -- goes on from it.
 -- Assumes nothing.
-use Rattle.std.proofs.Common.{◌≡◌, suc, ◌+◌, ◌-◌, ◌*◌, ◌^◌, ◌<◌, ◌≤◌, length, drop, sym, refl, ◌∙◌, add-one, arith, rules}
+use Rattle.std.proofs.Common.{◌≡◌, ◌-◌, ◌^◌, ◌<◌, ◌≤◌, length, drop}
 use Rattle.sheet.specs.Walk.{digits_read}
-use Rattle.sheet.proofs.Numbers.{digits_stop, digits_more, digits_end, value_grows, power_small}
 use Rattle.sheet.proofs.number.digits_of.Given as goal
 
 abbrev pub invariant-loop-i : goal.invariant-loop-i

@@ -1,5 +1,5 @@
 -- `sheet::number::negated` meets its contract, by cases. Assumes nothing.
-use Rattle.std.proofs.Common.{sym, ap, ◌∙◌, rules}
+use Rattle.std.proofs.Common.{sym, ap, ◌∙◌}
 use Rattle.sheet.specs.declared.number.Scanned.{Scanned}
 use Rattle.sheet.specs.Walk.{number_in, negated}
 use Rattle.sheet.proofs.Numbers.{negated_zero, negated_some}

@@ -1,5 +1,5 @@
 -- `sheet::number::number_of` meets its contract: the first byte tells whether a sign stands there. Assumes nothing.
-use Rattle.std.proofs.Common.{sym, ◌∙◌, rules}
+use Rattle.std.proofs.Common.{sym, ◌∙◌}
 use Rattle.sheet.specs.Walk.{FirstDigit}
 use Rattle.sheet.proofs.Numbers.{number_none, number_minus, number_digit, number_other, first_digit}
 use Rattle.sheet.proofs.number.number_of.Goals as goal

@@ -1,5 +1,5 @@
 -- `sheet::number::signed_of` meets its contract. Assumes nothing.
-use Rattle.std.proofs.Common.{sym, ap, ◌∙◌, rules}
+use Rattle.std.proofs.Common.{sym, ap, ◌∙◌}
 use Rattle.sheet.specs.Walk.{negated}
 use Rattle.sheet.proofs.Numbers.{signed_none, signed_some, signed_other, first_digit}
 use Rattle.sheet.proofs.number.signed_of.Goals as goal

@@ -1,5 +1,5 @@
 -- `sheet::table::first_column` meets its contract. Assumes nothing.
-use Rattle.std.proofs.Common.{◌≡◌, rules}
+use Rattle.std.proofs.Common.{◌≡◌}
 use Rattle.sheet.proofs.Cells.{past_sections}
 use Rattle.sheet.proofs.table.first_column.Goals as goal
 

@@ -1,5 +1,5 @@
 -- `sheet::walk::behind_end` meets its contract: each branch's test says which case of `behind_end` holds. Assumes nothing.
-use Rattle.std.proofs.Common.{add-one, rules, le-ltb, lt-ltb}
+use Rattle.std.proofs.Common.{add-one, le-ltb, lt-ltb}
 use Rattle.sheet.proofs.walk.behind_end.Goals as goal
 
 pub returns-then-end-text : goal.returns-then-end-text

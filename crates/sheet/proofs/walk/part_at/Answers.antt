@@ -1,5 +1,5 @@
 -- `sheet::walk::part_at` meets its contract: the text up to where the part ends is the part. Assumes nothing.
-use Rattle.std.proofs.Common.{ℕ, ◌-◌, take, drop, sym, ap, ◌∙◌, arith, rules}
+use Rattle.std.proofs.Common.{ℕ, ◌-◌, take, drop, sym, ap, ◌∙◌, arith}
 use Rattle.sheet.proofs.Parts.{part_none, part_between, part_inside}
 use Rattle.sheet.proofs.walk.part_at.Goals as goal
 

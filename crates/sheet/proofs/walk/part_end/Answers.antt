@@ -1,4 +1,4 @@
-use Rattle.std.proofs.Common.{◌≡◌, ◌-◌, length, drop, refl, ◌∙◌, arith, rules}
+use Rattle.std.proofs.Common.{drop, refl, ◌∙◌}
 use Rattle.sheet.specs.Text.{part_of}
 use Rattle.sheet.specs.Places.{part_end}
 use Rattle.sheet.proofs.Parts.{at_end, part_none, part_stops, part_on}

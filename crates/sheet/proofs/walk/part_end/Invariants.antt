@@ -1,8 +1,6 @@
 -- `sheet::walk::part_end` finds where the part ends: at each turn what is left of it ends where the whole does. Assumes nothing.
-use Rattle.std.proofs.Common.{◌≡◌, ◌-◌, length, drop, refl, ◌∙◌, arith, rules}
-use Rattle.sheet.specs.Text.{part_of}
+use Rattle.std.proofs.Common.{◌≡◌, ◌-◌, length}
 use Rattle.sheet.specs.Places.{part_end}
-use Rattle.sheet.proofs.Parts.{at_end, part_none, part_stops, part_on}
 use Rattle.sheet.proofs.walk.part_end.Given as goal
 
 abbrev pub invariant-loop-i : goal.invariant-loop-i

@@ -1,4 +1,4 @@
-use Rattle.std.proofs.Common.{ℕ, ◌-◌, ◌/◌, ◌<◌, arith, rules}
+use Rattle.std.proofs.Common.{◌-◌, ◌/◌, arith, rules}
 use Rattle.sheet.proofs.Writing.{wrote_none, wrote_one, wrote_last, digits_length}
 use Rattle.sheet.proofs.write.+put_digits.Goals as goal
 

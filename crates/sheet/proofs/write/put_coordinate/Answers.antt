@@ -3,10 +3,6 @@ use Rattle.sheet.specs.Number.{MINUS}
 use Rattle.sheet.specs.Table.{ORIGIN}
 use Rattle.sheet.specs.Written.{decimal}
 use Rattle.sheet.proofs.Writing.{wrote_more, decimal-length, coordinate_below, coordinate_above}
-use Rattle.sheet.proofs.write.put_coordinate.Reads as reads
-use Rattle.sheet.proofs.write.put_coordinate.Lts as lts
-use Rattle.sheet.proofs.write.put_byte.Reads as put-byte-reads
-use Rattle.sheet.proofs.write.put_decimal.Reads as put-decimal-reads
 use Rattle.sheet.proofs.write.put_coordinate.Goals as goal
 
 pub returns-then-held-lt-ORIGIN : goal.returns-then-held-lt-ORIGIN

@@ -1,9 +1,5 @@
 use Rattle.std.proofs.Common.{rules}
 use Rattle.sheet.proofs.Writing.{number_missing, number_given}
-use Rattle.sheet.proofs.write.put_number.Reads as reads
-use Rattle.sheet.proofs.write.put_number.Lts as lts
-use Rattle.sheet.proofs.write.put_byte.Reads as put-byte-reads
-use Rattle.sheet.proofs.write.put_decimal.Reads as put-decimal-reads
 use Rattle.sheet.proofs.write.put_number.Goals as goal
 
 pub returns-then-n-eq-MISSING : goal.returns-then-n-eq-MISSING
