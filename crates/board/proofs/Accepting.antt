@@ -168,7 +168,7 @@ sheet_accepted most text b low is =
       few_inner = omega (arith, s.few_inner, low 3);
       few_execs = omega (arith, s.few_execs, low 4);
       few_wires = omega (arith, s.few_wires, low 5);
-      min_ylow = λ p h. not_low (get_or (get_or b.pages p []) 1 0) (s.page p h).min_y;
+      min_y_low = λ p h. not_low (get_or (get_or b.pages p []) 1 0) (s.page p h).min_y;
       min_y = λ p g. let l = (page p).min_y g in omega arith;
       z = λ p. (page p).z;
       id = λ i. (node i).id;

@@ -2,7 +2,7 @@
 -- board made otherwise can be accepted too; for that y and min_y may pass the sheet's range by Y_SLACK.
 use Rattle.std.specs.Prelude.{ℕ, ◌+◌, ◌-◌, ◌≤◌, ◌<◌, ◌≡◌, true, List, length}
 use Rattle.sheet.specs.Table.{ORIGIN, COORDINATE_MOST, ID_MOST, PORT_MOST, HALF_MOST, PAGE_MOST, library_most}
-use Rattle.board.specs.Board.{Board, min_yof, z_of, has_gutter, id_of, half_xof, half_yof, x_of, y_of, page_of, placed, has_row, source_node, source_port, target_node, target_port}
+use Rattle.board.specs.Board.{Board, min_y_of, z_of, has_gutter, id_of, half_x_of, half_y_of, x_of, y_of, page_of, placed, has_row, source_node, source_port, target_node, target_port}
 
 abbrev pub COORDINATE_HIGH : ℕ
 COORDINATE_HIGH = ORIGIN + COORDINATE_MOST
@@ -26,12 +26,12 @@ pub record Accepted (b : Board) : Type 0 where
   pub few_execs : length b.execs ≤ library_most.execs
   pub few_wires : length b.wires ≤ library_most.wires
   -- S11: the numbers of a page, of a node, of a wire.
-  pub min_ylow : (p : ℕ) → p < length b.pages → Y_LOW ≤ min_yof b p
-  pub min_y : (p : ℕ) → has_gutter b p ≡ true → min_yof b p ≤ Y_HIGH
+  pub min_y_low : (p : ℕ) → p < length b.pages → Y_LOW ≤ min_y_of b p
+  pub min_y : (p : ℕ) → has_gutter b p ≡ true → min_y_of b p ≤ Y_HIGH
   pub z : (p : ℕ) → z_of b p ≤ COORDINATE_HIGH
   pub id : (i : ℕ) → id_of b i ≤ ID_MOST
-  pub half_x : (i : ℕ) → half_xof b i ≤ HALF_MOST
-  pub half_y : (i : ℕ) → half_yof b i ≤ HALF_MOST
+  pub half_x : (i : ℕ) → half_x_of b i ≤ HALF_MOST
+  pub half_y : (i : ℕ) → half_y_of b i ≤ HALF_MOST
   pub x : (i : ℕ) → placed b i ≡ true → x_of b i ≤ COORDINATE_HIGH
   pub y_low : (i : ℕ) → i < length b.nodes → Y_LOW ≤ y_of b i
   pub y : (i : ℕ) → placed b i ≡ true → y_of b i ≤ Y_HIGH

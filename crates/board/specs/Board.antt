@@ -58,15 +58,15 @@ port_layout = 0
 
 module _ (b : Board) where
   -- S5: the fields of P.
-  abbrev pub min_yof : ℕ → ℕ
-  min_yof p = field b.pages p 1
+  abbrev pub min_y_of : ℕ → ℕ
+  min_y_of p = field b.pages p 1
 
   abbrev pub z_of : ℕ → ℕ
   z_of p = field b.pages p 2
 
   -- S5: a page without min_y has no gutter, and so no lanes.
   abbrev pub has_gutter : ℕ → Bool
-  has_gutter p = given (min_yof p)
+  has_gutter p = given (min_y_of p)
 
   -- S6: the fields of N.
   abbrev pub id_of : ℕ → ℕ
@@ -81,11 +81,11 @@ module _ (b : Board) where
   abbrev pub pin_of : ℕ → ℕ
   pin_of i = field b.nodes i 4
 
-  abbrev pub half_xof : ℕ → ℕ
-  half_xof i = field b.nodes i 5
+  abbrev pub half_x_of : ℕ → ℕ
+  half_x_of i = field b.nodes i 5
 
-  abbrev pub half_yof : ℕ → ℕ
-  half_yof i = field b.nodes i 6
+  abbrev pub half_y_of : ℕ → ℕ
+  half_y_of i = field b.nodes i 6
 
   abbrev pub rotation_of : ℕ → ℕ
   rotation_of i = field b.nodes i 7

@@ -2,7 +2,7 @@
 use Rattle.std.specs.Prelude.{ℕ, zero, suc, ◌+◌, ◌-◌, ◌*◌, Bool, true, false, ◌&&◌, ◌||◌, List, [], ◌∷◌, ◌++◌, map, reverse, eqb, ltb, length, get_or}
 use Rattle.lanes.specs.Lanes.{Demand, Packed, full, laned, packed}
 use Rattle.base.specs.Lists.{Found, none, at, keep, least, greatest, upto, or_else}
-use Rattle.board.specs.Board.{Board, has_gutter, min_yof}
+use Rattle.board.specs.Board.{Board, has_gutter, min_y_of}
 use Rattle.board.specs.Groups.{Tap, taps_of, taps_in, crosses, is_bus_worthy, source_anchor}
 
 -- D4, R2: what a lane takes in y, and what lies between the lanes and the page's bricks.

@@ -1,7 +1,7 @@
 -- C, cells and rows: cells, the rows of a page, their tops.
 use Rattle.std.specs.Prelude.{ℕ, suc, zero, ◌+◌, ◌*◌, Bool, true, false, not, ◌&&◌, ◌||◌, List, [], ◌∷◌, map, eqb, ltb, leb, length}
 use Rattle.base.specs.Lists.{upto, keep, fold, any, greatest}
-use Rattle.board.specs.Board.{Board, page_of, down_of, has_row, half_xof, half_yof, rotation_of, x_of, y_of}
+use Rattle.board.specs.Board.{Board, page_of, down_of, has_row, half_x_of, half_y_of, rotation_of, x_of, y_of}
 
 -- C2: a rerouter's extent in x and in y, `2 * REROUTER_HALF`.
 abbrev pub REROUTER_SIZE : ℕ
@@ -51,10 +51,10 @@ module _ (b : Board) where
   turned i = eqb (rotation_of b i) 1 || eqb (rotation_of b i) 3
 
   abbrev pub size_x : ℕ → ℕ
-  size_x i = 2 * elim (turned i) [ true ↦ half_yof b i | false ↦ half_xof b i ]
+  size_x i = 2 * elim (turned i) [ true ↦ half_y_of b i | false ↦ half_x_of b i ]
 
   abbrev pub size_y : ℕ → ℕ
-  size_y i = 2 * elim (turned i) [ true ↦ half_xof b i | false ↦ half_yof b i ]
+  size_y i = 2 * elim (turned i) [ true ↦ half_x_of b i | false ↦ half_y_of b i ]
 
   -- C3: a brick's cell.
   unfoldable pub brick_cell : ℕ → Cell

@@ -22,7 +22,7 @@ use Rattle.lanes.specs.declared.pack.Packing.{Packing}
 use Rattle.lanes.specs.declared.pack.Packing.TheVariants.{Lanes, Full}
 use Rattle.base.proofs.Bools.{never, clash}
 use Rattle.base.specs.Lists.{Found, none, at, keep}
-use Rattle.board.specs.Board.{Board, field, given, has_gutter, min_yof, page_of}
+use Rattle.board.specs.Board.{Board, field, given, has_gutter, min_y_of, page_of}
 use Rattle.board.specs.Groups.{Tap, taps_of, taps_in}
 use Rattle.board.specs.Demands.{PageLanes, Planned, crowded, planned, no_lanes, lane_in, lane_of, first_row, last_row, needs_lane, demand_of, groups_on, packed_on, plan_upto, plan_lanes}
 use Rattle.base.specs.Views.{view}
@@ -195,7 +195,7 @@ module _ (b : Board) where
     asked_packed h =
         ap packed (map_same (group_demand before) (demand_of b (taps_of b)) (reverse (asking taps marks p m)) same_demand ∙ ap (map (demand_of b (taps_of b))) (asked_groups h))
 
-    pub lanes_of_page : (after : List (List ℕ)) (count : ℕ) → GutterPacked (min_yof b p) taps marks m p before after (Lanes count)
+    pub lanes_of_page : (after : List (List ℕ)) (count : ℕ) → GutterPacked (min_y_of b p) taps marks m p before after (Lanes count)
         → (ls : List ℕ) × (packed_on b (taps_of b) p ≡ laned ls count)
         × ((g : ℕ) → g < length before → get_or after g [] ≡ relaned (lane_in (groups_on b (taps_of b) p) ls g) (get_or before g []))
     unfolding packed_on packed ranked entries sorted pack_in
@@ -215,7 +215,7 @@ module _ (b : Board) where
             let w = packs.within h in
             (w.0, sym (asked_packed h) ∙ w.1, λ g l. w.2 g l ∙ (λ z. relaned (lane_in (asked_groups h z) w.0 g) (get_or before g [])))
 
-    pub crowded_page : (after : List (List ℕ)) (i : ℕ) → GutterPacked (min_yof b p) taps marks m p before after (Full i) → plan_upto b (taps_of b) (suc p) ≡ crowded p
+    pub crowded_page : (after : List (List ℕ)) (i : ℕ) → GutterPacked (min_y_of b p) taps marks m p before after (Full i) → plan_upto b (taps_of b) (suc p) ≡ crowded p
     unfolding plan_upto
     crowded_page after i packs = go (has_gutter b p) refl
       where

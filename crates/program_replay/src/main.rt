@@ -7,10 +7,12 @@ ghost use Rattle.routes.specs.Route.{sheet_of};
 ghost use Rattle.program_answer.specs.Answering.{program_routed};
 
 use base::numbers::NEWLINE;
-use libc::STDOUT_FILENO;
 use program_answer::Answer;
 use program_answer::calls::{PLAN_MOST, respond};
+use program_input::read_full;
 use sheet::walk::{behind_part, part_from};
+use std::io::{Print, Write};
+use std::{fs, io};
 
 const PERCENT: u8 = b'%';
 
@@ -34,7 +36,7 @@ fn agrees(sheet: &[u8], answer: &[u8]) -> bool
     let mut out = [0u8; PLAN_MOST];
     match respond(sheet, &mut out) {
         Answer::Short => false,
-        Answer::Written(n) => check::same(&out[..n], answer),
+        Answer::Written(n) => &out[..n] == answer,
     }
 }
 
@@ -162,27 +164,18 @@ fn line_number(text: &[u8], at: usize) -> usize
     lines
 }
 
-fn print_number(n: usize) {
-    io::print_decimal(STDOUT_FILENO, n as u64);
-}
-
 // What came of a file: how many cases agree of how many, and the first line of the first that does not.
-fn report(name: &[u8], text: &[u8]) {
+fn report<P: Print>(rt: &P, name: &str, text: &[u8]) -> io::Result<()> {
     let tally = replay(text);
-    io::write_all(STDOUT_FILENO, name);
-    io::write_all(STDOUT_FILENO, b": ");
-    print_number(tally.agreed);
-    io::write_all(STDOUT_FILENO, b" of ");
-    print_number(tally.cases);
-    io::write_all(STDOUT_FILENO, b" agree\n");
+    println!(rt; "{name}: {} of {} agree", tally.agreed, tally.cases)?;
     let first = tally.first;
     if first < text.len() {
-        io::write_all(STDOUT_FILENO, b"the first that does not is on line ");
-        print_number(line_number(text, first));
-        io::write_all(STDOUT_FILENO, b": ");
-        io::write_all(STDOUT_FILENO, part_from(text, first, NEWLINE));
-        io::write_all(STDOUT_FILENO, b"\n");
+        let line = line_number(text, first);
+        print!(rt; "the first that does not is on line {line}: ")?;
+        io::writer(rt).write_all(part_from(text, first, NEWLINE))?;
+        println!(rt; "")?;
     }
+    Ok(())
 }
 
 // Room for a file of records. What it holds is left open: only its length is told.
@@ -192,15 +185,14 @@ fn file_buffer() -> [u8; FILE_MOST]
     [0; FILE_MOST]
 }
 
-fn replay_file(name: &[u8]) {
+fn replay_file(rt: &HostRuntime, name: &str) -> io::Result<()> {
     let mut text = file_buffer();
-    let fd = os::open_read(name);
-    let n = io::read_full(fd, &mut text);
-    libc::close(fd);
-    report(name, &text[..n]);
+    let mut file = fs::open(rt, name)?;
+    let n = read_full(&mut file, &mut text)?;
+    report(rt, name, &text[..n])
 }
 
-fn main() {
-    replay_file(b"boards.txt");
-    replay_file(b"damaged.txt");
+fn main(rt: HostRuntime) -> io::Result<()> {
+    replay_file(&rt, "boards.txt")?;
+    replay_file(&rt, "damaged.txt")
 }

@@ -4,7 +4,7 @@ use mathlib.Core.List.Memᴰ
 use mathlib.Core.List.{Memᴰ}
 use Rattle.base.specs.Lists.{keep}
 use Rattle.sheet.specs.Table.{ORIGIN, COORDINATE_MOST}
-use Rattle.board.specs.Board.{Board, has_gutter, min_yof}
+use Rattle.board.specs.Board.{Board, has_gutter, min_y_of}
 use Rattle.board.specs.Accepted.{Accepted}
 use Rattle.board.specs.Demands.{PageLanes, planned, plan_lanes}
 use Rattle.base.proofs.Bools.{never, clash}

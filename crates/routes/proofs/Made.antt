@@ -4,7 +4,7 @@ use native.Mathlib.Decide.{ℕ_discrete}
 use mathlib.Core.List.Memᴰ
 use mathlib.Core.List.{Memᴰ}
 use Rattle.lanes.specs.Lanes.{lane_most}
-use Rattle.board.specs.Board.{Board, min_yof, source_node, source_port, target_node, target_port}
+use Rattle.board.specs.Board.{Board, min_y_of, source_node, source_port, target_node, target_port}
 use Rattle.board.specs.Demands.{PageLanes, no_lanes, lane_y, BUS_BAND_GUTTER, LANE_PITCH}
 use Rattle.board.proofs.LanesFit.{heights_apart}
 use Rattle.base.proofs.Bools.{clash, both}
@@ -79,10 +79,10 @@ pub record Touches (p lane x : ℕ) (j : Rerouter) : Type 0 where
 module _ (b : Board) (ps : List PageLanes) where
   -- A head, link or tap stands in an open lane of a gutter that is high enough.
   pub record InLane (k : Rerouter) : Type 0 where
-    pub high : BUS_BAND_GUTTER + LANE_PITCH * lane_most ≤ min_yof b k.page
+    pub high : BUS_BAND_GUTTER + LANE_PITCH * lane_most ≤ min_y_of b k.page
     pub most : (get_or ps k.page no_lanes).count ≤ lane_most
     pub opened : k.lane < (get_or ps k.page no_lanes).count
-    pub height : k.y ≡ lane_y (min_yof b k.page) (get_or ps k.page no_lanes).count k.lane
+    pub height : k.y ≡ lane_y (min_y_of b k.page) (get_or ps k.page no_lanes).count k.lane
 
   pub data Stood (bus : Bus) (k : Rerouter) : Type 0 where
     aside : in_gutter k ≡ false → Stood bus k
@@ -213,8 +213,8 @@ module _ (b : Board) (ps : List PageLanes) where
         close = both (ltb j.x (k.x + 2)) (ltb k.x (j.x + 2)) (lt-ltb _ _ o.left) (lt-ltb _ _ o.right);
       })
     where
-      there : k.lane < (get_or ps k.page no_lanes).count → k.y ≡ lane_y (min_yof b k.page) (get_or ps k.page no_lanes).count k.lane
-          → (k.lane < (get_or ps j.page no_lanes).count) × (k.y ≡ lane_y (min_yof b j.page) (get_or ps j.page no_lanes).count k.lane)
+      there : k.lane < (get_or ps k.page no_lanes).count → k.y ≡ lane_y (min_y_of b k.page) (get_or ps k.page no_lanes).count k.lane
+          → (k.lane < (get_or ps j.page no_lanes).count) × (k.y ≡ lane_y (min_y_of b j.page) (get_or ps j.page no_lanes).count k.lane)
       there a c = rw o.page (a, c)
 
       lane : j.lane ≡ k.lane
@@ -222,7 +222,7 @@ module _ (b : Board) (ps : List PageLanes) where
           let t = there q.opened q.height in
           let below = rw (p.height, t.1) at o.below in
           let above = rw (p.height, t.1) at o.above in
-          heights_apart (min_yof b j.page) (get_or ps j.page no_lanes).count j.lane k.lane p.high p.most p.opened t.0 below above
+          heights_apart (min_y_of b j.page) (get_or ps j.page no_lanes).count j.lane k.lane p.high p.most p.opened t.0 below above
 
   lane_of_lem : {bus : Bus} → Made bus → (k : Rerouter) → Memᴰ k bus.rerouters → in_gutter k ≡ true → InLane k
   lane_of_lem nothing k h g = absurd (Memᴰ.not-nil h)

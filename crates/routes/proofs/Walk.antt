@@ -54,7 +54,7 @@ module _ (b : Board) (ps : List PageLanes) (plan : plan_lanes b ≡ planned ps) 
           let fits = planned_fits b ps plan t.page t.group lane e in
           let r = fits.1 in
           let same : lane_for ps t ≡ lane = ap {B = ℕ} (λ f. elim f [ at l ↦ l | none ↦ zero ]) e in
-          let low = accepted.min_ylow t.page fits.0 in
+          let low = accepted.min_y_low t.page fits.0 in
           record { high = omega arith; most = r.most; opened = omega (arith, same, r.inside); height = refl }
 
   module _ (stops : List Stop) where

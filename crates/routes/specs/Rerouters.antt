@@ -2,7 +2,7 @@
 use Rattle.std.specs.Prelude.{ℕ, zero, suc, ◌+◌, ◌-◌, Bool, true, false, not, ◌&&◌, ◌||◌, List, [], ◌∷◌, length, ◌==◌, nat_lt, slice_index_or}
 use Rattle.base.specs.Lists.{Found, none, at, any}
 use Rattle.sheet.specs.Table.{MISSING}
-use Rattle.board.specs.Board.{Board, placed, id_of, x_of, y_of, z_of, min_yof}
+use Rattle.board.specs.Board.{Board, placed, id_of, x_of, y_of, z_of, min_y_of}
 use Rattle.board.specs.Rows.{REROUTER_SIZE, rerouter_cell}
 use Rattle.board.specs.Groups.{Tap, taps_in, source_anchor, source_row}
 use Rattle.board.specs.Demands.{PageLanes, no_lanes, lane_y}
@@ -54,7 +54,7 @@ module _ (b : Board) (ts : List Tap) (ps : List PageLanes) where
   lane_rerouter t x rotation part =
       record {
         x = x;
-        y = lane_y (min_yof b t.page) (slice_index_or ps t.page no_lanes).count (lane_for ps t);
+        y = lane_y (min_y_of b t.page) (slice_index_or ps t.page no_lanes).count (lane_for ps t);
         z = z_of b t.page;
         rotation = rotation;
         role = role_gutter;

@@ -12,7 +12,7 @@ use lib.ListN.{length, get_or, get_or-eq_default}
 use borrow.Author.Tests.{ne_eqb}
 use Rattle.sheet.specs.Table.{MISSING}
 use Rattle.base.specs.Lists.{Found, none, at, found, greatest}
-use Rattle.board.specs.Board.{Board, field, given, has_row, page_of, x_of, y_of, half_xof, half_yof, min_yof}
+use Rattle.board.specs.Board.{Board, field, given, has_row, page_of, x_of, y_of, half_x_of, half_y_of, min_y_of}
 use Rattle.board.specs.Groups.{Tap, taps_of, taps_in, source_anchor}
 use Rattle.board.specs.Demands.{PageLanes, no_lanes, lane_of}
 use Rattle.board.specs.Tables
@@ -203,8 +203,8 @@ module _ {b : Board} {ps : List PageLanes} {pages nodes wires facts groups taps 
           let most = fits.1.most in
           let lane_is : field groups t.group 4 ≡ lane = group_facts.lanes t mem ∙ ap held e in
           let count_is : field facts t.page 6 ≡ (get_or ps t.page no_lanes).count = r.pages_known t.page (page_planned ps t.page t.group lane e) in
-          let high = r.accepted.min_ylow t.page on in
-          let high' : min_yof b t.page ≡ field pages t.page 1 = ap (λ (q : List (List ℕ)). field q t.page 1) r.pages_are in
+          let high = r.accepted.min_y_low t.page on in
+          let high' : min_y_of b t.page ≡ field pages t.page 1 = ap (λ (q : List (List ℕ)). field q t.page 1) r.pages_are in
           let few = r.accepted.few_pages in
           let few-n = few_nodes in
           let long = pages_long in

@@ -11,7 +11,7 @@ use Rattle.base.specs.Lists.{none, at}
 use Rattle.base.proofs.Bools.{never, clash}
 use Rattle.base.proofs.Lists.{same_two, by_test, by_found}
 use Rattle.sheet.specs.declared.Counts.{Counts}
-use Rattle.board.specs.Board.{Board, placed, x_of, min_yof, page_of, source_node, source_port}
+use Rattle.board.specs.Board.{Board, placed, x_of, min_y_of, page_of, source_node, source_port}
 use Rattle.board.specs.Groups.{Tap, taps_of, target_anchor, source_row}
 use Rattle.board.specs.Demands.{PageLanes, no_lanes, lane_y, lane_of}
 use Rattle.board.specs.Planning
@@ -38,7 +38,7 @@ module _ (b : Board) (ps : List PageLanes) where
   page_for g = page_of b (target_anchor b g)
 
   abbrev height_for : ℕ → ℕ
-  height_for g = lane_y (min_yof b (page_for g)) (get_or ps (page_for g) no_lanes).count (elim (lane_of ps (page_for g) g) [ at l ↦ l | none ↦ zero ])
+  height_for g = lane_y (min_y_of b (page_for g)) (get_or ps (page_for g) no_lanes).count (elim (lane_of ps (page_for g) g) [ at l ↦ l | none ↦ zero ])
 
   -- A rerouter at the y of the group's lane; one at a given x.
   record OnLane (g : ℕ) (k : Rerouter) : Type 0 where
@@ -81,7 +81,7 @@ module _ (b : Board) (ps : List PageLanes) where
       on_lane_lem : (x rotation part : ℕ) → OnLane t.group (lane_rerouter b ts ps t x rotation part)
       unfolding lane_rerouter
       on_lane_lem x rotation part =
-          record { page = page; lane = ap (λ p. lane_y (min_yof b p) (get_or ps p no_lanes).count (elim (lane_of ps p t.group) [ at l ↦ l | none ↦ zero ])) page }
+          record { page = page; lane = ap (λ p. lane_y (min_y_of b p) (get_or ps p no_lanes).count (elim (lane_of ps p t.group) [ at l ↦ l | none ↦ zero ])) page }
 
       lane_level : (x rotation part : ℕ) → OnLevel t.group x (lane_rerouter b ts ps t x rotation part)
       unfolding lane_rerouter

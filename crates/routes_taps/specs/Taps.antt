@@ -3,7 +3,7 @@ use Rattle.std.specs.Prelude.{ℕ, zero, suc, ◌+◌, ◌*◌, ◌-◌, ◌<◌
 use mathlib.Core.List.{List, [], ◌∷◌, Memᴰ}
 use Rattle.sheet.specs.Table.{MISSING}
 use Rattle.base.specs.Lists.{Found, none, at}
-use Rattle.board.specs.Board.{Board, field, id_of, x_of, y_of, z_of, min_yof, source_node, source_port, target_node, target_port}
+use Rattle.board.specs.Board.{Board, field, id_of, x_of, y_of, z_of, min_y_of, source_node, source_port, target_node, target_port}
 use Rattle.board.specs.Groups
 use Rattle.board.specs.Groups.{source_row}
 use Rattle.board.specs.Demands.{PageLanes, no_lanes, lane_y, LANE_PITCH, BUS_BAND_GUTTER}
@@ -34,7 +34,7 @@ RowHeld v (at r) = (v ≡ r) × (r ≡ MISSING → ⊥)
 pub record LaneOf (b : Board) (ts : List Groups.Tap) (ps : List PageLanes) (t : Groups.Tap) (l : Lane) : Type 0 where
   pub page : l.page ≡ t.page
   pub lane : l.lane ≡ lane_for ps t
-  pub y : l.y ≡ lane_y (min_yof b t.page) (get_or ps t.page no_lanes).count (lane_for ps t)
+  pub y : l.y ≡ lane_y (min_y_of b t.page) (get_or ps t.page no_lanes).count (lane_for ps t)
   pub z : l.z ≡ z_of b t.page
   pub colour : l.colour.0 ≡ id_of b (source b ts ps t)
   pub rotation : l.rotation ≡ chain_rotation b ts ps t

@@ -25,7 +25,7 @@ pub loop-c-init : goal.loop-c-init
 loop-c-init c = scan_start _ _
 
 pub offset_bounds-chips-c : goal.offset_bounds-chips-c
-offset_bounds-chips-c c = 
+offset_bounds-chips-c c =
     let inside : (c.loop-c.c - 1 < length c.args.chips.now) × (c.loop-c.c ≡ suc (c.loop-c.c - 1)) = let p = c.requires in
     let b = c.loop-c.invariant.below in
     let t = c.loop-c-test.true in
@@ -33,7 +33,7 @@ offset_bounds-chips-c c =
     omega (arith, inside, c.well_formed)
 
 pub bounds-chips-c : goal.bounds-chips-c
-bounds-chips-c c = 
+bounds-chips-c c =
     let inside : (c.loop-c.c - 1 < length c.args.chips.now) × (c.loop-c.c ≡ suc (c.loop-c.c - 1)) = let p = c.requires in
     let b = c.loop-c.invariant.below in
     let t = c.loop-c-test.true in
@@ -41,7 +41,7 @@ bounds-chips-c c =
     (inside).0
 
 pub returns-then-chips-c : goal.returns-then-chips-c
-returns-then-chips-c c b e = 
+returns-then-chips-c c b e =
     let inside : (c.loop-c.c - 1 < length c.args.chips.now) × (c.loop-c.c ≡ suc (c.loop-c.c - 1)) = let p = c.requires in
     let b = c.loop-c.invariant.below in
     let t = c.loop-c-test.true in
@@ -51,7 +51,7 @@ returns-then-chips-c c b e =
     sym (ap found_of (at-board a.n a.id a.chips.now b e ∙ follow_found _ _ a.n l (l - 1) c.loop-c.invariant (inside).1 (eq-eqb _ _ c.if-chips-c.true)))
 
 pub loop-c-preserved : goal.loop-c-preserved
-loop-c-preserved c = 
+loop-c-preserved c =
     let inside : (c.loop-c.c - 1 < length c.args.chips.now) × (c.loop-c.c ≡ suc (c.loop-c.c - 1)) = let p = c.requires in
     let b = c.loop-c.invariant.below in
     let t = c.loop-c-test.true in

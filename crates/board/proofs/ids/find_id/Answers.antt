@@ -15,7 +15,7 @@ pub offset_bounds-index-k : goal.offset_bounds-index-k
 offset_bounds-index-k c = omega (arith, c.bucket_of-k.ensures)
 
 pub bounds-index-k : goal.bounds-index-k
-bounds-index-k c = 
+bounds-index-k c =
     let in-range : c.bucket_of-k.result < length c.args.index.now = let a = c.args in omega (arith, c.bucket_of-k.ensures, index_width a.index.now a.n c.requires a.id.0) in
     in-range
 
@@ -23,7 +23,7 @@ pub loop-link-init : goal.loop-link-init
 loop-link-init c = rw c.bucket_of-k.ensures (index_start c.args.index.now c.args.n c.requires c.args.id.0)
 
 pub overflow_sub-i : goal.overflow_sub-i
-overflow_sub-i c = 
+overflow_sub-i c =
     let entry_below : (c.loop-link.link - 1 < length c.args.index.now) × (c.loop-link.link - 1 < c.args.n) × (c.loop-link.link ≡ suc (c.loop-link.link - 1)) = let r = c.requires.room in
     let b = c.loop-link.invariant.below in
     let t = c.loop-link-test.true in
@@ -31,7 +31,7 @@ overflow_sub-i c =
     omega (arith, entry_below)
 
 pub overflow_cast-i : goal.overflow_cast-i
-overflow_cast-i c = 
+overflow_cast-i c =
     let entry_below : (c.loop-link.link - 1 < length c.args.index.now) × (c.loop-link.link - 1 < c.args.n) × (c.loop-link.link ≡ suc (c.loop-link.link - 1)) = let r = c.requires.room in
     let b = c.loop-link.invariant.below in
     let t = c.loop-link-test.true in
@@ -39,7 +39,7 @@ overflow_cast-i c =
     omega (arith, entry_below, c.well_formed)
 
 pub offset_bounds-index-i : goal.offset_bounds-index-i
-offset_bounds-index-i c = 
+offset_bounds-index-i c =
     let entry_below : (c.loop-link.link - 1 < length c.args.index.now) × (c.loop-link.link - 1 < c.args.n) × (c.loop-link.link ≡ suc (c.loop-link.link - 1)) = let r = c.requires.room in
     let b = c.loop-link.invariant.below in
     let t = c.loop-link-test.true in
@@ -47,7 +47,7 @@ offset_bounds-index-i c =
     omega (arith, entry_below, c.well_formed)
 
 pub bounds-index-i : goal.bounds-index-i
-bounds-index-i c = 
+bounds-index-i c =
     let entry_below : (c.loop-link.link - 1 < length c.args.index.now) × (c.loop-link.link - 1 < c.args.n) × (c.loop-link.link ≡ suc (c.loop-link.link - 1)) = let r = c.requires.room in
     let b = c.loop-link.invariant.below in
     let t = c.loop-link-test.true in
@@ -56,7 +56,7 @@ bounds-index-i c =
 
 pub returns-then-index-i : goal.returns-then-index-i
 unfolding entry_of
-returns-then-index-i c = 
+returns-then-index-i c =
     let entry_below : (c.loop-link.link - 1 < length c.args.index.now) × (c.loop-link.link - 1 < c.args.n) × (c.loop-link.link ≡ suc (c.loop-link.link - 1)) = let r = c.requires.room in
     let b = c.loop-link.invariant.below in
     let t = c.loop-link-test.true in
@@ -65,7 +65,7 @@ returns-then-index-i c =
     sym (ap found_of (follow_found _ _ c.args.n k (k - 1) c.loop-link.invariant (entry_below).2 (eq-eqb _ _ c.if-index-i.true)))
 
 pub offset_bounds-index-i-in-loop-link : goal.offset_bounds-index-i-in-loop-link
-offset_bounds-index-i-in-loop-link c = 
+offset_bounds-index-i-in-loop-link c =
     let entry_below : (c.loop-link.link - 1 < length c.args.index.now) × (c.loop-link.link - 1 < c.args.n) × (c.loop-link.link ≡ suc (c.loop-link.link - 1)) = let r = c.requires.room in
     let b = c.loop-link.invariant.below in
     let t = c.loop-link-test.true in
@@ -73,7 +73,7 @@ offset_bounds-index-i-in-loop-link c =
     omega (arith, entry_below, c.well_formed)
 
 pub bounds-index-i-else-index-i : goal.bounds-index-i-else-index-i
-bounds-index-i-else-index-i c = 
+bounds-index-i-else-index-i c =
     let entry_below : (c.loop-link.link - 1 < length c.args.index.now) × (c.loop-link.link - 1 < c.args.n) × (c.loop-link.link ≡ suc (c.loop-link.link - 1)) = let r = c.requires.room in
     let b = c.loop-link.invariant.below in
     let t = c.loop-link-test.true in
@@ -81,7 +81,7 @@ bounds-index-i-else-index-i c =
     (entry_below).0
 
 pub loop-link-smaller : goal.loop-link-smaller
-loop-link-smaller c = 
+loop-link-smaller c =
     let entry_below : (c.loop-link.link - 1 < length c.args.index.now) × (c.loop-link.link - 1 < c.args.n) × (c.loop-link.link ≡ suc (c.loop-link.link - 1)) = let r = c.requires.room in
     let b = c.loop-link.invariant.below in
     let t = c.loop-link-test.true in
@@ -91,7 +91,7 @@ loop-link-smaller c =
     omega (arith, index_falls a.index.now a.n c.requires a.id.0 (c.loop-link.link - 1) b.1, b)
 
 pub loop-link-preserved : goal.loop-link-preserved
-loop-link-preserved c = 
+loop-link-preserved c =
     let entry_below : (c.loop-link.link - 1 < length c.args.index.now) × (c.loop-link.link - 1 < c.args.n) × (c.loop-link.link ≡ suc (c.loop-link.link - 1)) = let r = c.requires.room in
     let b = c.loop-link.invariant.below in
     let t = c.loop-link-test.true in

@@ -14,16 +14,16 @@ use Rattle.sheet.proofs.check_rows.Reads as check-rows-reads
 use Rattle.board.proofs.refusals.check_board.Goals as goal
 
 pub find_fault-requires : goal.find_fault-requires
-find_fault-requires c = 
+find_fault-requires c =
     let fine : Fine c.in-Fine.counts ≡ checked_of (reading c.args.most c.args.text.now) = sym c.in-Fine.is ∙ c.check_rows-kept.ensures.checked_value in
     let p = c.requires in
     let f = fine in record {
-  ready = sheet_ready _ _ _ f p.within_library c.check_rows-kept.ensures.held_if;
-  counts_value = sheet_counts _ _ _ f;
-  fresh = c.requires.fresh;
-  fresh_2 = c.requires.fresh_2;
-  fresh_3 = c.requires.fresh_3;
-}
+      ready = sheet_ready _ _ _ f p.within_library c.check_rows-kept.ensures.held_if;
+      counts_value = sheet_counts _ _ _ f;
+      fresh = c.requires.fresh;
+      fresh_2 = c.requires.fresh_2;
+      fresh_3 = c.requires.fresh_3;
+    }
 
 pub shape_of-rows-in-Refused : goal.shape_of-rows-in-Refused
 shape_of-rows-in-Refused c = c.check_rows-kept.auto.rows
@@ -32,10 +32,10 @@ pub returns-in-Refused : goal.returns-in-Refused
 returns-in-Refused c = let a = c.args in
     let r = c.check_rows-kept in
     let j : judged a.most a.text.now ≡ turned_away _ _ = sheet_refused a.most a.text.now _ _ (sym c.in-Refused.is ∙ r.ensures.checked_value) in record {
-  value = ap board_checked (sym j);
-  indexed_if = rw j tt;
-  rows_if = (λ l e. (r.ensures.held_if l e).held);
-}
+      value = ap board_checked (sym j);
+      indexed_if = rw j tt;
+      rows_if = (λ l e. (r.ensures.held_if l e).held);
+    }
 
 pub shape_of-rows-in-Refused-find_fault : goal.shape_of-rows-in-Refused-find_fault
 shape_of-rows-in-Refused-find_fault c = c.check_rows-kept.auto.rows
@@ -50,16 +50,16 @@ pub shape_of-inner-in-Refused-find_fault : goal.shape_of-inner-in-Refused-find_f
 shape_of-inner-in-Refused-find_fault c = c.find_fault.auto.inner
 
 pub returns-in-Refused-find_fault : goal.returns-in-Refused-find_fault
-returns-in-Refused-find_fault c = 
+returns-in-Refused-find_fault c =
     let fine : Fine c.in-Fine.counts ≡ checked_of (reading c.args.most c.args.text.now) = sym c.in-Fine.is ∙ c.check_rows-kept.ensures.checked_value in
     let a = c.args in
     let f = fine in
     let j : judged a.most a.text.now ≡ turned_away _ _ =
     sheet_judged a.most a.text.now _ f ∙ fault_refused (sheet_board a.text.now) _ _ (sym c.in-Refused-find_fault.is ∙ c.find_fault.ensures.value) in record {
-  value = ap board_checked (sym j);
-  indexed_if = rw j tt;
-  rows_if = (λ l e. (c.check_rows-kept.ensures.held_if l e).held);
-}
+      value = ap board_checked (sym j);
+      indexed_if = rw j tt;
+      rows_if = (λ l e. (c.check_rows-kept.ensures.held_if l e).held);
+    }
 
 pub shape_of-rows-in-Fine-find_fault : goal.shape_of-rows-in-Fine-find_fault
 shape_of-rows-in-Fine-find_fault c = c.check_rows-kept.auto.rows
@@ -74,7 +74,7 @@ pub shape_of-inner-in-Fine-find_fault : goal.shape_of-inner-in-Fine-find_fault
 shape_of-inner-in-Fine-find_fault c = c.find_fault.auto.inner
 
 pub returns-in-Fine-find_fault : goal.returns-in-Fine-find_fault
-returns-in-Fine-find_fault c = 
+returns-in-Fine-find_fault c =
     let fine : Fine c.in-Fine.counts ≡ checked_of (reading c.args.most c.args.text.now) = sym c.in-Fine.is ∙ c.check_rows-kept.ensures.checked_value in
     let a = c.args in
     let b = sheet_board a.text.now in
@@ -82,7 +82,7 @@ returns-in-Fine-find_fault c =
     let found = c.find_fault in
     let none = c.in-Fine-find_fault.is in
     let j : judged a.most a.text.now ≡ board b = sheet_judged a.most a.text.now _ f ∙ fault_fine b (sym none ∙ found.ensures.value) in record {
-  value = ap Fine (counts_judged a.most a.text.now _ f) ∙ ap board_checked (sym j);
-  indexed_if = rw j (found.ensures.indexed none);
-  rows_if = (λ l e. (c.check_rows-kept.ensures.held_if l e).held);
-}
+      value = ap Fine (counts_judged a.most a.text.now _ f) ∙ ap board_checked (sym j);
+      indexed_if = rw j (found.ensures.indexed none);
+      rows_if = (λ l e. (c.check_rows-kept.ensures.held_if l e).held);
+    }

@@ -18,40 +18,40 @@ use Rattle.board.proofs.walks.walk_nodes.Reads as walk-nodes-reads
 use Rattle.board.proofs.refusals.find_fault.Goals as goal
 
 pub skip_lines-requires : goal.skip_lines-requires
-skip_lines-requires c = 
+skip_lines-requires c =
     let counts-are : Counted (sheet_board c.args.text.now) c.args.counts = counted c.args.text.now c.args.counts c.requires.ready c.requires.counts_value in record {
-  ready = c.requires.ready;
-  n_in_bounds = omega (arith, (counts-are).pages, part_start (walk_sections c.args.text.now c.requires.ready).nodes);
-}
+      ready = c.requires.ready;
+      n_in_bounds = omega (arith, (counts-are).pages, part_start (walk_sections c.args.text.now c.requires.ready).nodes);
+    }
 
 pub slice_bounds-walk_nodes-end : goal.slice_bounds-walk_nodes-end
 slice_bounds-walk_nodes-end c = refl
 
 pub walk_nodes-after_nodes-requires : goal.walk_nodes-after_nodes-requires
-walk_nodes-after_nodes-requires c = 
+walk_nodes-after_nodes-requires c =
     let counts-are : Counted (sheet_board c.args.text.now) c.args.counts = counted c.args.text.now c.args.counts c.requires.ready c.requires.counts_value in
     let few : (c.args.counts.pages ≤ 64) × (c.args.counts.nodes ≤ 4096) × (c.args.counts.chips ≤ 256) × (c.args.counts.inner ≤ 4096) = let n = counts-are in
     let sec = walk_sections c.args.text.now c.requires.ready in
     (omega (arith, n.pages, sec.few_pages), omega (arith, n.nodes, sec.few_nodes), omega (arith, n.chips, sec.few_chips), omega (arith, n.inner, sec.few_inner)) in
     let n = counts-are in record {
-  ready = c.skip_lines.ensures;
-  first_value = (n.pages, n.nodes);
-  n_in_bounds = omega (arith, few);
-  fresh = fresh_fewer _ c.requires.fresh (omega (arith, few));
-}
+      ready = c.skip_lines.ensures;
+      first_value = (n.pages, n.nodes);
+      n_in_bounds = omega (arith, few);
+      fresh = fresh_fewer _ c.requires.fresh (omega (arith, few));
+    }
 
 pub shape_of-body-then-after_nodes-ne0 : goal.shape_of-body-then-after_nodes-ne0
 shape_of-body-then-after_nodes-ne0 c = c.walk_nodes-after_nodes.auto.index
 
 pub returns-then-after_nodes-ne0 : goal.returns-then-after_nodes-ne0
-returns-then-after_nodes-ne0 c = 
+returns-then-after_nodes-ne0 c =
     let counts-are : Counted (sheet_board c.args.text.now) c.args.counts = counted c.args.text.now c.args.counts c.requires.ready c.requires.counts_value in record {
-  value = fault_nodes _ c.args.counts (counts-are) _ c.walk_nodes-after_nodes.ensures.walked_nodes.twice c.if-after_nodes-ne0.true;
-  indexed = (λ z. never cc);
-}
+      value = fault_nodes _ c.args.counts (counts-are) _ c.walk_nodes-after_nodes.ensures.walked_nodes.twice c.if-after_nodes-ne0.true;
+      indexed = (λ z. never cc);
+    }
 
 pub overflow_add-pages : goal.overflow_add-pages
-overflow_add-pages c = 
+overflow_add-pages c =
     let counts-are : Counted (sheet_board c.args.text.now) c.args.counts = counted c.args.text.now c.args.counts c.requires.ready c.requires.counts_value in
     let few : (c.args.counts.pages ≤ 64) × (c.args.counts.nodes ≤ 4096) × (c.args.counts.chips ≤ 256) × (c.args.counts.inner ≤ 4096) = let n = counts-are in
     let sec = walk_sections c.args.text.now c.requires.ready in
@@ -62,7 +62,7 @@ pub slice_bounds-walk_chips-end : goal.slice_bounds-walk_chips-end
 slice_bounds-walk_chips-end c = sym c.walk_nodes-after_nodes.auto.kinds
 
 pub walk_chips-after_chips-requires : goal.walk_chips-after_chips-requires
-walk_chips-after_chips-requires c = 
+walk_chips-after_chips-requires c =
     let counts-are : Counted (sheet_board c.args.text.now) c.args.counts = counted c.args.text.now c.args.counts c.requires.ready c.requires.counts_value in
     let few : (c.args.counts.pages ≤ 64) × (c.args.counts.nodes ≤ 4096) × (c.args.counts.chips ≤ 256) × (c.args.counts.inner ≤ 4096) = let n = counts-are in
     let sec = walk_sections c.args.text.now c.requires.ready in
@@ -70,17 +70,17 @@ walk_chips-after_chips-requires c =
     let n = counts-are in
     let w = c.walk_nodes-after_nodes in
     let once = c.if-after_nodes-ne0.false in record {
-  ready = w.ensures.walked_nodes.place once;
-  chips_ready = record {
-          behind = ap₂ ◌+◌ n.pages n.nodes;
-          count = n.chips;
-          bodies = n.nodes;
-          body = w.ensures.walked_nodes.entered once;
-          room = omega (arith, few, w.auto.index);
-          kinds_are = w.ensures.nodes_seen.kinds once;
-        };
-  fresh = fresh_fewer _ c.requires.fresh_2 (omega (arith, few));
-}
+      ready = w.ensures.walked_nodes.place once;
+      chips_ready = record {
+        behind = ap₂ ◌+◌ n.pages n.nodes;
+        count = n.chips;
+        bodies = n.nodes;
+        body = w.ensures.walked_nodes.entered once;
+        room = omega (arith, few, w.auto.index);
+        kinds_are = w.ensures.nodes_seen.kinds once;
+      };
+      fresh = fresh_fewer _ c.requires.fresh_2 (omega (arith, few));
+    }
 
 pub shape_of-body-then-after_chips-ne0 : goal.shape_of-body-then-after_chips-ne0
 shape_of-body-then-after_chips-ne0 c = c.walk_nodes-after_nodes.auto.index
@@ -89,14 +89,14 @@ pub shape_of-chips-then-after_chips-ne0 : goal.shape_of-chips-then-after_chips-n
 shape_of-chips-then-after_chips-ne0 c = c.walk_chips-after_chips.auto.index
 
 pub returns-then-after_chips-ne0 : goal.returns-then-after_chips-ne0
-returns-then-after_chips-ne0 c = 
+returns-then-after_chips-ne0 c =
     let counts-are : Counted (sheet_board c.args.text.now) c.args.counts = counted c.args.text.now c.args.counts c.requires.ready c.requires.counts_value in record {
-  value = fault_chips _ c.args.counts (counts-are) _ c.walk_nodes-after_nodes.ensures.walked_nodes.twice c.if-after_nodes-ne0.false _ c.walk_chips-after_chips.ensures.walked_chips.twice c.if-after_chips-ne0.true;
-  indexed = (λ z. never cc);
-}
+      value = fault_chips _ c.args.counts (counts-are) _ c.walk_nodes-after_nodes.ensures.walked_nodes.twice c.if-after_nodes-ne0.false _ c.walk_chips-after_chips.ensures.walked_chips.twice c.if-after_chips-ne0.true;
+      indexed = (λ z. never cc);
+    }
 
 pub overflow_add-pages-2 : goal.overflow_add-pages-2
-overflow_add-pages-2 c = 
+overflow_add-pages-2 c =
     let counts-are : Counted (sheet_board c.args.text.now) c.args.counts = counted c.args.text.now c.args.counts c.requires.ready c.requires.counts_value in
     let few : (c.args.counts.pages ≤ 64) × (c.args.counts.nodes ≤ 4096) × (c.args.counts.chips ≤ 256) × (c.args.counts.inner ≤ 4096) = let n = counts-are in
     let sec = walk_sections c.args.text.now c.requires.ready in
@@ -104,7 +104,7 @@ overflow_add-pages-2 c =
     omega (arith, few)
 
 pub overflow_add-pages-3 : goal.overflow_add-pages-3
-overflow_add-pages-3 c = 
+overflow_add-pages-3 c =
     let counts-are : Counted (sheet_board c.args.text.now) c.args.counts = counted c.args.text.now c.args.counts c.requires.ready c.requires.counts_value in
     let few : (c.args.counts.pages ≤ 64) × (c.args.counts.nodes ≤ 4096) × (c.args.counts.chips ≤ 256) × (c.args.counts.inner ≤ 4096) = let n = counts-are in
     let sec = walk_sections c.args.text.now c.requires.ready in
@@ -112,7 +112,7 @@ overflow_add-pages-3 c =
     omega (arith, few)
 
 pub walk_inner-after_inner-requires : goal.walk_inner-after_inner-requires
-walk_inner-after_inner-requires c = 
+walk_inner-after_inner-requires c =
     let counts-are : Counted (sheet_board c.args.text.now) c.args.counts = counted c.args.text.now c.args.counts c.requires.ready c.requires.counts_value in
     let few : (c.args.counts.pages ≤ 64) × (c.args.counts.nodes ≤ 4096) × (c.args.counts.chips ≤ 256) × (c.args.counts.inner ≤ 4096) = let n = counts-are in
     let sec = walk_sections c.args.text.now c.requires.ready in
@@ -120,17 +120,17 @@ walk_inner-after_inner-requires c =
     let n = counts-are in
     let w = c.walk_chips-after_chips in
     let once = c.if-after_chips-ne0.false in record {
-  ready = w.ensures.walked_chips.place once;
-  inner_ready = record {
-          behind = ap₂ ◌+◌ (ap₂ ◌+◌ n.pages n.nodes) n.chips;
-          count = n.inner;
-          bodies = n.nodes;
-          chips_are = n.chips;
-          body = c.walk_nodes-after_nodes.ensures.walked_nodes.entered c.if-after_nodes-ne0.false;
-          chip = w.ensures.walked_chips.entered once;
-        };
-  fresh = fresh_fewer _ c.requires.fresh_3 (omega (arith, few));
-}
+      ready = w.ensures.walked_chips.place once;
+      inner_ready = record {
+        behind = ap₂ ◌+◌ (ap₂ ◌+◌ n.pages n.nodes) n.chips;
+        count = n.inner;
+        bodies = n.nodes;
+        chips_are = n.chips;
+        body = c.walk_nodes-after_nodes.ensures.walked_nodes.entered c.if-after_nodes-ne0.false;
+        chip = w.ensures.walked_chips.entered once;
+      };
+      fresh = fresh_fewer _ c.requires.fresh_3 (omega (arith, few));
+    }
 
 pub shape_of-body-then-after_inner-ne0 : goal.shape_of-body-then-after_inner-ne0
 shape_of-body-then-after_inner-ne0 c = c.walk_nodes-after_nodes.auto.index
@@ -142,12 +142,12 @@ pub shape_of-inner-then-after_inner-ne0 : goal.shape_of-inner-then-after_inner-n
 shape_of-inner-then-after_inner-ne0 c = c.walk_inner-after_inner.auto.index
 
 pub returns-then-after_inner-ne0 : goal.returns-then-after_inner-ne0
-returns-then-after_inner-ne0 c = 
+returns-then-after_inner-ne0 c =
     let counts-are : Counted (sheet_board c.args.text.now) c.args.counts = counted c.args.text.now c.args.counts c.requires.ready c.requires.counts_value in record {
-  value = fault_inner _ c.args.counts (counts-are) _ c.walk_nodes-after_nodes.ensures.walked_nodes.twice c.if-after_nodes-ne0.false _ c.walk_chips-after_chips.ensures.walked_chips.twice c.if-after_chips-ne0.false _
+      value = fault_inner _ c.args.counts (counts-are) _ c.walk_nodes-after_nodes.ensures.walked_nodes.twice c.if-after_nodes-ne0.false _ c.walk_chips-after_chips.ensures.walked_chips.twice c.if-after_chips-ne0.false _
           c.walk_inner-after_inner.ensures.walked_inner.twice c.if-after_inner-ne0.true;
-  indexed = (λ z. never cc);
-}
+      indexed = (λ z. never cc);
+    }
 
 pub shape_of-body : goal.shape_of-body
 shape_of-body c = c.walk_nodes-after_nodes.auto.index
@@ -159,7 +159,7 @@ pub shape_of-inner : goal.shape_of-inner
 shape_of-inner c = c.walk_inner-after_inner.auto.index
 
 pub returns : goal.returns
-returns c = 
+returns c =
     let counts-are : Counted (sheet_board c.args.text.now) c.args.counts = counted c.args.text.now c.args.counts c.requires.ready c.requires.counts_value in
     let n = counts-are in
     let w₁ = c.walk_nodes-after_nodes.ensures in
@@ -168,8 +168,8 @@ returns c =
     let once₁ = c.if-after_nodes-ne0.false in
     let once₂ = c.if-after_chips-ne0.false in
     let once₃ = c.if-after_inner-ne0.false in record {
-  value = c.verdict.ensures
+      value = c.verdict.ensures
           ∙ fault_rest _ c.args.counts n _ w₁.walked_nodes.twice once₁ _ w₂.walked_chips.twice once₂ _ _ _ _ _ w₃.walked_inner.twice once₃ (w₁.walked_nodes.missing once₁) (w₂.walked_chips.missing once₂)
           (w₃.walked_inner.missing once₃) (w₃.unplaced_value ∙ w₂.unplaced_value ∙ w₁.nodes_seen.unplaced once₁);
-  indexed = (λ z. record { body = ids_at n.nodes (w₁.walked_nodes.entered once₁); chips = ids_at n.chips (w₂.walked_chips.entered once₂); inner = ids_at n.inner (w₃.walked_inner.entered once₃) });
-}
+      indexed = (λ z. record { body = ids_at n.nodes (w₁.walked_nodes.entered once₁); chips = ids_at n.chips (w₂.walked_chips.entered once₂); inner = ids_at n.inner (w₃.walked_inner.entered once₃) });
+    }

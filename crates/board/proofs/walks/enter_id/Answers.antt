@@ -13,7 +13,7 @@ returns-then-has_id c = entered_there _ _ _ _ (sym c.if-has_id.true ∙ c.has_id
 
 pub returns : goal.returns
 returns c = record {
-      answer = sym c.if-has_id.false ∙ c.has_id.ensures;
-      added = λ z. c.add_id.ensures.index_after;
-      index = λ z. c.add_id.ensures.index_2;
-    }
+  answer = sym c.if-has_id.false ∙ c.has_id.ensures;
+  added = λ z. c.add_id.ensures.index_after;
+  index = λ z. c.add_id.ensures.index_2;
+}

@@ -18,10 +18,10 @@ loop-k-init c = let a = c.args in
 
 pub loop-k-preserved : goal.loop-k-preserved
 loop-k-preserved c = let l = c.loop-k in (
-      omega arith,
-      omega arith,
-      rw (add-one l.k, c.row_of-r.ensures) (ready_next _ l.invariant.2 (omega (arith, c.requires.n_in_bounds))),
-    )
+  omega arith,
+  omega arith,
+  rw (add-one l.k, c.row_of-r.ensures) (ready_next _ l.invariant.2 (omega (arith, c.requires.n_in_bounds))),
+)
 
 pub returns : goal.returns
 returns c = let a = c.args in

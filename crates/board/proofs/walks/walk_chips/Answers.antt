@@ -29,21 +29,21 @@ loop-c-init c = let a = c.args in
     )
 
 pub overflow_add-first : goal.overflow_add-first
-overflow_add-first c = 
+overflow_add-first c =
     let few : (c.args.first ≤ 4160) × (c.args.n ≤ 256) = let p = c.requires in
     let sec = walk_sections _ p.ready in
     (omega (arith, p.chips_ready.behind, sec.few_pages, sec.few_nodes), omega (arith, p.chips_ready.count, sec.few_chips)) in
     omega (arith, few, c.loop-c-test.true)
 
 pub overflow_add-line : goal.overflow_add-line
-overflow_add-line c = 
+overflow_add-line c =
     let few : (c.args.first ≤ 4160) × (c.args.n ≤ 256) = let p = c.requires in
     let sec = walk_sections _ p.ready in
     (omega (arith, p.chips_ready.behind, sec.few_pages, sec.few_nodes), omega (arith, p.chips_ready.count, sec.few_chips)) in
     omega (arith, few, c.loop-c-test.true)
 
 pub overflow_add-line-in-loop-c : goal.overflow_add-line-in-loop-c
-overflow_add-line-in-loop-c c = 
+overflow_add-line-in-loop-c c =
     let few : (c.args.first ≤ 4160) × (c.args.n ≤ 256) = let p = c.requires in
     let sec = walk_sections _ p.ready in
     (omega (arith, p.chips_ready.behind, sec.few_pages, sec.few_nodes), omega (arith, p.chips_ready.count, sec.few_chips)) in
@@ -52,28 +52,28 @@ overflow_add-line-in-loop-c c =
 pub parent_missing-gone-requires : goal.parent_missing-gone-requires
 parent_missing-gone-requires c = let inv = c.loop-c.invariant in
     let r = c.requires.chips_ready in record {
-  index = r.body.index;
-  nodes_in_bounds = r.room;
-  index_2 = inv.0.entered.index;
-}
+      index = r.body.index;
+      nodes_in_bounds = r.room;
+      index_2 = inv.0.entered.index;
+    }
 
 pub enter_id-requires : goal.enter_id-requires
-enter_id-requires c = 
+enter_id-requires c =
     let few : (c.args.first ≤ 4160) × (c.args.n ≤ 256) = let p = c.requires in
     let sec = walk_sections _ p.ready in
     (omega (arith, p.chips_ready.behind, sec.few_pages, sec.few_nodes), omega (arith, p.chips_ready.count, sec.few_chips)) in
     let inv = c.loop-c.invariant in
     let f = c.requires.fresh in
     let h = c.loop-c-test.true in record {
-  index = inv.0.entered.index;
-  n_in_bounds = (omega (arith, h, f.room, inv.1), omega (arith, h, few));
-}
+      index = inv.0.entered.index;
+      n_in_bounds = (omega (arith, h, f.room, inv.1), omega (arith, h, few));
+    }
 
 pub shape_of-index-then-enter_id : goal.shape_of-index-then-enter_id
 shape_of-index-then-enter_id c = c.enter_id.auto.index ∙ c.loop-c.invariant.1
 
 pub returns-then-enter_id : goal.returns-then-enter_id
-returns-then-enter_id c = 
+returns-then-enter_id c =
     let chip-here : (c.row_of-r.result.row ≡ get_or (sheet_board c.args.text.now).chips c.loop-c.c []) × Ready c.args.text.now c.args.rows.now (suc (c.args.first + c.loop-c.c)) c.row_of-r.result.next = let t = c.args.text.now in
     let p = c.requires in
     let i = c.loop-c.c in
@@ -88,13 +88,13 @@ returns-then-enter_id c =
     let b = sheet_board a.text.now in
     let again : chip_twice b l.c ≡ true =
     sym (sym c.if-enter_id.true ∙ c.enter_id.ensures.answer ∙ chip_repeats b l.c _ (chip-here).0 l.invariant.0.entered) in record {
-  walked_chips = walking_twice a.text.now a.rows.now a.first a.n _ _ _ a.w.missing l.c l.missing l.place l.invariant.0 c.loop-c-test.true a.w _ _ again
+      walked_chips = walking_twice a.text.now a.rows.now a.first a.n _ _ _ a.w.missing l.c l.missing l.place l.invariant.0 c.loop-c-test.true a.w _ _ again
           (add-one (a.first + l.c));
-  unplaced_value = refl;
-}
+      unplaced_value = refl;
+    }
 
 pub overflow_add-c : goal.overflow_add-c
-overflow_add-c c = 
+overflow_add-c c =
     let few : (c.args.first ≤ 4160) × (c.args.n ≤ 256) = let p = c.requires in
     let sec = walk_sections _ p.ready in
     (omega (arith, p.chips_ready.behind, sec.few_pages, sec.few_nodes), omega (arith, p.chips_ready.count, sec.few_chips)) in
@@ -104,7 +104,7 @@ pub loop-c-smaller : goal.loop-c-smaller
 loop-c-smaller c = omega (arith, c.loop-c-test.true)
 
 pub loop-c-preserved : goal.loop-c-preserved
-loop-c-preserved c = 
+loop-c-preserved c =
     let chip-here : (c.row_of-r.result.row ≡ get_or (sheet_board c.args.text.now).chips c.loop-c.c []) × Ready c.args.text.now c.args.rows.now (suc (c.args.first + c.loop-c.c)) c.row_of-r.result.next = let t = c.args.text.now in
     let p = c.requires in
     let i = c.loop-c.c in
@@ -144,6 +144,6 @@ pub returns : goal.returns
 returns c = let a = c.args in
     let l = c.loop-c in
     let end : l.c ≡ a.n = omega (arith, l.invariant.0.within, c.loop-c-test.false) in record {
-  walked_chips = walking_end a.text.now a.rows.now a.first a.n _ _ _ a.w.missing l.c l.missing l.place a.w _ l.invariant.0 end refl refl refl refl;
-  unplaced_value = refl;
-}
+      walked_chips = walking_end a.text.now a.rows.now a.first a.n _ _ _ a.w.missing l.c l.missing l.place a.w _ l.invariant.0 end refl refl refl refl;
+      unplaced_value = refl;
+    }

@@ -32,21 +32,21 @@ loop-f-init c = let a = c.args in
     )
 
 pub overflow_add-first : goal.overflow_add-first
-overflow_add-first c = 
+overflow_add-first c =
     let few : (c.args.first ≤ 4416) × (c.args.n ≤ 4096) = let p = c.requires in
     let sec = walk_sections _ p.ready in
     (omega (arith, p.inner_ready.behind, sec.few_pages, sec.few_nodes, sec.few_chips), omega (arith, p.inner_ready.count, sec.few_inner)) in
     omega (arith, few, c.loop-f-test.true)
 
 pub overflow_add-line : goal.overflow_add-line
-overflow_add-line c = 
+overflow_add-line c =
     let few : (c.args.first ≤ 4416) × (c.args.n ≤ 4096) = let p = c.requires in
     let sec = walk_sections _ p.ready in
     (omega (arith, p.inner_ready.behind, sec.few_pages, sec.few_nodes, sec.few_chips), omega (arith, p.inner_ready.count, sec.few_inner)) in
     omega (arith, few, c.loop-f-test.true)
 
 pub overflow_add-line-in-loop-f : goal.overflow_add-line-in-loop-f
-overflow_add-line-in-loop-f c = 
+overflow_add-line-in-loop-f c =
     let few : (c.args.first ≤ 4416) × (c.args.n ≤ 4096) = let p = c.requires in
     let sec = walk_sections _ p.ready in
     (omega (arith, p.inner_ready.behind, sec.few_pages, sec.few_nodes, sec.few_chips), omega (arith, p.inner_ready.count, sec.few_inner)) in
@@ -59,7 +59,7 @@ pub shape_of-index-then-has_id : goal.shape_of-index-then-has_id
 shape_of-index-then-has_id c = c.loop-f.invariant.1
 
 pub returns-then-has_id : goal.returns-then-has_id
-returns-then-has_id c = 
+returns-then-has_id c =
     let inner-here : (c.row_of-r.result.row ≡ get_or (sheet_board c.args.text.now).inner c.loop-f.f []) × Ready c.args.text.now c.args.rows.now (suc (c.args.first + c.loop-f.f)) c.row_of-r.result.next = let t = c.args.text.now in
     let p = c.requires in
     let i = c.loop-f.f in
@@ -75,28 +75,28 @@ returns-then-has_id c =
     let a = c.args in
     let l = c.loop-f in
     let again : inner_twice (sheet_board a.text.now) l.f ≡ true = sym (twice-here) ∙ either_left _ _ (sym c.has_id.ensures ∙ c.if-has_id.true) in record {
-  walked_inner = walking_twice a.text.now a.rows.now a.first a.n _ _ _ a.w.missing l.f l.missing l.place l.invariant.0 c.loop-f-test.true a.w _ _ again
+      walked_inner = walking_twice a.text.now a.rows.now a.first a.n _ _ _ a.w.missing l.f l.missing l.place l.invariant.0 c.loop-f-test.true a.w _ _ again
           (add-one (a.first + l.f));
-  unplaced_value = refl;
-}
+      unplaced_value = refl;
+    }
 
 pub enter_id-requires : goal.enter_id-requires
-enter_id-requires c = 
+enter_id-requires c =
     let few : (c.args.first ≤ 4416) × (c.args.n ≤ 4096) = let p = c.requires in
     let sec = walk_sections _ p.ready in
     (omega (arith, p.inner_ready.behind, sec.few_pages, sec.few_nodes, sec.few_chips), omega (arith, p.inner_ready.count, sec.few_inner)) in
     let inv = c.loop-f.invariant in
     let f = c.requires.fresh in
     let h = c.loop-f-test.true in record {
-  index = inv.0.entered.index;
-  n_in_bounds = (omega (arith, h, f.room, inv.1), omega (arith, h, few));
-}
+      index = inv.0.entered.index;
+      n_in_bounds = (omega (arith, h, f.room, inv.1), omega (arith, h, few));
+    }
 
 pub shape_of-index-then-enter_id : goal.shape_of-index-then-enter_id
 shape_of-index-then-enter_id c = c.enter_id.auto.index ∙ c.loop-f.invariant.1
 
 pub returns-then-enter_id : goal.returns-then-enter_id
-returns-then-enter_id c = 
+returns-then-enter_id c =
     let inner-here : (c.row_of-r.result.row ≡ get_or (sheet_board c.args.text.now).inner c.loop-f.f []) × Ready c.args.text.now c.args.rows.now (suc (c.args.first + c.loop-f.f)) c.row_of-r.result.next = let t = c.args.text.now in
     let p = c.requires in
     let i = c.loop-f.f in
@@ -112,16 +112,16 @@ returns-then-enter_id c =
     let a = c.args in
     let l = c.loop-f in
     let again : inner_twice (sheet_board a.text.now) l.f ≡ true = sym (twice-here) ∙ either_right (found (entry_of a.body.now a.nodes (get_or c.row_of-r.result.row 1 0))) _ (sym c.enter_id.ensures.answer ∙ c.if-enter_id.true) in record {
-  walked_inner = walking_twice a.text.now a.rows.now a.first a.n _ _ _ a.w.missing l.f l.missing l.place l.invariant.0 c.loop-f-test.true a.w _ _ again
+      walked_inner = walking_twice a.text.now a.rows.now a.first a.n _ _ _ a.w.missing l.f l.missing l.place l.invariant.0 c.loop-f-test.true a.w _ _ again
           (add-one (a.first + l.f));
-  unplaced_value = refl;
-}
+      unplaced_value = refl;
+    }
 
 pub has_id-requires-in-loop-f : goal.has_id-requires-in-loop-f
 has_id-requires-in-loop-f c = c.requires.inner_ready.chip.index
 
 pub overflow_add-f : goal.overflow_add-f
-overflow_add-f c = 
+overflow_add-f c =
     let few : (c.args.first ≤ 4416) × (c.args.n ≤ 4096) = let p = c.requires in
     let sec = walk_sections _ p.ready in
     (omega (arith, p.inner_ready.behind, sec.few_pages, sec.few_nodes, sec.few_chips), omega (arith, p.inner_ready.count, sec.few_inner)) in
@@ -131,7 +131,7 @@ pub loop-f-smaller : goal.loop-f-smaller
 loop-f-smaller c = omega (arith, c.loop-f-test.true)
 
 pub loop-f-preserved : goal.loop-f-preserved
-loop-f-preserved c = 
+loop-f-preserved c =
     let inner-here : (c.row_of-r.result.row ≡ get_or (sheet_board c.args.text.now).inner c.loop-f.f []) × Ready c.args.text.now c.args.rows.now (suc (c.args.first + c.loop-f.f)) c.row_of-r.result.next = let t = c.args.text.now in
     let p = c.requires in
     let i = c.loop-f.f in
@@ -174,6 +174,6 @@ pub returns : goal.returns
 returns c = let a = c.args in
     let l = c.loop-f in
     let end : l.f ≡ a.n = omega (arith, l.invariant.0.within, c.loop-f-test.false) in record {
-  walked_inner = walking_end a.text.now a.rows.now a.first a.n _ _ _ a.w.missing l.f l.missing l.place a.w _ l.invariant.0 end refl refl refl refl;
-  unplaced_value = refl;
-}
+      walked_inner = walking_end a.text.now a.rows.now a.first a.n _ _ _ a.w.missing l.f l.missing l.place a.w _ l.invariant.0 end refl refl refl refl;
+      unplaced_value = refl;
+    }

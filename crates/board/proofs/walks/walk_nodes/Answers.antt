@@ -33,28 +33,28 @@ loop-i-init c = let a = c.args in
     )
 
 pub overflow_add-first : goal.overflow_add-first
-overflow_add-first c = 
+overflow_add-first c =
     let few : (c.args.first ≤ 64) × (c.args.n ≤ 4096) = let p = c.requires in
     let sec = walk_sections _ p.ready in
     (omega (arith, p.first_value, sec.few_pages), omega (arith, p.first_value, sec.few_nodes)) in
     omega (arith, few, c.loop-i-test.true)
 
 pub overflow_add-line : goal.overflow_add-line
-overflow_add-line c = 
+overflow_add-line c =
     let few : (c.args.first ≤ 64) × (c.args.n ≤ 4096) = let p = c.requires in
     let sec = walk_sections _ p.ready in
     (omega (arith, p.first_value, sec.few_pages), omega (arith, p.first_value, sec.few_nodes)) in
     omega (arith, few, c.loop-i-test.true)
 
 pub overflow_add-line-in-loop-i : goal.overflow_add-line-in-loop-i
-overflow_add-line-in-loop-i c = 
+overflow_add-line-in-loop-i c =
     let few : (c.args.first ≤ 64) × (c.args.n ≤ 4096) = let p = c.requires in
     let sec = walk_sections _ p.ready in
     (omega (arith, p.first_value, sec.few_pages), omega (arith, p.first_value, sec.few_nodes)) in
     omega (arith, few, c.loop-i-test.true)
 
 pub enter_id-requires : goal.enter_id-requires
-enter_id-requires c = 
+enter_id-requires c =
     let few : (c.args.first ≤ 64) × (c.args.n ≤ 4096) = let p = c.requires in
     let sec = walk_sections _ p.ready in
     (omega (arith, p.first_value, sec.few_pages), omega (arith, p.first_value, sec.few_nodes)) in
@@ -62,9 +62,9 @@ enter_id-requires c =
     let f = c.requires.fresh in
     let k = inv.4 in
     let h = c.loop-i-test.true in record {
-  index = inv.0.entered.index;
-  n_in_bounds = (omega (arith, h, f.room, k), omega (arith, h, few));
-}
+      index = inv.0.entered.index;
+      n_in_bounds = (omega (arith, h, f.room, k), omega (arith, h, few));
+    }
 
 pub shape_of-index-then-enter_id : goal.shape_of-index-then-enter_id
 shape_of-index-then-enter_id c = c.enter_id.auto.index ∙ c.loop-i.invariant.4
@@ -73,7 +73,7 @@ pub shape_of-kinds-then-enter_id : goal.shape_of-kinds-then-enter_id
 shape_of-kinds-then-enter_id c = c.loop-i.invariant.3
 
 pub returns-then-enter_id : goal.returns-then-enter_id
-returns-then-enter_id c = 
+returns-then-enter_id c =
     let node-here : (c.row_of-r.result.row ≡ get_or (sheet_board c.args.text.now).nodes c.loop-i.i []) × Ready c.args.text.now c.args.rows.now (suc (c.args.first + c.loop-i.i)) c.row_of-r.result.next = let t = c.args.text.now in
     let p = c.requires in
     let i = c.loop-i.i in
@@ -89,12 +89,12 @@ returns-then-enter_id c =
     let h = c.loop-i-test.true in
     let e = c.enter_id.ensures in
     let again : node_twice b l.i ≡ true = sym (sym c.if-enter_id.true ∙ e.answer ∙ node_repeats b l.i _ (node-here).0 l.invariant.0.entered) in record {
-  walked_nodes = walking_twice a.text.now a.rows.now a.first a.n _ _ _ a.w.missing l.i l.missing l.place l.invariant.0 h a.w _ _ again (add-one (a.first + l.i));
-  nodes_seen = record { kinds = λ z. absurd (omega arith); unplaced = λ z. absurd (omega arith) };
-}
+      walked_nodes = walking_twice a.text.now a.rows.now a.first a.n _ _ _ a.w.missing l.i l.missing l.place l.invariant.0 h a.w _ _ again (add-one (a.first + l.i));
+      nodes_seen = record { kinds = λ z. absurd (omega arith); unplaced = λ z. absurd (omega arith) };
+    }
 
 pub offset_bounds-kinds-i : goal.offset_bounds-kinds-i
-offset_bounds-kinds-i c = 
+offset_bounds-kinds-i c =
     let few : (c.args.first ≤ 64) × (c.args.n ≤ 4096) = let p = c.requires in
     let sec = walk_sections _ p.ready in
     (omega (arith, p.first_value, sec.few_pages), omega (arith, p.first_value, sec.few_nodes)) in
@@ -104,7 +104,7 @@ pub bounds-kinds-i : goal.bounds-kinds-i
 bounds-kinds-i c = omega (arith, c.loop-i-test.true, c.requires.n_in_bounds, c.loop-i.invariant.3)
 
 pub overflow_add-i : goal.overflow_add-i
-overflow_add-i c = 
+overflow_add-i c =
     let few : (c.args.first ≤ 64) × (c.args.n ≤ 4096) = let p = c.requires in
     let sec = walk_sections _ p.ready in
     (omega (arith, p.first_value, sec.few_pages), omega (arith, p.first_value, sec.few_nodes)) in
@@ -114,7 +114,7 @@ pub loop-i-smaller : goal.loop-i-smaller
 loop-i-smaller c = omega (arith, c.loop-i-test.true)
 
 pub loop-i-preserved : goal.loop-i-preserved
-loop-i-preserved c = 
+loop-i-preserved c =
     let node-here : (c.row_of-r.result.row ≡ get_or (sheet_board c.args.text.now).nodes c.loop-i.i []) × Ready c.args.text.now c.args.rows.now (suc (c.args.first + c.loop-i.i)) c.row_of-r.result.next = let t = c.args.text.now in
     let p = c.requires in
     let i = c.loop-i.i in
@@ -159,6 +159,6 @@ pub returns : goal.returns
 returns c = let a = c.args in
     let l = c.loop-i in
     let end : l.i ≡ a.n = omega (arith, l.invariant.0.within, c.loop-i-test.false) in record {
-  walked_nodes = walking_end a.text.now a.rows.now a.first a.n _ _ _ a.w.missing l.i l.missing l.place a.w _ l.invariant.0 end refl refl refl refl;
-  nodes_seen = record { kinds = λ z. rw end at l.invariant.2; unplaced = λ z. rw end at l.invariant.1 };
-}
+      walked_nodes = walking_end a.text.now a.rows.now a.first a.n _ _ _ a.w.missing l.i l.missing l.place a.w _ l.invariant.0 end refl refl refl refl;
+      nodes_seen = record { kinds = λ z. rw end at l.invariant.2; unplaced = λ z. rw end at l.invariant.1 };
+    }

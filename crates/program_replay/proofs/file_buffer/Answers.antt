@@ -2,11 +2,7 @@
 use Prim.Native.Nat.{ℕ}
 use mathlib.Core.Path.{sym}
 use lib.ListN.{length-replicate}
-use Rattle.program_replay.proofs.file_buffer.Statement.{statement}
-use Rattle.program_replay.proofs.file_buffer.Tie as tie
+use Rattle.program_replay.proofs.file_buffer.Goals as goal
 
-returns : tie.Need-returns
+pub returns : goal.returns
 returns c = sym (length-replicate {0} {A = ℕ} 1048576 0)
-
-pub file-buffer-spec : {M : Type 1} → statement M
-file-buffer-spec = tie.close (tie.spec returns)

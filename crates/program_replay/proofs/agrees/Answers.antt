@@ -1,0 +1,21 @@
+-- `replay::agrees`: an answer that is the same byte for byte is the plan sheet or E line of the definitions. Assumes nothing.
+use native.Mathlib.Omega.{arith}
+use mathlib.Core.Path.{sym, ap, ◌∙◌}
+use Rattle.base.proofs.Bools.{never}
+use Rattle.routes.specs.Route.{sheet_of}
+use Rattle.program_answer.proofs.Program.{program_fits}
+use Rattle.program_answer.proofs.Promise.{told_front, told_counts}
+use borrow.Author.Rules.{rules}
+use Rattle.std.proofs.lemmas.Bool.Decides.{Decides-eqb}
+use Rattle.std.proofs.lemmas.Slice.Eq.{slice_eq-Decides}
+use Rattle.program_replay.proofs.agrees.Goals as goal
+
+pub slice_bounds-out-end : goal.slice_bounds-out-end
+slice_bounds-out-end c = (told_counts c.respond.ensures c.in-Written.is).0
+
+pub returns-in-Short : goal.returns-in-Short
+returns-in-Short c e = never cc
+
+pub returns-in-Written : goal.returns-in-Written
+returns-in-Written c e = sym ((slice_eq-Decides Decides-eqb _ _ _ c.eq.ensures).0 e) ∙ told_front c.respond.ensures c.in-Written.is
+    ∙ ap sheet_of (program_fits c.args.sheet.now 87168 (omega arith))
