@@ -204,7 +204,7 @@ pub type Made = (PathBuf, Vec<u8>);
 /// records, the plan beside each example, what the program prints, and the
 /// documents and tests that show lines of a plan.
 pub fn files(root: &Path, answer: Answer) -> io::Result<Vec<Made>> {
-    let mut made = sample(&root.join("records"), answer);
+    let mut made = sample(root, answer);
     for folder in ["examples", "examples/readings"] {
         for entry in fs::read_dir(root.join(folder))? {
             let sheet = entry?.path();
@@ -233,14 +233,24 @@ fn answered(sheet: &Path, into: PathBuf, answer: Answer) -> io::Result<Made> {
     Ok((into, answer.into_bytes()))
 }
 
+/// Where a file of the sample stands: what the gate's replay reads is that
+/// program's data.
+pub fn place(root: &Path, name: &str) -> PathBuf {
+    let folder = match name {
+        "boards.txt" | "damaged.txt" => "crates/program_replay/data",
+        _ => "records",
+    };
+    root.join(folder).join(name)
+}
+
 /// The files of the sample.
-fn sample(folder: &Path, answer: Answer) -> Vec<Made> {
+fn sample(root: &Path, answer: Answer) -> Vec<Made> {
     let (boards, damaged) = (boards(), damaged());
     let tallies = tallies(&boards, &damaged).into_bytes();
     vec![
-        (folder.join("boards.txt"), cases(&boards.sheets, answer)),
-        (folder.join("damaged.txt"), cases(&damaged, answer)),
-        (folder.join("lanes.txt"), list_cases(&lists()).into_bytes()),
-        (folder.join("branches.txt"), tallies),
+        (place(root, "boards.txt"), cases(&boards.sheets, answer)),
+        (place(root, "damaged.txt"), cases(&damaged, answer)),
+        (place(root, "lanes.txt"), list_cases(&lists()).into_bytes()),
+        (place(root, "branches.txt"), tallies),
     ]
 }

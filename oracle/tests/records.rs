@@ -11,8 +11,7 @@ fn root() -> PathBuf {
 }
 
 fn file(name: &str) -> Vec<u8> {
-    let path = root().join("records").join(name);
-    fs::read(&path).expect("records/ stands at the repository's root")
+    fs::read(records::place(&root(), name)).expect("the records stand in the repository")
 }
 
 fn replay(name: &str) -> usize {

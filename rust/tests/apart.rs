@@ -1,24 +1,28 @@
 //! `plan_bus`, `lay_bus` and `lay_mini_bus` one after the other beside `route`,
 //! on slices of their own: answers, refusals, and every row of every buffer.
 
-use oracle::text;
+use oracle::{records, text};
 use panzhyqur::calls::{self, BusCounts, MiniNumbers, Output, PagesNumbers, PlanNumbers, Work};
 use panzhyqur::{Buffers, Limits};
 use std::path::PathBuf;
 
 const POISON: u32 = 0x5eed_5eed;
 
+fn root() -> PathBuf {
+    PathBuf::from(env!("CARGO_MANIFEST_DIR")).join("..")
+}
+
 /// A file of the repository.
 fn file(name: &str) -> Vec<u8> {
-    let root = PathBuf::from(env!("CARGO_MANIFEST_DIR")).join("..");
-    std::fs::read(root.join(name)).expect("the file stands at the repository's root")
+    std::fs::read(root().join(name)).expect("the file stands at the repository's root")
 }
 
 /// The sheets of a file of records, each with the answer recorded.
 fn cases(name: &str) -> Vec<(Vec<u8>, String)> {
     let mut cases = Vec::new();
     let mut sheet = None;
-    for part in text::parts(&file(name)) {
+    let stream = std::fs::read(records::place(&root(), name));
+    for part in text::parts(&stream.expect("the records stand in the repository")) {
         match sheet.take() {
             Some(sheet) => cases.push((sheet, String::from_utf8_lossy(&part.text).into_owned())),
             None if part.marker == "%%plan" => sheet = Some(part.text),
@@ -167,7 +171,7 @@ fn examples() {
 #[test]
 fn recorded_boards() {
     let mut buffers = Buffers::for_limits(&Limits::PROGRAM);
-    let cases = cases("records/boards.txt");
+    let cases = cases("boards.txt");
     assert_eq!(cases.len(), 402);
     let mut corners = 0;
     for (sheet, plan) in &cases {
@@ -181,7 +185,7 @@ fn recorded_boards() {
 /// be one that the calls take.
 #[test]
 fn recorded_refusals() {
-    let cases = cases("records/damaged.txt");
+    let cases = cases("damaged.txt");
     assert_eq!(cases.len(), 320);
     let mut refused = 0;
     for (sheet, recorded) in &cases {

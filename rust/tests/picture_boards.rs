@@ -4,14 +4,16 @@
 #[path = "common/tags.rs"]
 mod tags;
 
-use oracle::{r#gen, text};
+use oracle::{r#gen, records, text};
 use panzhyqur::*;
+use std::path::PathBuf;
 use std::time::{Duration, Instant};
 
 /// The sheets of a file of records.
 fn recorded(name: &str) -> Vec<Vec<u8>> {
-    let path = concat!(env!("CARGO_MANIFEST_DIR"), "/../records/");
-    let stream = std::fs::read(format!("{path}{name}")).expect("records/ stands at the root");
+    let root = PathBuf::from(env!("CARGO_MANIFEST_DIR")).join("..");
+    let stream = std::fs::read(records::place(&root, name));
+    let stream = stream.expect("the records stand in the repository");
     let parts = text::parts(&stream).into_iter();
     parts
         .filter(|part| part.marker == "%%plan")

@@ -1,17 +1,15 @@
 //! The recorded boards and damaged sheets through the command `route`, byte
 //! for byte, and the recorded demand lists through the lane call.
 
-use oracle::text;
+use oracle::{records, text};
 use panzhyqur::calls;
 use std::io::Write;
 use std::path::PathBuf;
 use std::process::{Command, Stdio};
 
 fn file(name: &str) -> Vec<u8> {
-    let path = PathBuf::from(env!("CARGO_MANIFEST_DIR"))
-        .join("../records")
-        .join(name);
-    std::fs::read(&path).expect("records/ stands at the repository's root")
+    let root = PathBuf::from(env!("CARGO_MANIFEST_DIR")).join("..");
+    std::fs::read(records::place(&root, name)).expect("the records stand in the repository")
 }
 
 /// The sheets of a file of records, and the answers recorded.
