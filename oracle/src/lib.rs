@@ -31,6 +31,18 @@ pub use board::{Board, Limits, Refusal};
 pub use harness::run_plan;
 pub use plan::Plan;
 
+use std::path::{Path, PathBuf};
+
+/// Where a file of records stands: what the gate's replay reads is that
+/// program's data.
+pub fn record_file(root: &Path, name: &str) -> PathBuf {
+    let folder = match name {
+        "boards.txt" | "damaged.txt" => "crates/program_replay/data",
+        _ => "records",
+    };
+    root.join(folder).join(name)
+}
+
 /// The answer to one sheet: the plan sheet, or the `E` line of its refusal.
 #[cfg(feature = "original")]
 pub fn answer(text: &[u8], limits: &Limits) -> String {

@@ -3,7 +3,7 @@
 
 use crate::model::branch::{BRANCHES, Branch, Counts};
 use crate::rng::Rng;
-use crate::{Limits, board, r#gen, lanes, model, shown, text};
+use crate::{Limits, board, r#gen, lanes, model, record_file, shown, text};
 use std::path::{Path, PathBuf};
 use std::{fs, io};
 
@@ -233,24 +233,15 @@ fn answered(sheet: &Path, into: PathBuf, answer: Answer) -> io::Result<Made> {
     Ok((into, answer.into_bytes()))
 }
 
-/// Where a file of the sample stands: what the gate's replay reads is that
-/// program's data.
-pub fn place(root: &Path, name: &str) -> PathBuf {
-    let folder = match name {
-        "boards.txt" | "damaged.txt" => "crates/program_replay/data",
-        _ => "records",
-    };
-    root.join(folder).join(name)
-}
-
 /// The files of the sample.
 fn sample(root: &Path, answer: Answer) -> Vec<Made> {
     let (boards, damaged) = (boards(), damaged());
     let tallies = tallies(&boards, &damaged).into_bytes();
+    let place = |name| record_file(root, name);
     vec![
-        (place(root, "boards.txt"), cases(&boards.sheets, answer)),
-        (place(root, "damaged.txt"), cases(&damaged, answer)),
-        (place(root, "lanes.txt"), list_cases(&lists()).into_bytes()),
-        (place(root, "branches.txt"), tallies),
+        (place("boards.txt"), cases(&boards.sheets, answer)),
+        (place("damaged.txt"), cases(&damaged, answer)),
+        (place("lanes.txt"), list_cases(&lists()).into_bytes()),
+        (place("branches.txt"), tallies),
     ]
 }

@@ -2,7 +2,7 @@
 //! be made again.
 
 use oracle::shown::{self, Text};
-use oracle::{Limits, answer, lanes, model_answer, records, text};
+use oracle::{Limits, answer, lanes, model_answer, record_file, records, text};
 use std::fs;
 use std::path::PathBuf;
 
@@ -11,7 +11,7 @@ fn root() -> PathBuf {
 }
 
 fn file(name: &str) -> Vec<u8> {
-    fs::read(records::place(&root(), name)).expect("the records stand in the repository")
+    fs::read(record_file(&root(), name)).expect("the records stand in the repository")
 }
 
 fn replay(name: &str) -> usize {

@@ -1,7 +1,7 @@
 //! `plan_bus`, `lay_bus` and `lay_mini_bus` one after the other beside `route`,
 //! on slices of their own: answers, refusals, and every row of every buffer.
 
-use oracle::{records, text};
+use oracle::text;
 use panzhyqur::calls::{self, BusCounts, MiniNumbers, Output, PagesNumbers, PlanNumbers, Work};
 use panzhyqur::{Buffers, Limits};
 use std::path::PathBuf;
@@ -21,7 +21,7 @@ fn file(name: &str) -> Vec<u8> {
 fn cases(name: &str) -> Vec<(Vec<u8>, String)> {
     let mut cases = Vec::new();
     let mut sheet = None;
-    let stream = std::fs::read(records::place(&root(), name));
+    let stream = std::fs::read(oracle::record_file(&root(), name));
     for part in text::parts(&stream.expect("the records stand in the repository")) {
         match sheet.take() {
             Some(sheet) => cases.push((sheet, String::from_utf8_lossy(&part.text).into_owned())),

@@ -4,7 +4,7 @@
 #[path = "common/tags.rs"]
 mod tags;
 
-use oracle::{r#gen, records, text};
+use oracle::{r#gen, text};
 use panzhyqur::*;
 use std::path::PathBuf;
 use std::time::{Duration, Instant};
@@ -12,7 +12,7 @@ use std::time::{Duration, Instant};
 /// The sheets of a file of records.
 fn recorded(name: &str) -> Vec<Vec<u8>> {
     let root = PathBuf::from(env!("CARGO_MANIFEST_DIR")).join("..");
-    let stream = std::fs::read(records::place(&root, name));
+    let stream = std::fs::read(oracle::record_file(&root, name));
     let stream = stream.expect("the records stand in the repository");
     let parts = text::parts(&stream).into_iter();
     parts

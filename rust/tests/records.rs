@@ -1,7 +1,7 @@
 //! The recorded boards and damaged sheets through the command `route`, byte
 //! for byte, and the recorded demand lists through the lane call.
 
-use oracle::{records, text};
+use oracle::text;
 use panzhyqur::calls;
 use std::io::Write;
 use std::path::PathBuf;
@@ -9,7 +9,7 @@ use std::process::{Command, Stdio};
 
 fn file(name: &str) -> Vec<u8> {
     let root = PathBuf::from(env!("CARGO_MANIFEST_DIR")).join("..");
-    std::fs::read(records::place(&root, name)).expect("the records stand in the repository")
+    std::fs::read(oracle::record_file(&root, name)).expect("the records stand in the repository")
 }
 
 /// The sheets of a file of records, and the answers recorded.
