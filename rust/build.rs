@@ -2,15 +2,15 @@
 //!
 //! - in the folder that the variable RATTLE_STATICLIB names,
 //! - in `lib/` beside this crate's folder, as a package has it,
-//! - in `target/staticlib/` at the repository's root, where `rt staticlib`
-//!   writes it: where it is missing there it is proved and made.
+//! - in `crates/panzhyqur/out/` of the repository, where `rt lib` writes it:
+//!   where it is missing there it is proved and made.
 
 use std::collections::VecDeque;
 use std::fs::File;
 use std::io::{BufRead, BufReader, Write};
 use std::path::{Path, PathBuf};
 use std::process::{Command, Stdio, exit};
-use std::time::SystemTime;
+use std::time::{Instant, SystemTime};
 use std::{env, fs, io};
 
 /// The library whose functions src/calls.rs declares.
@@ -88,7 +88,7 @@ fn own_folder(root: &Path) -> PathBuf {
             root.display()
         ));
     }
-    let folder = root.join("target/staticlib");
+    let folder = root.join("crates").join(LIBRARY).join("out");
     if !holds(&folder) {
         make(&root, &archive(&folder));
     }
@@ -96,39 +96,49 @@ fn own_folder(root: &Path) -> PathBuf {
     folder
 }
 
-/// Proves the library and writes its archive. `rt check` comes first, since it
-/// proves several crates at a time.
+/// Proves the library and writes its archive: `rt lib` in each crate that it has,
+/// the lowest first, and in its own.
 fn make(root: &Path, archive: &Path) {
     let shown = archive.display();
-    let mut told = Told::new(crates(root));
+    let crates = crates(root);
+    let mut told = Told::new(crates.len());
     told.line(&format!(
         "{shown} is missing: proving {} crates with `rt`; from nothing this takes 10 minutes and more",
         told.crates
     ));
-    for command in ["check", "staticlib"] {
-        match told.run(root, command) {
+    for name in &crates {
+        match told.run(root, name) {
             Ok(true) => {}
-            Ok(false) => stop(&format!("`rt {command} {LIBRARY}` failed")),
+            Ok(false) => stop(&format!("`rt lib` in crates/{name} failed")),
             Err(why) => stop(&format!(
-                "{shown} is missing and `rt` can't be run ({why}): run `rt staticlib {LIBRARY}` where the Rattle kit is, or set RATTLE_STATICLIB to a folder that holds lib{LIBRARY}.a"
+                "{shown} is missing and `rt` can't be run ({why}): run `rt lib` in crates/{LIBRARY} where the Rattle kit is, or set RATTLE_STATICLIB to a folder that holds lib{LIBRARY}.a"
             )),
         }
     }
     if !archive.exists() {
-        stop(&format!("`rt staticlib {LIBRARY}` did not write {shown}"));
+        stop(&format!(
+            "`rt lib` in crates/{LIBRARY} did not write {shown}"
+        ));
     }
     println!(
-        "cargo::warning={shown} was missing: ran `rt staticlib {LIBRARY}`, which proved and wrote it"
+        "cargo::warning={shown} was missing: ran `rt lib` in crates/{LIBRARY}, which proved and wrote it"
     );
 }
 
-/// How many crates of the repository the library has, its own included: the
-/// names on its line of crates.txt.
-fn crates(root: &Path) -> usize {
+/// The crates of the repository that the library has, in the order of crates.txt,
+/// and its own: the names on its line there.
+fn crates(root: &Path) -> Vec<String> {
     let list = fs::read_to_string(root.join("crates.txt")).unwrap_or_default();
-    let mut lines = list.lines().filter_map(|line| line.split_once(':'));
-    let line = lines.find(|(name, _)| *name == LIBRARY);
-    line.map_or(0, |(_, rest)| rest.split_whitespace().count() + 1)
+    let lines = list.lines().filter_map(|line| line.split_once(':'));
+    let name = |front: &str| front.split_whitespace().next().map(str::to_string);
+    let lines: Vec<(String, &str)> = lines
+        .filter_map(|(front, rest)| Some((name(front)?, rest)))
+        .collect();
+    let own = lines.iter().find(|(name, _)| name == LIBRARY);
+    let has = |name: &str| own.is_some_and(|(_, rest)| rest.split_whitespace().any(|n| n == name));
+    let below = lines.iter().map(|(name, _)| name);
+    let below = below.filter(|name| has(name)).cloned();
+    below.chain([LIBRARY.to_string()]).collect()
 }
 
 /// Says how far the prover is. Cargo keeps what a build script writes, so it is
@@ -156,11 +166,13 @@ impl Told {
         }
     }
 
-    /// Runs `rt` on the library; whether it went well.
-    fn run(&mut self, root: &Path, command: &str) -> io::Result<bool> {
+    /// Runs `rt lib` on a crate; whether it went well.
+    fn run(&mut self, root: &Path, name: &str) -> io::Result<bool> {
+        let begun = Instant::now();
+        let mut is_proved = false;
         let mut rt = Command::new("rt")
-            .args([command, LIBRARY])
-            .current_dir(root)
+            .arg("lib")
+            .current_dir(root.join("crates").join(name))
             .stdin(Stdio::null())
             .stdout(Stdio::piped())
             .stderr(Stdio::inherit())
@@ -168,8 +180,12 @@ impl Told {
         let out = rt.stdout.take().expect("piped");
         let mut last = VecDeque::new();
         for line in BufReader::new(out).lines().map_while(Result::ok) {
-            self.proved(command, &line);
-            last.push_back(line);
+            // The prover's last line. Of a crate that is built it says nothing.
+            is_proved |= line.starts_with("logic=proved ");
+            // How many modules each library has tells nothing of a failure.
+            if !line.contains(": modules loaded=") {
+                last.push_back(line);
+            }
             if last.len() > LINES {
                 last.pop_front();
             }
@@ -177,36 +193,31 @@ impl Told {
         let well = rt.wait()?.success();
         if !well {
             last.iter().for_each(|line| eprintln!("{line}"));
+            return Ok(false);
         }
-        Ok(well)
-    }
-
-    /// `rt: NAME proved (SECONDS s)`, once a crate.
-    fn proved(&mut self, command: &str, line: &str) {
-        let said = line.strip_prefix("rt: ").filter(|_| command == "check");
-        let Some((name, how)) = said.and_then(|said| said.split_once(" proved (")) else {
-            return;
-        };
         self.done += 1;
-        if !how.starts_with("unchanged") {
+        if is_proved {
             let (done, all) = (self.done, self.crates);
-            let left = all.saturating_sub(done);
-            let time = how.trim_end_matches(')');
+            let (left, time) = (all - done, begun.elapsed().as_secs());
             self.line(&format!(
-                "{name} proved in {time}; {done} of {all} crates, {left} left"
+                "{name} proved in {time} s; {done} of {all} crates, {left} left"
             ));
         }
+        Ok(true)
     }
 }
 
-/// A library that is older than the Rattle source is linked, but told.
+/// A library that is older than the Rattle source is linked, but told. What `rt`
+/// keeps stands beside that source, so cargo is told of the folders src/ alone.
 fn warn_if_older(root: &Path, archive: &Path) {
-    println!("cargo::rerun-if-changed={}", root.join("crates").display());
-    let newest = fs::read_dir(root.join("crates"))
-        .into_iter()
-        .flatten()
-        .flatten()
-        .flat_map(|krate| fs::read_dir(krate.path().join("src")))
+    let list = root.join("crates.txt");
+    println!("cargo::rerun-if-changed={}", list.display());
+    let crates = fs::read_dir(root.join("crates")).into_iter().flatten();
+    let folders = crates.flatten().map(|krate| krate.path().join("src"));
+    let newest = folders
+        .filter(|folder| folder.is_dir())
+        .inspect(|folder| println!("cargo::rerun-if-changed={}", folder.display()))
+        .flat_map(fs::read_dir)
         .flatten()
         .flatten()
         .map(|file| changed(&file.path()))

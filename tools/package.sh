@@ -11,8 +11,8 @@ crate without what needs the oracle, examples, rules, licence, and MADE-FROM: th
 commit, the kit and what the gate said. No `rt` is needed to make it or to build
 from it; OUT must not be there.
 
-The library is target/staticlib/libpanzhyqur.a, which the gate (.ci/run) proves and
-writes. The package is refused where the gate has not passed on just this commit
+The library is crates/panzhyqur/out/libpanzhyqur.a, which the gate (.ci/run) proves
+and writes. The package is refused where the gate has not passed on just this commit
 with a clean tree and this library (target/gate.txt).
 
 --ungated         makes it all the same; MADE-FROM then says `gate: not run`
@@ -45,10 +45,10 @@ while [ $# -gt 0 ]; do
     shift
 done
 [ -n "$out" ] || wrong "a folder is asked for"
-[ -z "$library" ] || [ -n "$ungated" ] || wrong "the gate knows target/staticlib alone: --library goes with --ungated"
+[ -z "$library" ] || [ -n "$ungated" ] || wrong "the gate knows crates/panzhyqur/out alone: --library goes with --ungated"
 root=$(cd "$(dirname "$0")/.." && pwd)
-archive=${library:-$root/target/staticlib}/libpanzhyqur.a
-[ -f "$archive" ] || fail "no $archive: run bash .ci/run, or rt staticlib panzhyqur"
+archive=${library:-$root/crates/panzhyqur/out}/libpanzhyqur.a
+[ -f "$archive" ] || fail "no $archive: run bash .ci/run, or rt lib in crates/panzhyqur"
 for file in "$out" "$out.tar.gz"; do [ ! -e "$file" ] || fail "$file is there already"; done
 
 digest() { sha256sum "$1" | cut -d' ' -f1; }

@@ -205,6 +205,13 @@ pub type Made = (PathBuf, Vec<u8>);
 /// documents and tests that show lines of a plan.
 pub fn files(root: &Path, answer: Answer) -> io::Result<Vec<Made>> {
     let mut made = sample(&root.join("records"), answer);
+    // The gate's replay reads the first two as its own data: the same files once more.
+    let data = root.join("crates/program_replay/data");
+    let read = made[..2].to_vec();
+    made.extend(
+        read.into_iter()
+            .map(|(path, text)| (data.join(path.file_name().unwrap_or_default()), text)),
+    );
     for folder in ["examples", "examples/readings"] {
         for entry in fs::read_dir(root.join(folder))? {
             let sheet = entry?.path();

@@ -2,7 +2,7 @@
  * proves. The rules that are named here (S15, E7 ..) are those of docs/RULES.md;
  * examples/route.c is a program to start from.
  *
- *     cc -std=c99 -I rust/include examples/route.c target/staticlib/libpanzhyqur.a
+ *     cc -std=c99 -I rust/include examples/route.c crates/panzhyqur/out/libpanzhyqur.a
  *
  * What holds of every call:
  *

@@ -30,7 +30,7 @@ fn has_compiler() -> bool {
 /// The folder of the static library, as build.rs finds it.
 fn library() -> PathBuf {
     let folder = std::env::var_os("RATTLE_STATICLIB").map(PathBuf::from);
-    let folder = folder.unwrap_or_else(|| here("../target/staticlib"));
+    let folder = folder.unwrap_or_else(|| here("../crates/panzhyqur/out"));
     folder.join("libpanzhyqur.a")
 }
 

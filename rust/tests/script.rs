@@ -11,18 +11,19 @@ fn root() -> PathBuf {
     PathBuf::from(env!("CARGO_MANIFEST_DIR")).join("..")
 }
 
-/// Proves nothing: says of each crate that it is proved, unless it was before,
-/// and makes a program that shows its input in brackets.
+/// Proves nothing: says of a crate that it is proved, unless it was before, and
+/// makes a program that shows its input in brackets, and runs it.
 const PROVER: &str = r#"#!/bin/sh
-echo called >>target/calls
-[ ! -e crates/broken ] || { echo "rt: base NOT PROVED (exit 1, 0 s)"; exit 1; }
-for name in base sheet program; do
-    if [ -e target/bin/program ]; then echo "rt: $name proved (unchanged since it was last proved)"
-    else echo "fn $name::some: proved"; echo "rt: $name proved (3 s)"; fi
-done
-mkdir -p target/bin
-[ -e target/bin/program ] || { printf '#!/bin/sh\necho "[$(cat)]"\n' >target/bin/program; chmod +x target/bin/program; }
-echo "rt: program ran, and wrote what its file 'stdout' has (0 s)"
+name=$(basename "$PWD")
+[ "$1 $name" = "run program" ] || [ "$1" = lib ] || exit 2
+[ "$name" != base ] || echo called >>../../target/calls
+[ ! -e ../broken ] || { echo "error: fn $name::some: not proved"; exit 1; }
+mkdir -p out
+[ -e out/built ] || { echo "fn $name::some: proved"; echo "logic=proved functions=1"; } >&2
+touch out/built
+[ "$1" = run ] || exit 0
+[ -e out/program ] || { printf '#!/bin/sh\necho "[$(cat)]"\n' >out/program; chmod +x out/program; }
+exec out/program
 "#;
 
 /// A small repository with the script, and the stand-in in a folder for the path.
@@ -41,7 +42,7 @@ impl Repository {
         let repository = Self(folder);
         repository.put(
             "crates.txt",
-            "base:\nsheet: base\nprogram: sheet base io libc\n",
+            "# Each, with what it uses.\nbase:\nother staticlib: base\nsheet: base\nprogram: sheet base csv\n",
         );
         for file in [
             "base/src/lib.rt",
@@ -121,16 +122,23 @@ fn proved_once_and_told_crate_by_crate() {
     assert_eq!((first.out.as_str(), first.status), ("[x]\n", Some(0)));
     let told: Vec<&str> = first.told.lines().collect();
     assert!(
-        told[0].contains("3 crates (rt check program)"),
+        told[0].contains("3 crates (rt run in crates/program)"),
         "{}",
         told[0]
     );
     let each = [
-        "route: base proved (3 s); 1 of 3 crates, 2 left",
-        "route: sheet proved (3 s); 2 of 3 crates, 1 left",
-        "route: program proved (3 s); 3 of 3 crates, 0 left",
+        "route: base proved; 1 of 3 crates, 2 left",
+        "route: sheet proved; 2 of 3 crates, 1 left",
+        "route: program proved; 3 of 3 crates, 0 left",
     ];
-    assert_eq!(told[1..], each);
+    let without_time = |line: &&str| {
+        let (front, rest) = line.split_once(" (").expect("a time");
+        let (time, rest) = rest.split_once(" s)").expect("in seconds");
+        assert!(time.parse::<u32>().is_ok(), "{line}");
+        format!("{front}{rest}")
+    };
+    let told: Vec<String> = told[1..].iter().map(without_time).collect();
+    assert_eq!(told, each);
     let log = fs::read_to_string(repository.0.join("target/route.log"));
     assert!(log.is_ok_and(|log| log.contains("fn base::some: proved")));
     for _ in 0..2 {
@@ -178,7 +186,7 @@ fn a_change_is_seen() {
     });
     asked("the kit", &|| repository.put("kit/rt", PROVER));
     asked("the program", &|| {
-        fs::remove_file(file("target/bin/program")).expect("it can be removed");
+        fs::remove_file(file("crates/program/out/program")).expect("it can be removed");
     });
     let before = repository.calls();
     repository.put(
@@ -212,7 +220,11 @@ fn what_is_not_proved_answers_nothing() {
     for _ in 0..2 {
         let said = repository.route(true, &[], "x");
         assert_eq!((said.out.as_str(), said.status), ("", Some(1)));
-        assert!(said.told.contains("base NOT PROVED"), "{}", said.told);
+        assert!(
+            said.told.contains("base::some: not proved"),
+            "{}",
+            said.told
+        );
     }
 }
 
@@ -242,8 +254,8 @@ fn files_and_help() {
 /// nothing is proved for it.
 #[test]
 fn the_program_itself() {
-    if !root().join("target/bin/program").exists() {
-        println!("skipped: target/bin/program is not built");
+    if !root().join("crates/program/out/program").exists() {
+        println!("skipped: crates/program/out/program is not built");
         return;
     }
     let names = ["a", "kinds", "refused"];
