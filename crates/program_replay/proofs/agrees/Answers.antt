@@ -5,7 +5,6 @@ use Rattle.base.proofs.Bools.{never}
 use Rattle.routes.specs.Route.{sheet_of}
 use Rattle.program_answer.proofs.Program.{program_fits}
 use Rattle.program_answer.proofs.Promise.{told_front, told_counts}
-use borrow.Author.Rules.{rules}
 use Rattle.std.proofs.lemmas.Bool.Decides.{Decides-eqb}
 use Rattle.std.proofs.lemmas.Slice.Eq.{slice_eq-Decides}
 use Rattle.program_replay.proofs.agrees.Goals as goal

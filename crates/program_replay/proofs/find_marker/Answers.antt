@@ -1,6 +1,4 @@
-use Prim.Native.Nat.{◌≤◌, ◌-◌}
 use native.Mathlib.Omega.{arith}
-use lib.ListN.{length}
 use Rattle.program_replay.proofs.find_marker.Goals as goal
 
 pub loop-at-init : goal.loop-at-init

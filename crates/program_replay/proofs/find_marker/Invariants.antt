@@ -1,6 +1,5 @@
 -- `replay::find_marker` goes on line by line, and not past the end. Assumes nothing.
 use Prim.Native.Nat.{◌≤◌, ◌-◌}
-use native.Mathlib.Omega.{arith}
 use lib.ListN.{length}
 use Rattle.program_replay.proofs.find_marker.Given as goal
 

@@ -1,4 +1,3 @@
-use Prim.Native.Nat.{◌+◌, ◌≤◌, ◌-◌}
 use native.Mathlib.Omega.{arith}
 use Rattle.program_replay.proofs.line_number.Goals as goal
 

@@ -1,6 +1,5 @@
 -- `replay::line_number` counts a line for each byte at most. Assumes nothing.
 use Prim.Native.Nat.{◌+◌, ◌≤◌, ◌-◌}
-use native.Mathlib.Omega.{arith}
 use Rattle.program_replay.proofs.line_number.Given as goal
 
 abbrev pub invariant-loop-i : goal.invariant-loop-i

@@ -1,6 +1,5 @@
 -- `replay::replay` goes on by a case at each turn, so there are no more cases than bytes. Assumes nothing.
 use Prim.Native.Nat.{◌≤◌, ◌-◌}
-use native.Mathlib.Omega.{arith}
 use lib.ListN.{length}
 use Rattle.program_replay.proofs.replay.Given as goal
 

@@ -1,8 +1,3 @@
-use borrow.Author.Rules.{rules}
-use Rattle.panzhyqur.proofs.answer_call.pz_answer.Reads as reads
-use Rattle.panzhyqur.proofs.answer_call.pz_answer.Lts as lts
-use Rattle.program_answer.proofs.calls.answer.Reads as answer-reads
-use Rattle.panzhyqur.proofs.answer_call.bytes_written.Reads as bytes-written-reads
 use Rattle.panzhyqur.proofs.answer_call.pz_answer.Goals as goal
 
 pub returns : goal.returns

@@ -1,8 +1,5 @@
 use mathlib.Core.Path.{sym, ap}
 use Rattle.panzhyqur.specs.HitsCall.{hits_numbers}
-use borrow.Author.Rules.{rules}
-use Rattle.panzhyqur.proofs.hits_call.hits_in_numbers.Reads as reads
-use Rattle.panzhyqur.proofs.hits_call.hits_in_numbers.Lts as lts
 use Rattle.panzhyqur.proofs.hits_call.hits_in_numbers.Goals as goal
 
 pub returns-in-Refused : goal.returns-in-Refused

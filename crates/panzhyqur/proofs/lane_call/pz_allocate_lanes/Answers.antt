@@ -3,7 +3,6 @@ use mathlib.Core.Path.{sym, subst}
 use lib.ListN.{length}
 use Rattle.lanes.specs.LaneCall.{Answered}
 use Rattle.lanes.specs.declared.LaneReport.{LaneReport}
-use borrow.Author.Rules.{rules}
 use Rattle.panzhyqur.proofs.lane_call.pz_allocate_lanes.Goals as goal
 
 pub returns : goal.returns

@@ -1,7 +1,6 @@
 -- `sheet::export::pz_check_sheet` meets its contract. Assumes nothing.
 use mathlib.Core.Path.{sym, ◌∙◌, ap}
 use Rattle.panzhyqur.specs.SheetCalls.{checked_numbers}
-use borrow.Author.Rules.{rules}
 use Rattle.panzhyqur.proofs.sheet_calls.pz_check_sheet.Goals as goal
 
 pub returns-in-Refused : goal.returns-in-Refused
