@@ -6,9 +6,18 @@ use std::io::Write;
 use std::os::unix::fs::PermissionsExt;
 use std::path::{Path, PathBuf};
 use std::process::{Command, Stdio};
+use std::sync::{Mutex, MutexGuard, PoisonError};
 
 fn root() -> PathBuf {
     PathBuf::from(env!("CARGO_MANIFEST_DIR")).join("..")
+}
+
+/// Held while a file is written and while a program is started: a file that one
+/// test writes is still open in a program that another starts just then, and can't
+/// be run until that has begun.
+fn alone() -> MutexGuard<'static, ()> {
+    static ALONE: Mutex<()> = Mutex::new(());
+    ALONE.lock().unwrap_or_else(PoisonError::into_inner)
 }
 
 /// Proves nothing: says of a crate that it is proved, unless it was before, and
@@ -67,6 +76,7 @@ impl Repository {
     fn put(&self, file: &str, text: &str) {
         let file = self.0.join(file);
         fs::create_dir_all(file.parent().expect("a folder")).expect("a folder can be made");
+        let _alone = alone();
         fs::write(file, text).expect("a file can be written");
     }
 
@@ -103,7 +113,11 @@ fn path_without_kit() -> String {
 
 fn said(command: &mut Command, input: &str) -> Said {
     let pipes = command.stdin(Stdio::piped()).stdout(Stdio::piped());
-    let mut child = (pipes.stderr(Stdio::piped()).spawn()).expect("the script can be started");
+    let started = {
+        let _alone = alone();
+        pipes.stderr(Stdio::piped()).spawn()
+    };
+    let mut child = started.expect("the script can be started");
     // A script that was told wrongly reads nothing.
     let _ = (child.stdin.take().expect("piped")).write_all(input.as_bytes());
     let out = child.wait_with_output().expect("the script ends");
