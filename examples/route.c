@@ -2,8 +2,8 @@
  * sheet, made from the rows that the library leaves, or the line E, number and
  * place of a refusal. From the repository's root:
  *
- *     cc -std=c99 -I rust/include -o /tmp/route examples/route.c crates/panzhyqur/out/libpanzhyqur.a
- *     /tmp/route examples/a.sheet
+ *     cc -std=c99 -I rust/include -o target/route examples/route.c crates/panzhyqur/out/libpanzhyqur.a
+ *     target/route examples/a.sheet
  */
 #include "panzhyqur.h"
 

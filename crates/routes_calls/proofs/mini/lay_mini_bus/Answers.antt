@@ -5,20 +5,61 @@ use mathlib.Core.Path.{◌≡◌, refl, sym, ◌∙◌}
 use mathlib.Core.List.{List}
 use lib.ListN.{length}
 use Rattle.sheet.specs.declared.Counts.{Counts}
-use mathlib.Core.Bool.{Bool}
-use Rattle.board.specs.Board.{Board}
 use Rattle.board.specs.Planning.{planning}
 use Rattle.board.specs.Refusals.{Judged}
 use Rattle.board.specs.Demands.{PageLanes, Planned, crowded, planned}
 use Rattle.board_plan.specs.TextPlan.{fits_lent, fitting, work_rows}
-use Rattle.board_plan.specs.declared.Asked.{Asked}
 use Rattle.board_plan.proofs.Calling.{asked_room}
 use Rattle.board_plan.proofs.Surveying.{BoardTold, survey_refusal, survey_crowd, survey_lanes}
 use Rattle.routes_gutter.proofs.Planned.{bus_lent}
 use Rattle.routes_gutter.specs.Calls.{bus_fits}
 use Rattle.routes_calls.specs.Mini.{mini_by, mini_fits, mini_call, HeldReady}
 use Rattle.routes_calls.proofs.MiniLaws.{called_same, called_away, mini_crowded, held_ready, rows_known, mini_refused, mini_tried, mini_called}
+use Rattle.routes_calls.proofs.mini.lay_mini_bus.Lts as lts
+use Rattle.routes_calls.proofs.mini.lay_mini_bus.Reads as reads
+use Rattle.routes_calls.proofs.mini.lay_mini_bus.Tie as tie
 use Rattle.routes_calls.proofs.mini.lay_mini_bus.Goals as goal
+
+-- Where the text is planned, and on the ways of a crowded and of a laned board.
+abbrev Surveyed : Type 0
+Surveyed = lts.After-marks tie.the-claims reads.Pre reads.Post tie.handed_clauses
+
+abbrev OnCrowded : Type 0
+OnCrowded = lts.Past-After-known_told2 tie.the-claims reads.Pre reads.Post tie.handed_clauses
+
+abbrev OnLaned : Type 0
+OnLaned = lts.Past-After-known_told3 tie.the-claims reads.Pre reads.Post tie.handed_clauses
+
+module _ (c : Surveyed) where
+  abbrev judged_for : Judged
+  judged_for = fitting c.ask-asked.result.most (fits_lent c.ask-asked.result.lent) c.args.text.now
+
+  abbrev Told : Counts → Planned → Type 0
+  Told = let p = c.plan_text in BoardTold p.new.records p.new.facts p.new.taps p.new.groups judged_for
+
+  -- the board that is told is ready for the corner pass
+  ready : (n : Counts) (q : Planned) (t : Told n q) → let a = c.args in HeldReady t.on_board c.plan_text.new.records n c.plan_text.new.facts a.rerouters.now a.bus_wires.now a.ports.now c.plan_text.new.spare
+  ready n q t =
+      let a = c.args in
+      let p = c.plan_text in
+      let k = c.ask-asked in
+      let room = asked_room k.result a.records.now a.facts.now a.taps.now a.groups.now a.demands.now a.keys.now a.marks.now k.ensures in
+      held_ready k.result.most a.text.now k.result.lent room.1
+      t.on_board t.is p.new.records p.new.facts t.facts n t.counted a.rerouters.now a.bus_wires.now a.ports.now p.new.spare
+      (bus_lent k.result _ p.new.spare a.rerouters.now a.bus_wires.now a.ports.now k.ensures (omega arith)) (omega arith)
+
+  -- the call by what is asked for is the call of the rules
+  call_is : let a = c.args in let k = c.ask-asked.result in mini_by a.rerouters.now a.bus_wires.now a.ports.now a.held (planning k.most (mini_fits a.rerouters.now a.bus_wires.now a.ports.now a.held (fits_lent k.lent)) a.text.now)
+      ≡ mini_call a.text.now (bus_fits (length a.rerouters.now) (length a.bus_wires.now) (length a.ports.now) (work_rows a.records.now a.facts.now a.taps.now a.groups.now a.demands.now a.keys.now a.marks.now)) a.rerouters.now a.bus_wires.now a.ports.now a.held
+  call_is =
+      let a = c.args in
+      mini_called a.text.now c.ask-asked.result (length a.rerouters.now) (length a.bus_wires.now) (length a.ports.now) _ c.ask-asked.ensures a.rerouters.now a.bus_wires.now a.ports.now a.held
+
+crowd : (c : OnCrowded) → (p : ℕ) × (c.in-Crowded.place ≡ suc p) × Told c.before c.in-Crowded.counts (crowded p)
+crowd c = let p = c.plan_text in survey_crowd p.new.records p.new.facts p.new.taps p.new.groups (judged_for c.before) p.result _ _ p.ensures c.in-Crowded.is
+
+lanes : (c : OnLaned) → (ps : List PageLanes) × Told c.before c.in-Laned.counts (planned ps)
+lanes c = let p = c.plan_text in survey_lanes p.new.records p.new.facts p.new.taps p.new.groups (judged_for c.before) p.result _ _ p.ensures c.in-Laned.is
 
 pub plan_text-requires : goal.plan_text-requires
 plan_text-requires c = let a = c.args in
@@ -30,89 +71,38 @@ plan_text-requires c = let a = c.args in
 
 pub held_fits-fits-requires : goal.held_fits-fits-requires
 held_fits-fits-requires c =
-    let asked_of : Asked = c.ask-asked.result in
-    let fits-of : Board → Bool = fits_lent (asked_of).lent in
-    let judged-of : Judged = fitting (asked_of).most (fits-of) c.args.text.now in
-    let Told : Counts → Planned → Type 0 = let p = c.plan_text in BoardTold p.new.records p.new.facts p.new.taps p.new.groups (judged-of) in
-    let ready : (n : Counts) (q : Planned) (t : Told n q) → HeldReady t.on_board c.plan_text.new.records n c.plan_text.new.facts c.args.rerouters.now c.args.bus_wires.now c.args.ports.now c.plan_text.new.spare = λ n q t. let a = c.args in
-    let p = c.plan_text in
-    let k = c.ask-asked in
-    let room = asked_room k.result a.records.now a.facts.now a.taps.now a.groups.now a.demands.now a.keys.now a.marks.now k.ensures in
-    held_ready k.result.most a.text.now k.result.lent room.1
-    t.on_board t.is p.new.records p.new.facts t.facts n t.counted a.rerouters.now a.bus_wires.now a.ports.now p.new.spare
-    (bus_lent k.result _ p.new.spare a.rerouters.now a.bus_wires.now a.ports.now k.ensures (omega arith)) (omega arith) in
-    let crowd : (p : ℕ) × (c.in-Crowded.place ≡ suc p) × Told c.in-Crowded.counts (crowded p) = let p = c.plan_text in survey_crowd p.new.records p.new.facts p.new.taps p.new.groups (judged-of) p.result _ _ p.ensures c.in-Crowded.is in
-    let t = (crowd).2 in (t.on_board, rows_known (ready _ _ t))
+    let w = c.before in
+    let t = (crowd w).2 in (t.on_board, rows_known (ready w.before _ _ t))
 
 pub turn_held-requires : goal.turn_held-requires
 turn_held-requires c =
-    let asked_of : Asked = c.ask-asked.result in
-    let fits-of : Board → Bool = fits_lent (asked_of).lent in
-    let judged-of : Judged = fitting (asked_of).most (fits-of) c.args.text.now in
-    let Told : Counts → Planned → Type 0 = let p = c.plan_text in BoardTold p.new.records p.new.facts p.new.taps p.new.groups (judged-of) in
-    let ready : (n : Counts) (q : Planned) (t : Told n q) → HeldReady t.on_board c.plan_text.new.records n c.plan_text.new.facts c.args.rerouters.now c.args.bus_wires.now c.args.ports.now c.plan_text.new.spare = λ n q t. let a = c.args in
-    let p = c.plan_text in
-    let k = c.ask-asked in
-    let room = asked_room k.result a.records.now a.facts.now a.taps.now a.groups.now a.demands.now a.keys.now a.marks.now k.ensures in
-    held_ready k.result.most a.text.now k.result.lent room.1
-    t.on_board t.is p.new.records p.new.facts t.facts n t.counted a.rerouters.now a.bus_wires.now a.ports.now p.new.spare
-    (bus_lent k.result _ p.new.spare a.rerouters.now a.bus_wires.now a.ports.now k.ensures (omega arith)) (omega arith) in
-    let lanes : (ps : List PageLanes) × Told c.in-Laned.counts (planned ps) = let p = c.plan_text in survey_lanes p.new.records p.new.facts p.new.taps p.new.groups (judged-of) p.result _ _ p.ensures c.in-Laned.is in
-    let t = (lanes).1 in (t.on_board, ready _ _ t)
+    let w = c.before.before.before.before.before in
+    let t = (lanes w).1 in (t.on_board, ready w.before _ _ t)
 
 pub returns-in-Refused : goal.returns-in-Refused
 returns-in-Refused c =
-    let asked_of : Asked = c.ask-asked.result in
-    let fits-of : Board → Bool = fits_lent (asked_of).lent in
-    let judged-of : Judged = fitting (asked_of).most (fits-of) c.args.text.now in
-    let call_is : mini_by c.args.rerouters.now c.args.bus_wires.now c.args.ports.now c.args.held (planning (asked_of).most (mini_fits c.args.rerouters.now c.args.bus_wires.now c.args.ports.now c.args.held (fits-of)) c.args.text.now) ≡ mini_call c.args.text.now (bus_fits (length c.args.rerouters.now) (length c.args.bus_wires.now) (length c.args.ports.now) (work_rows c.args.records.now c.args.facts.now c.args.taps.now c.args.groups.now c.args.demands.now c.args.keys.now c.args.marks.now)) c.args.rerouters.now c.args.bus_wires.now c.args.ports.now c.args.held = let a = c.args in
-    mini_called a.text.now (asked_of) (length a.rerouters.now) (length a.bus_wires.now) (length a.ports.now) _ c.ask-asked.ensures a.rerouters.now a.bus_wires.now a.ports.now a.held in
+    let w = c.before.before in
     let p = c.plan_text in
     let a = c.args in
-    let is = survey_refusal p.new.records p.new.facts p.new.taps p.new.groups (judged-of) p.result _ _ p.ensures c.in-Refused.is in
-    called_same (call_is)
-    (called_away _ a.rerouters.now a.bus_wires.now a.ports.now a.rerouters.now a.bus_wires.now a.ports.now _ _ (mini_refused a.rerouters.now a.bus_wires.now a.ports.now a.held (asked_of).most (fits-of) a.text.now _ _ is) refl refl refl)
+    let k = c.ask-asked.result in
+    let is = survey_refusal p.new.records p.new.facts p.new.taps p.new.groups (judged_for w) p.result _ _ p.ensures c.in-Refused.is in
+    called_same (call_is w)
+    (called_away _ a.rerouters.now a.bus_wires.now a.ports.now a.rerouters.now a.bus_wires.now a.ports.now _ _ (mini_refused a.rerouters.now a.bus_wires.now a.ports.now a.held k.most (fits_lent k.lent) a.text.now _ _ is) refl refl refl)
 
 pub returns-in-Crowded : goal.returns-in-Crowded
 returns-in-Crowded c =
-    let asked_of : Asked = c.ask-asked.result in
-    let fits-of : Board → Bool = fits_lent (asked_of).lent in
-    let call_is : mini_by c.args.rerouters.now c.args.bus_wires.now c.args.ports.now c.args.held (planning (asked_of).most (mini_fits c.args.rerouters.now c.args.bus_wires.now c.args.ports.now c.args.held (fits-of)) c.args.text.now) ≡ mini_call c.args.text.now (bus_fits (length c.args.rerouters.now) (length c.args.bus_wires.now) (length c.args.ports.now) (work_rows c.args.records.now c.args.facts.now c.args.taps.now c.args.groups.now c.args.demands.now c.args.keys.now c.args.marks.now)) c.args.rerouters.now c.args.bus_wires.now c.args.ports.now c.args.held = let a = c.args in
-    mini_called a.text.now (asked_of) (length a.rerouters.now) (length a.bus_wires.now) (length a.ports.now) _ c.ask-asked.ensures a.rerouters.now a.bus_wires.now a.ports.now a.held in
-    let judged-of : Judged = fitting (asked_of).most (fits-of) c.args.text.now in
-    let Told : Counts → Planned → Type 0 = let p = c.plan_text in BoardTold p.new.records p.new.facts p.new.taps p.new.groups (judged-of) in
-    let ready : (n : Counts) (q : Planned) (t : Told n q) → HeldReady t.on_board c.plan_text.new.records n c.plan_text.new.facts c.args.rerouters.now c.args.bus_wires.now c.args.ports.now c.plan_text.new.spare = λ n q t. let a = c.args in
-    let p = c.plan_text in
-    let k = c.ask-asked in
-    let room = asked_room k.result a.records.now a.facts.now a.taps.now a.groups.now a.demands.now a.keys.now a.marks.now k.ensures in
-    held_ready k.result.most a.text.now k.result.lent room.1
-    t.on_board t.is p.new.records p.new.facts t.facts n t.counted a.rerouters.now a.bus_wires.now a.ports.now p.new.spare
-    (bus_lent k.result _ p.new.spare a.rerouters.now a.bus_wires.now a.ports.now k.ensures (omega arith)) (omega arith) in
-    let crowd : (p : ℕ) × (c.in-Crowded.place ≡ suc p) × Told c.in-Crowded.counts (crowded p) = let p = c.plan_text in survey_crowd p.new.records p.new.facts p.new.taps p.new.groups (judged-of) p.result _ _ p.ensures c.in-Crowded.is in
+    let w = c.before.before.before in
     let a = c.args in
-    let t = (crowd).2 in
+    let k = c.ask-asked.result in
+    let t = (crowd w).2 in
     let f = c.held_fits-fits in
-    called_same (sym (mini_tried a.rerouters.now a.bus_wires.now a.ports.now a.held (asked_of).most (fits-of) a.text.now t.on_board t.is) ∙ call_is)
-    (mini_crowded a.rerouters.now a.bus_wires.now a.ports.now a.held t.on_board (crowd).0 _ t.lanes (crowd).1 f.result (f.ensures t.on_board (rows_known (ready _ _ t))) c.refuse_crowded.result c.refuse_crowded.ensures)
+    called_same (sym (mini_tried a.rerouters.now a.bus_wires.now a.ports.now a.held k.most (fits_lent k.lent) a.text.now t.on_board t.is) ∙ call_is w.before)
+    (mini_crowded a.rerouters.now a.bus_wires.now a.ports.now a.held t.on_board (crowd w).0 _ t.lanes (crowd w).1 f.result (f.ensures t.on_board (rows_known (ready w.before _ _ t))) c.refuse_crowded.result c.refuse_crowded.ensures)
 
 pub returns-in-Laned : goal.returns-in-Laned
 returns-in-Laned c =
-    let asked_of : Asked = c.ask-asked.result in
-    let fits-of : Board → Bool = fits_lent (asked_of).lent in
-    let call_is : mini_by c.args.rerouters.now c.args.bus_wires.now c.args.ports.now c.args.held (planning (asked_of).most (mini_fits c.args.rerouters.now c.args.bus_wires.now c.args.ports.now c.args.held (fits-of)) c.args.text.now) ≡ mini_call c.args.text.now (bus_fits (length c.args.rerouters.now) (length c.args.bus_wires.now) (length c.args.ports.now) (work_rows c.args.records.now c.args.facts.now c.args.taps.now c.args.groups.now c.args.demands.now c.args.keys.now c.args.marks.now)) c.args.rerouters.now c.args.bus_wires.now c.args.ports.now c.args.held = let a = c.args in
-    mini_called a.text.now (asked_of) (length a.rerouters.now) (length a.bus_wires.now) (length a.ports.now) _ c.ask-asked.ensures a.rerouters.now a.bus_wires.now a.ports.now a.held in
-    let judged-of : Judged = fitting (asked_of).most (fits-of) c.args.text.now in
-    let Told : Counts → Planned → Type 0 = let p = c.plan_text in BoardTold p.new.records p.new.facts p.new.taps p.new.groups (judged-of) in
-    let ready : (n : Counts) (q : Planned) (t : Told n q) → HeldReady t.on_board c.plan_text.new.records n c.plan_text.new.facts c.args.rerouters.now c.args.bus_wires.now c.args.ports.now c.plan_text.new.spare = λ n q t. let a = c.args in
-    let p = c.plan_text in
-    let k = c.ask-asked in
-    let room = asked_room k.result a.records.now a.facts.now a.taps.now a.groups.now a.demands.now a.keys.now a.marks.now k.ensures in
-    held_ready k.result.most a.text.now k.result.lent room.1
-    t.on_board t.is p.new.records p.new.facts t.facts n t.counted a.rerouters.now a.bus_wires.now a.ports.now p.new.spare
-    (bus_lent k.result _ p.new.spare a.rerouters.now a.bus_wires.now a.ports.now k.ensures (omega arith)) (omega arith) in
-    let lanes : (ps : List PageLanes) × Told c.in-Laned.counts (planned ps) = let p = c.plan_text in survey_lanes p.new.records p.new.facts p.new.taps p.new.groups (judged-of) p.result _ _ p.ensures c.in-Laned.is in
+    let w = c.before.before.before.before.before.before.before.before.before.before in
     let a = c.args in
-    let t = (lanes).1 in
-    let l = c.turn_held in
-    called_same (sym (mini_tried a.rerouters.now a.bus_wires.now a.ports.now a.held (asked_of).most (fits-of) a.text.now t.on_board t.is) ∙ call_is)
-    (l.ensures t.on_board (lanes).0 (ready _ _ t) t.lanes)
+    let k = c.ask-asked.result in
+    let t = (lanes w).1 in
+    called_same (sym (mini_tried a.rerouters.now a.bus_wires.now a.ports.now a.held k.most (fits_lent k.lent) a.text.now t.on_board t.is) ∙ call_is w.before) (c.turn_held.ensures t.on_board (lanes w).0 (ready w.before _ _ t) t.lanes)

@@ -7,23 +7,32 @@ use Rattle.board_plan.proofs.Surveying.{LanesTold, text_refusal, text_crowded, t
 use Rattle.routes_gutter.proofs.Planned.{work_again}
 use Rattle.routes_calls.specs.Finish.{PlanReady}
 use Rattle.routes_calls.proofs.Routing.{plan_ready, plan_told, plan_refused}
+use Rattle.routes_calls.proofs.route.route_within.Lts as lts
+use Rattle.routes_calls.proofs.route.route_within.Reads as reads
+use Rattle.routes_calls.proofs.route.route_within.Tie as tie
 use Rattle.routes_calls.proofs.route.route_within.Goals as goal
+
+-- Where the board is planned, before anything is laid.
+abbrev Planned : Type 0
+Planned = lts.After-finish_plan-arg8 tie.the-claims reads.Pre reads.Post tie.handed_clauses
+
+module _ (c : Planned) where
+  told : let p = c.plan_text in LanesTold p.new.records p.new.facts p.new.taps p.new.groups (planning c.args.asked.most (fits_lent c.args.asked.lent) c.args.text.now) c.in-Laned.counts c.in-Laned.m
+  told = let p = c.plan_text in let a = c.args in text_lanes p.new.records p.new.facts p.new.taps p.new.groups _ (fits_lent a.asked.lent) a.text.now p.result p.ensures _ _ c.in-Laned.is
+
+  ready : let p = c.plan_text in let a = c.args in PlanReady told.on_board told.lanes p.new.records c.in-Laned.counts c.in-Laned.m p.new.facts p.new.taps p.new.groups p.new.demands p.new.keys p.new.spare a.rerouters.now a.bus_wires.now a.ports.now a.answers.now
+  ready =
+      let a = c.args in
+      let p = c.plan_text in
+      let lent = c.requires.within_library.1 in
+      plan_ready a.asked.most a.text.now a.asked.lent c.requires.within_library.0 p.new.records p.new.facts p.new.taps p.new.groups _ _ told a.rerouters.now a.bus_wires.now a.ports.now a.answers.now _ p.new.demands p.new.keys p.new.spare
+      (work_again _ _ c.requires.work_lent p.auto.facts p.auto.taps p.auto.groups p.auto.demands p.auto.keys p.auto.spare)
+      (record { marks_lent = omega arith; rerouters_lent = lent.rerouters_lent; wires_lent = lent.wires_lent; ports_lent = lent.ports_lent }) c.requires.within_library.2
 
 pub finish_plan-laid-requires : goal.finish_plan-laid-requires
 finish_plan-laid-requires c =
-    let plan-of : Planning = planning c.args.asked.most (fits_lent c.args.asked.lent) c.args.text.now in
-    let Told : Type 0 = let p = c.plan_text in LanesTold p.new.records p.new.facts p.new.taps p.new.groups (plan-of) c.in-Laned.counts c.in-Laned.m in
-    let told : Told = let p = c.plan_text in let a = c.args in text_lanes p.new.records p.new.facts p.new.taps p.new.groups _ (fits_lent a.asked.lent) a.text.now p.result p.ensures _ _ c.in-Laned.is in
-    let Ready : Type 0 = let p = c.plan_text in
-    let a = c.args in
-    PlanReady (told).on_board (told).lanes p.new.records c.in-Laned.counts c.in-Laned.m p.new.facts p.new.taps p.new.groups p.new.demands p.new.keys p.new.spare a.rerouters.now a.bus_wires.now a.ports.now a.answers.now in
-    let ready : Ready = let a = c.args in
-    let p = c.plan_text in
-    let lent = c.requires.within_library.1 in
-    plan_ready a.asked.most a.text.now a.asked.lent c.requires.within_library.0 p.new.records p.new.facts p.new.taps p.new.groups _ _ (told) a.rerouters.now a.bus_wires.now a.ports.now a.answers.now _ p.new.demands p.new.keys p.new.spare
-    (work_again _ _ c.requires.work_lent p.auto.facts p.auto.taps p.auto.groups p.auto.demands p.auto.keys p.auto.spare)
-    (record { marks_lent = omega arith; rerouters_lent = lent.rerouters_lent; wires_lent = lent.wires_lent; ports_lent = lent.ports_lent }) c.requires.within_library.2 in
-    ((told).on_board, (told).lanes, ready)
+    let w = c.before in
+    ((told w).on_board, (told w).lanes, ready w)
 
 pub shape_of-records-in-Refused : goal.shape_of-records-in-Refused
 shape_of-records-in-Refused c = c.plan_text.auto.records
@@ -116,21 +125,10 @@ shape_of-marks-in-Laned c = c.finish_plan-laid.auto.marks ∙ c.plan_text.auto.s
 
 pub returns-in-Laned : goal.returns-in-Laned
 returns-in-Laned c =
-    let plan-of : Planning = planning c.args.asked.most (fits_lent c.args.asked.lent) c.args.text.now in
-    let Told : Type 0 = let p = c.plan_text in LanesTold p.new.records p.new.facts p.new.taps p.new.groups (plan-of) c.in-Laned.counts c.in-Laned.m in
-    let told : Told = let p = c.plan_text in let a = c.args in text_lanes p.new.records p.new.facts p.new.taps p.new.groups _ (fits_lent a.asked.lent) a.text.now p.result p.ensures _ _ c.in-Laned.is in
-    let Ready : Type 0 = let p = c.plan_text in
-    let a = c.args in
-    PlanReady (told).on_board (told).lanes p.new.records c.in-Laned.counts c.in-Laned.m p.new.facts p.new.taps p.new.groups p.new.demands p.new.keys p.new.spare a.rerouters.now a.bus_wires.now a.ports.now a.answers.now in
-    let ready : Ready = let a = c.args in
-    let p = c.plan_text in
-    let lent = c.requires.within_library.1 in
-    plan_ready a.asked.most a.text.now a.asked.lent c.requires.within_library.0 p.new.records p.new.facts p.new.taps p.new.groups _ _ (told) a.rerouters.now a.bus_wires.now a.ports.now a.answers.now _ p.new.demands p.new.keys p.new.spare
-    (work_again _ _ c.requires.work_lent p.auto.facts p.auto.taps p.auto.groups p.auto.demands p.auto.keys p.auto.spare)
-    (record { marks_lent = omega arith; rerouters_lent = lent.rerouters_lent; wires_lent = lent.wires_lent; ports_lent = lent.ports_lent }) c.requires.within_library.2 in
+    let w = c.before.before.before.before.before.before.before.before.before.before.before in
     let p = c.plan_text in
     let a = c.args in
     let f = c.finish_plan-laid in
-    let done = f.ensures (told).on_board (told).lanes (ready) in
-    plan_told a.asked.most a.text.now a.asked.lent c.requires.within_library.0 p.new.records p.new.facts p.new.taps p.new.groups _ _ (told) a.rerouters.now a.bus_wires.now a.ports.now a.answers.now
+    let done = f.ensures (told w).on_board (told w).lanes (ready w) in
+    plan_told a.asked.most a.text.now a.asked.lent c.requires.within_library.0 p.new.records p.new.facts p.new.taps p.new.groups _ _ (told w) a.rerouters.now a.bus_wires.now a.ports.now a.answers.now
     f.new.rerouters f.new.bus_wires f.new.ports f.new.answers f.result.bus f.result.groups done.0 done.1 done.2

@@ -14,6 +14,9 @@ use Rattle.routes_gutter.specs.Bus.{RowsReady}
 use Rattle.routes_gutter.specs.Calls.{bus_fits, lay_call, BusCalled}
 use Rattle.routes_gutter.specs.declared.bus.BusPlan.TheVariants.{Refused}
 use Rattle.routes_gutter.proofs.Planned.{work_again, rows_ready, bus_lent, lay_refused, lay_done}
+use Rattle.routes_gutter.proofs.bus.lay_bus.Lts as lts
+use Rattle.routes_gutter.proofs.bus.lay_bus.Reads as reads
+use Rattle.routes_gutter.proofs.bus.lay_bus.Tie as tie
 use Rattle.routes_gutter.proofs.bus.lay_bus.Goals as goal
 
 pub plan_text-requires : goal.plan_text-requires
@@ -24,24 +27,29 @@ plan_text-requires c = let a = c.args in
       within_library = room.1;
     }
 
+-- Where the board is planned, before anything is laid.
+abbrev Planned : Type 0
+Planned = lts.After-lay_and_settle-arg7 tie.the-claims reads.Pre reads.Post tie.handed_clauses
+
+module _ (c : Planned) where
+  told : LanesTold c.plan_text.new.records c.plan_text.new.facts c.plan_text.new.taps c.plan_text.new.groups (planning c.ask-asked.result.most (fits_lent c.ask-asked.result.lent) c.args.text.now) c.in-Laned.counts c.in-Laned.m
+  told = let p = c.plan_text in text_lanes p.new.records p.new.facts p.new.taps p.new.groups _ (fits_lent c.ask-asked.result.lent) c.args.text.now p.result p.ensures _ _ c.in-Laned.is
+
+  ready : let a = c.args in RowsReady told.on_board told.lanes c.plan_text.new.records c.in-Laned.counts c.in-Laned.m c.plan_text.new.facts c.plan_text.new.taps c.plan_text.new.groups c.plan_text.new.demands c.plan_text.new.keys c.plan_text.new.spare a.rerouters.now a.bus_wires.now × (length told.on_board.wires ≤ length a.ports.now)
+  ready =
+      let a = c.args in
+      let p = c.plan_text in
+      let q = c.ask-asked in
+      let room = asked_room q.result a.records.now a.facts.now a.taps.now a.groups.now a.demands.now a.keys.now a.marks.now q.ensures in
+      rows_ready _ a.text.now q.result.lent room.1
+      p.new.records p.new.facts p.new.taps p.new.groups p.new.demands p.new.keys p.new.spare a.rerouters.now a.bus_wires.now a.ports.now _
+      (work_again _ _ room.0.lent p.auto.facts p.auto.taps p.auto.groups p.auto.demands p.auto.keys p.auto.spare)
+      (bus_lent q.result _ p.new.spare a.rerouters.now a.bus_wires.now a.ports.now q.ensures (omega arith)) _ _ told
+
 pub lay_and_settle-laid-requires : goal.lay_and_settle-laid-requires
 lay_and_settle-laid-requires c =
-    let asked_of : Asked = c.ask-asked.result in
-    let fits-of : Board → Bool = fits_lent (asked_of).lent in
-    let plan-of : Planning = planning (asked_of).most (fits-of) c.args.text.now in
-    let told : LanesTold c.plan_text.new.records c.plan_text.new.facts c.plan_text.new.taps c.plan_text.new.groups (plan-of) c.in-Laned.counts c.in-Laned.m = let p = c.plan_text in text_lanes p.new.records p.new.facts p.new.taps p.new.groups _ (fits-of) c.args.text.now p.result p.ensures _ _ c.in-Laned.is in
-    let Ready : Type 0 = let a = c.args in
-    RowsReady (told).on_board (told).lanes c.plan_text.new.records c.in-Laned.counts c.in-Laned.m c.plan_text.new.facts c.plan_text.new.taps c.plan_text.new.groups c.plan_text.new.demands c.plan_text.new.keys c.plan_text.new.spare a.rerouters.now a.bus_wires.now
-    × (length (told).on_board.wires ≤ length a.ports.now) in
-    let ready : Ready = let a = c.args in
-    let p = c.plan_text in
-    let q = c.ask-asked in
-    let room = asked_room q.result a.records.now a.facts.now a.taps.now a.groups.now a.demands.now a.keys.now a.marks.now q.ensures in
-    rows_ready _ a.text.now q.result.lent room.1
-    p.new.records p.new.facts p.new.taps p.new.groups p.new.demands p.new.keys p.new.spare a.rerouters.now a.bus_wires.now a.ports.now _
-    (work_again _ _ room.0.lent p.auto.facts p.auto.taps p.auto.groups p.auto.demands p.auto.keys p.auto.spare)
-    (bus_lent q.result _ p.new.spare a.rerouters.now a.bus_wires.now a.ports.now q.ensures (omega arith)) _ _ (told) in
-    ((told).on_board, (told).lanes, (ready).0, (ready).1)
+    let w = c.before in
+    ((told w).on_board, (told w).lanes, (ready w).0, (ready w).1)
 
 pub returns-in-Refused : goal.returns-in-Refused
 returns-in-Refused c =
@@ -69,23 +77,9 @@ shape_of-facts-in-Laned c = c.plan_text.auto.facts
 
 pub returns-in-Laned : goal.returns-in-Laned
 returns-in-Laned c =
-    let asked_of : Asked = c.ask-asked.result in
-    let fits-of : Board → Bool = fits_lent (asked_of).lent in
-    let plan-of : Planning = planning (asked_of).most (fits-of) c.args.text.now in
-    let told : LanesTold c.plan_text.new.records c.plan_text.new.facts c.plan_text.new.taps c.plan_text.new.groups (plan-of) c.in-Laned.counts c.in-Laned.m = let p = c.plan_text in text_lanes p.new.records p.new.facts p.new.taps p.new.groups _ (fits-of) c.args.text.now p.result p.ensures _ _ c.in-Laned.is in
-    let Ready : Type 0 = let a = c.args in
-    RowsReady (told).on_board (told).lanes c.plan_text.new.records c.in-Laned.counts c.in-Laned.m c.plan_text.new.facts c.plan_text.new.taps c.plan_text.new.groups c.plan_text.new.demands c.plan_text.new.keys c.plan_text.new.spare a.rerouters.now a.bus_wires.now
-    × (length (told).on_board.wires ≤ length a.ports.now) in
-    let ready : Ready = let a = c.args in
-    let p = c.plan_text in
-    let q = c.ask-asked in
-    let room = asked_room q.result a.records.now a.facts.now a.taps.now a.groups.now a.demands.now a.keys.now a.marks.now q.ensures in
-    rows_ready _ a.text.now q.result.lent room.1
-    p.new.records p.new.facts p.new.taps p.new.groups p.new.demands p.new.keys p.new.spare a.rerouters.now a.bus_wires.now a.ports.now _
-    (work_again _ _ room.0.lent p.auto.facts p.auto.taps p.auto.groups p.auto.demands p.auto.keys p.auto.spare)
-    (bus_lent q.result _ p.new.spare a.rerouters.now a.bus_wires.now a.ports.now q.ensures (omega arith)) _ _ (told) in
+    let w = c.before.before.before.before.before.before.before.before.before.before in
     let a = c.args in
     let l = c.lay_and_settle-laid in
-    let q = l.ensures (told).on_board (told).lanes (ready).0 (ready).1 in
+    let q = l.ensures (told w).on_board (told w).lanes (ready w).0 (ready w).1 in
     lay_done a.text.now _ (length a.rerouters.now) (length a.bus_wires.now) (length a.ports.now) _ c.ask-asked.ensures a.rerouters.now a.bus_wires.now a.ports.now
-    (told).on_board (told).lanes (told).is l.new.rerouters l.new.bus_wires l.new.ports l.result.bus l.result.groups q.0 q.1
+    (told w).on_board (told w).lanes (told w).is l.new.rerouters l.new.bus_wires l.new.ports l.result.bus l.result.groups q.0 q.1

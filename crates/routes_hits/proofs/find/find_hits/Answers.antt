@@ -2,9 +2,8 @@
 use Prim.Native.Nat.{ℕ, ◌/◌, min}
 use native.Mathlib.Omega.{arith}
 use mathlib.Core.Path.{◌≡◌, sym, ap, ◌∙◌}
-use mathlib.Core.List.{[], ◌∷◌}
+use mathlib.Core.List.{List, [], ◌∷◌}
 use lib.ListN.{length}
-use Rattle.sheet.specs.declared.Counts.{Counts}
 use Rattle.board_plan.specs.declared.Asked.{Asked}
 use Rattle.board.specs.Planning.{planning}
 use Rattle.board_plan.specs.TextPlan.{asked_for, work_rows, fits_lent}
@@ -15,92 +14,71 @@ use Rattle.routes_gutter.specs.Bus.{BusStands}
 use Rattle.routes.specs.Plan.{finished}
 use Rattle.routes_calls.specs.Finish.{PlanReady}
 use Rattle.routes_calls.proofs.Routing.{plan_ready}
-use Rattle.routes_hits.specs.declared.find.BoxPlan.TheVariants.{Laned}
-use Rattle.routes_hits.specs.Boxing.{box_plan}
 use Rattle.routes_hits.specs.Finding.{HITS_A_WIRE}
 use Rattle.routes_hits.proofs.Calling.{box_refused, box_told, box_call, box_room, nothing_found, list_ready, hits_found}
+use Rattle.routes_hits.proofs.find.find_hits.Lts as lts
+use Rattle.routes_hits.proofs.find.find_hits.Reads as reads
+use Rattle.routes_hits.proofs.find.find_hits.Tie as tie
 use Rattle.routes_hits.proofs.find.find_hits.Goals as goal
+
+-- What is asked for, with the lesser of the ports and of the wires that the hits have room for in its place.
+asked_is : (k : Asked) (r w p h n m : ℕ) (rows : List ℕ) → k ≡ asked_for (r ∷ w ∷ m ∷ n ∷ []) rows → m ≡ min p (h / HITS_A_WIRE)
+    → k ≡ asked_for (r ∷ w ∷ min p (h / HITS_A_WIRE) ∷ n ∷ []) rows
+asked_is k r w p h n m rows e d = e ∙ ap (λ (z : ℕ). asked_for (r ∷ w ∷ z ∷ n ∷ []) rows) d
+
+-- Where the board is planned and the box tested, before anything is laid.
+abbrev Planned : Type 0
+Planned = lts.After-finish_plan-arg8 tie.the-claims reads.Pre reads.Post tie.handed_clauses
+
+module _ (c : Planned) where
+  asked : let a = c.args in c.ask-asked.result ≡ asked_for (length a.rerouters.now ∷ length a.bus_wires.now ∷ min (length a.ports.now) (length a.hits.now / HITS_A_WIRE) ∷ length a.answers.now ∷ []) (work_rows a.records.now a.facts.now a.taps.now a.groups.now a.demands.now a.keys.now a.marks.now)
+  asked = let a = c.args in asked_is c.ask-asked.result (length a.rerouters.now) (length a.bus_wires.now) (length a.ports.now) (length a.hits.now) (length a.answers.now) c.lesser.result (work_rows a.records.now a.facts.now a.taps.now a.groups.now a.demands.now a.keys.now a.marks.now) c.ask-asked.ensures c.lesser.ensures
+
+  told : let p = c.plan_text-planned in let a = c.args in LanesTold p.new.records p.new.facts p.new.taps p.new.groups (planning c.ask-asked.result.most (fits_lent c.ask-asked.result.lent) a.text.now) c.in-Laned.counts c.in-Laned.m
+  told =
+      let p = c.plan_text-planned in
+      let a = c.args in
+      box_told a.q a.text.now c.ask-asked.result (length a.hits.now) (length a.rerouters.now) (length a.bus_wires.now) (length a.ports.now) (length a.answers.now) (work_rows a.records.now a.facts.now a.taps.now a.groups.now a.demands.now a.keys.now a.marks.now) asked p.new.records p.new.facts p.new.taps p.new.groups p.result p.ensures _ _ (sym c.box_plan.ensures ∙ c.in-Laned.is)
+
+  ready : let p = c.plan_text-planned in let a = c.args in PlanReady told.on_board told.lanes p.new.records c.in-Laned.counts c.in-Laned.m p.new.facts p.new.taps p.new.groups p.new.demands p.new.keys p.new.spare a.rerouters.now a.bus_wires.now a.ports.now a.answers.now
+  ready =
+      let p = c.plan_text-planned in
+      let a = c.args in
+      let is = asked in
+      let room = asked_room c.ask-asked.result a.records.now a.facts.now a.taps.now a.groups.now a.demands.now a.keys.now a.marks.now is in
+      let r = ap (λ (z : Asked). z.lent.rerouters) is in
+      let w = ap (λ (z : Asked). z.lent.bus_wires) is in
+      let u = ap (λ (z : Asked). z.lent.ports) is in
+      let n = ap (λ (z : Asked). z.lent.answers) is in
+      plan_ready c.ask-asked.result.most a.text.now c.ask-asked.result.lent room.1 p.new.records p.new.facts p.new.taps p.new.groups _ _ told a.rerouters.now a.bus_wires.now a.ports.now a.answers.now _ p.new.demands p.new.keys p.new.spare
+      (work_again _ _ room.0.lent p.auto.facts p.auto.taps p.auto.groups p.auto.demands p.auto.keys p.auto.spare)
+      (record { marks_lent = omega arith; rerouters_lent = omega arith; wires_lent = omega arith; ports_lent = omega arith }) (omega arith)
 
 pub plan_text-planned-requires : goal.plan_text-planned-requires
 plan_text-planned-requires c =
-    let asked_is : c.ask-asked.result ≡ asked_for (length c.args.rerouters.now ∷ length c.args.bus_wires.now ∷ min (length c.args.ports.now) (length c.args.hits.now / HITS_A_WIRE) ∷ length c.args.answers.now ∷ []) (work_rows c.args.records.now c.args.facts.now c.args.taps.now c.args.groups.now c.args.demands.now c.args.keys.now c.args.marks.now) = let a = c.args in
-    c.ask-asked.ensures
-    ∙ ap (λ (z : ℕ). asked_for (length a.rerouters.now ∷ length a.bus_wires.now ∷ z ∷ length a.answers.now ∷ []) (work_rows a.records.now a.facts.now a.taps.now a.groups.now a.demands.now a.keys.now a.marks.now))
-    c.lesser.ensures in
+    let asked_here = let a = c.args in asked_is c.ask-asked.result (length a.rerouters.now) (length a.bus_wires.now) (length a.ports.now) (length a.hits.now) (length a.answers.now) c.lesser.result (work_rows a.records.now a.facts.now a.taps.now a.groups.now a.demands.now a.keys.now a.marks.now) c.ask-asked.ensures c.lesser.ensures in
     let a = c.args in
-    let room = asked_room c.ask-asked.result a.records.now a.facts.now a.taps.now a.groups.now a.demands.now a.keys.now a.marks.now (asked_is) in record {
+    let room = asked_room c.ask-asked.result a.records.now a.facts.now a.taps.now a.groups.now a.demands.now a.keys.now a.marks.now asked_here in record {
       work_lent = room.0.lent;
       within_library = room.1;
     }
 
 pub finish_plan-laid-requires : goal.finish_plan-laid-requires
 finish_plan-laid-requires c =
-    let asked_is : c.ask-asked.result ≡ asked_for (length c.args.rerouters.now ∷ length c.args.bus_wires.now ∷ min (length c.args.ports.now) (length c.args.hits.now / HITS_A_WIRE) ∷ length c.args.answers.now ∷ []) (work_rows c.args.records.now c.args.facts.now c.args.taps.now c.args.groups.now c.args.demands.now c.args.keys.now c.args.marks.now) = let a = c.args in
-    c.ask-asked.ensures
-    ∙ ap (λ (z : ℕ). asked_for (length a.rerouters.now ∷ length a.bus_wires.now ∷ z ∷ length a.answers.now ∷ []) (work_rows a.records.now a.facts.now a.taps.now a.groups.now a.demands.now a.keys.now a.marks.now))
-    c.lesser.ensures in
-    let counts_of : Counts = c.in-Laned.counts in
-    let taps_of_lem : ℕ = c.in-Laned.m in
-    let laned : box_plan c.args.q c.plan_text-planned.result ≡ Laned (counts_of) (taps_of_lem) = sym c.box_plan.ensures ∙ c.in-Laned.is in
-    let Told : Type 0 = let p = c.plan_text-planned in
-    let a = c.args in
-    LanesTold p.new.records p.new.facts p.new.taps p.new.groups (planning c.ask-asked.result.most (fits_lent c.ask-asked.result.lent) a.text.now) (counts_of) (taps_of_lem) in
-    let told : Told = let p = c.plan_text-planned in
-    let a = c.args in
-    box_told a.q a.text.now c.ask-asked.result (length a.hits.now) (length a.rerouters.now) (length a.bus_wires.now) (length a.ports.now) (length a.answers.now) (work_rows a.records.now a.facts.now a.taps.now a.groups.now a.demands.now a.keys.now a.marks.now) (asked_is) p.new.records p.new.facts p.new.taps p.new.groups p.result p.ensures _ _ (laned) in
-    let Ready : Type 0 = let p = c.plan_text-planned in
-    let a = c.args in
-    PlanReady (told).on_board (told).lanes p.new.records (counts_of) (taps_of_lem) p.new.facts p.new.taps p.new.groups p.new.demands p.new.keys p.new.spare a.rerouters.now a.bus_wires.now a.ports.now a.answers.now in
-    let ready : Ready = let p = c.plan_text-planned in
-    let a = c.args in
-    let is = asked_is in
-    let room = asked_room c.ask-asked.result a.records.now a.facts.now a.taps.now a.groups.now a.demands.now a.keys.now a.marks.now is in
-    let r = ap (λ (z : Asked). z.lent.rerouters) is in
-    let w = ap (λ (z : Asked). z.lent.bus_wires) is in
-    let u = ap (λ (z : Asked). z.lent.ports) is in
-    let n = ap (λ (z : Asked). z.lent.answers) is in
-    plan_ready c.ask-asked.result.most a.text.now c.ask-asked.result.lent room.1 p.new.records p.new.facts p.new.taps p.new.groups _ _ (told) a.rerouters.now a.bus_wires.now a.ports.now a.answers.now _ p.new.demands p.new.keys p.new.spare
-    (work_again _ _ room.0.lent p.auto.facts p.auto.taps p.auto.groups p.auto.demands p.auto.keys p.auto.spare)
-    (record { marks_lent = omega arith; rerouters_lent = omega arith; wires_lent = omega arith; ports_lent = omega arith }) (omega arith) in
-    ((told).on_board, (told).lanes, ready)
+    let w = c.before in ((told w).on_board, (told w).lanes, ready w)
 
 pub list_hits-found-requires : goal.list_hits-found-requires
+unfolding told
 list_hits-found-requires c =
-    let asked_is : c.ask-asked.result ≡ asked_for (length c.args.rerouters.now ∷ length c.args.bus_wires.now ∷ min (length c.args.ports.now) (length c.args.hits.now / HITS_A_WIRE) ∷ length c.args.answers.now ∷ []) (work_rows c.args.records.now c.args.facts.now c.args.taps.now c.args.groups.now c.args.demands.now c.args.keys.now c.args.marks.now) = let a = c.args in
-    c.ask-asked.ensures
-    ∙ ap (λ (z : ℕ). asked_for (length a.rerouters.now ∷ length a.bus_wires.now ∷ z ∷ length a.answers.now ∷ []) (work_rows a.records.now a.facts.now a.taps.now a.groups.now a.demands.now a.keys.now a.marks.now))
-    c.lesser.ensures in
-    let counts_of : Counts = c.in-Laned.counts in
-    let taps_of_lem : ℕ = c.in-Laned.m in
-    let laned : box_plan c.args.q c.plan_text-planned.result ≡ Laned (counts_of) (taps_of_lem) = sym c.box_plan.ensures ∙ c.in-Laned.is in
-    let Told : Type 0 = let p = c.plan_text-planned in
-    let a = c.args in
-    LanesTold p.new.records p.new.facts p.new.taps p.new.groups (planning c.ask-asked.result.most (fits_lent c.ask-asked.result.lent) a.text.now) (counts_of) (taps_of_lem) in
-    let told : Told = let p = c.plan_text-planned in
-    let a = c.args in
-    box_told a.q a.text.now c.ask-asked.result (length a.hits.now) (length a.rerouters.now) (length a.bus_wires.now) (length a.ports.now) (length a.answers.now) (work_rows a.records.now a.facts.now a.taps.now a.groups.now a.demands.now a.keys.now a.marks.now) (asked_is) p.new.records p.new.facts p.new.taps p.new.groups p.result p.ensures _ _ (laned) in
-    let Ready : Type 0 = let p = c.plan_text-planned in
-    let a = c.args in
-    PlanReady (told).on_board (told).lanes p.new.records (counts_of) (taps_of_lem) p.new.facts p.new.taps p.new.groups p.new.demands p.new.keys p.new.spare a.rerouters.now a.bus_wires.now a.ports.now a.answers.now in
-    let ready : Ready = let p = c.plan_text-planned in
-    let a = c.args in
-    let is = asked_is in
-    let room = asked_room c.ask-asked.result a.records.now a.facts.now a.taps.now a.groups.now a.demands.now a.keys.now a.marks.now is in
-    let r = ap (λ (z : Asked). z.lent.rerouters) is in
-    let w = ap (λ (z : Asked). z.lent.bus_wires) is in
-    let u = ap (λ (z : Asked). z.lent.ports) is in
-    let n = ap (λ (z : Asked). z.lent.answers) is in
-    plan_ready c.ask-asked.result.most a.text.now c.ask-asked.result.lent room.1 p.new.records p.new.facts p.new.taps p.new.groups _ _ (told) a.rerouters.now a.bus_wires.now a.ports.now a.answers.now _ p.new.demands p.new.keys p.new.spare
-    (work_again _ _ room.0.lent p.auto.facts p.auto.taps p.auto.groups p.auto.demands p.auto.keys p.auto.spare)
-    (record { marks_lent = omega arith; rerouters_lent = omega arith; wires_lent = omega arith; ports_lent = omega arith }) (omega arith) in
+    let w = c.before.before.before.before.before.before.before.before.before.before.before.before in
     let Stands : Type 0 = let a = c.args in
     let f = c.finish_plan-laid in
-    BusStands (finished (told).on_board (told).lanes) a.rerouters.now a.bus_wires.now a.ports.now f.new.rerouters f.new.bus_wires f.new.ports f.result.bus in
-    let stands : Stands = (c.finish_plan-laid.ensures (told).on_board (told).lanes (ready)).0 in
+    BusStands (finished (told w).on_board (told w).lanes) a.rerouters.now a.bus_wires.now a.ports.now f.new.rerouters f.new.bus_wires f.new.ports f.result.bus in
+    let stands : Stands = (c.finish_plan-laid.ensures (told w).on_board (told w).lanes (ready w)).0 in
     let p = c.plan_text-planned in
     let a = c.args in
     let f = c.finish_plan-laid in
-    list_ready (ready) f.result.bus (stands) (length a.hits.now) (box_room a.q a.text.now c.ask-asked.result (length a.hits.now) (length a.rerouters.now) (length a.bus_wires.now) (length a.ports.now) (length a.answers.now) (work_rows a.records.now a.facts.now a.taps.now a.groups.now a.demands.now a.keys.now a.marks.now) (asked_is) p.new.records p.new.facts p.new.taps p.new.groups p.result p.ensures _ _ (laned)) f.auto.rerouters f.auto.bus_wires
+    list_ready (ready w) f.result.bus stands (length a.hits.now) (box_room a.q a.text.now c.ask-asked.result (length a.hits.now) (length a.rerouters.now) (length a.bus_wires.now) (length a.ports.now) (length a.answers.now) (work_rows a.records.now a.facts.now a.taps.now a.groups.now a.demands.now a.keys.now a.marks.now) (asked w) p.new.records p.new.facts p.new.taps p.new.groups p.result p.ensures _ _ (sym c.box_plan.ensures ∙ c.in-Laned.is)) f.auto.rerouters f.auto.bus_wires
 
 pub shape_of-records-in-Refused : goal.shape_of-records-in-Refused
 shape_of-records-in-Refused c = c.plan_text-planned.auto.records
@@ -125,14 +103,11 @@ shape_of-marks-in-Refused c = c.plan_text-planned.auto.spare
 
 pub returns-in-Refused : goal.returns-in-Refused
 returns-in-Refused c =
-    let asked_is : c.ask-asked.result ≡ asked_for (length c.args.rerouters.now ∷ length c.args.bus_wires.now ∷ min (length c.args.ports.now) (length c.args.hits.now / HITS_A_WIRE) ∷ length c.args.answers.now ∷ []) (work_rows c.args.records.now c.args.facts.now c.args.taps.now c.args.groups.now c.args.demands.now c.args.keys.now c.args.marks.now) = let a = c.args in
-    c.ask-asked.ensures
-    ∙ ap (λ (z : ℕ). asked_for (length a.rerouters.now ∷ length a.bus_wires.now ∷ z ∷ length a.answers.now ∷ []) (work_rows a.records.now a.facts.now a.taps.now a.groups.now a.demands.now a.keys.now a.marks.now))
-    c.lesser.ensures in
+    let asked_here = let a = c.args in asked_is c.ask-asked.result (length a.rerouters.now) (length a.bus_wires.now) (length a.ports.now) (length a.hits.now) (length a.answers.now) c.lesser.result (work_rows a.records.now a.facts.now a.taps.now a.groups.now a.demands.now a.keys.now a.marks.now) c.ask-asked.ensures c.lesser.ensures in
     let p = c.plan_text-planned in
     let a = c.args in
     nothing_found a.q _ a.hits.now a.rerouters.now a.bus_wires.now a.ports.now a.answers.now _ _
-    (box_refused a.q a.text.now c.ask-asked.result (length a.hits.now) (length a.rerouters.now) (length a.bus_wires.now) (length a.ports.now) (length a.answers.now) (work_rows a.records.now a.facts.now a.taps.now a.groups.now a.demands.now a.keys.now a.marks.now) (asked_is) p.new.records p.new.facts p.new.taps p.new.groups p.result p.ensures _ _ (sym c.box_plan.ensures ∙ c.in-Refused.is))
+    (box_refused a.q a.text.now c.ask-asked.result (length a.hits.now) (length a.rerouters.now) (length a.bus_wires.now) (length a.ports.now) (length a.answers.now) (work_rows a.records.now a.facts.now a.taps.now a.groups.now a.demands.now a.keys.now a.marks.now) asked_here p.new.records p.new.facts p.new.taps p.new.groups p.result p.ensures _ _ (sym c.box_plan.ensures ∙ c.in-Refused.is))
 
 pub shape_of-records-in-Laned : goal.shape_of-records-in-Laned
 shape_of-records-in-Laned c = c.plan_text-planned.auto.records
@@ -156,40 +131,15 @@ pub shape_of-marks-in-Laned : goal.shape_of-marks-in-Laned
 shape_of-marks-in-Laned c = c.finish_plan-laid.auto.marks ∙ c.plan_text-planned.auto.spare
 
 pub returns-in-Laned : goal.returns-in-Laned
+unfolding told
 returns-in-Laned c =
-    let asked_is : c.ask-asked.result ≡ asked_for (length c.args.rerouters.now ∷ length c.args.bus_wires.now ∷ min (length c.args.ports.now) (length c.args.hits.now / HITS_A_WIRE) ∷ length c.args.answers.now ∷ []) (work_rows c.args.records.now c.args.facts.now c.args.taps.now c.args.groups.now c.args.demands.now c.args.keys.now c.args.marks.now) = let a = c.args in
-    c.ask-asked.ensures
-    ∙ ap (λ (z : ℕ). asked_for (length a.rerouters.now ∷ length a.bus_wires.now ∷ z ∷ length a.answers.now ∷ []) (work_rows a.records.now a.facts.now a.taps.now a.groups.now a.demands.now a.keys.now a.marks.now))
-    c.lesser.ensures in
-    let counts_of : Counts = c.in-Laned.counts in
-    let taps_of_lem : ℕ = c.in-Laned.m in
-    let laned : box_plan c.args.q c.plan_text-planned.result ≡ Laned (counts_of) (taps_of_lem) = sym c.box_plan.ensures ∙ c.in-Laned.is in
-    let Told : Type 0 = let p = c.plan_text-planned in
-    let a = c.args in
-    LanesTold p.new.records p.new.facts p.new.taps p.new.groups (planning c.ask-asked.result.most (fits_lent c.ask-asked.result.lent) a.text.now) (counts_of) (taps_of_lem) in
-    let told : Told = let p = c.plan_text-planned in
-    let a = c.args in
-    box_told a.q a.text.now c.ask-asked.result (length a.hits.now) (length a.rerouters.now) (length a.bus_wires.now) (length a.ports.now) (length a.answers.now) (work_rows a.records.now a.facts.now a.taps.now a.groups.now a.demands.now a.keys.now a.marks.now) (asked_is) p.new.records p.new.facts p.new.taps p.new.groups p.result p.ensures _ _ (laned) in
-    let Ready : Type 0 = let p = c.plan_text-planned in
-    let a = c.args in
-    PlanReady (told).on_board (told).lanes p.new.records (counts_of) (taps_of_lem) p.new.facts p.new.taps p.new.groups p.new.demands p.new.keys p.new.spare a.rerouters.now a.bus_wires.now a.ports.now a.answers.now in
-    let ready : Ready = let p = c.plan_text-planned in
-    let a = c.args in
-    let is = asked_is in
-    let room = asked_room c.ask-asked.result a.records.now a.facts.now a.taps.now a.groups.now a.demands.now a.keys.now a.marks.now is in
-    let r = ap (λ (z : Asked). z.lent.rerouters) is in
-    let w = ap (λ (z : Asked). z.lent.bus_wires) is in
-    let u = ap (λ (z : Asked). z.lent.ports) is in
-    let n = ap (λ (z : Asked). z.lent.answers) is in
-    plan_ready c.ask-asked.result.most a.text.now c.ask-asked.result.lent room.1 p.new.records p.new.facts p.new.taps p.new.groups _ _ (told) a.rerouters.now a.bus_wires.now a.ports.now a.answers.now _ p.new.demands p.new.keys p.new.spare
-    (work_again _ _ room.0.lent p.auto.facts p.auto.taps p.auto.groups p.auto.demands p.auto.keys p.auto.spare)
-    (record { marks_lent = omega arith; rerouters_lent = omega arith; wires_lent = omega arith; ports_lent = omega arith }) (omega arith) in
+    let w = c.before.before.before.before.before.before.before.before.before.before.before.before.before.before.before in
     let Stands : Type 0 = let a = c.args in
     let f = c.finish_plan-laid in
-    BusStands (finished (told).on_board (told).lanes) a.rerouters.now a.bus_wires.now a.ports.now f.new.rerouters f.new.bus_wires f.new.ports f.result.bus in
-    let stands : Stands = (c.finish_plan-laid.ensures (told).on_board (told).lanes (ready)).0 in
+    BusStands (finished (told w).on_board (told w).lanes) a.rerouters.now a.bus_wires.now a.ports.now f.new.rerouters f.new.bus_wires f.new.ports f.result.bus in
+    let stands : Stands = (c.finish_plan-laid.ensures (told w).on_board (told w).lanes (ready w)).0 in
     let p = c.plan_text-planned in
     let a = c.args in
     let f = c.finish_plan-laid in
-    let done = f.ensures (told).on_board (told).lanes (ready) in
-    hits_found (ready) f.result.bus (stands) a.q _ (box_call a.q a.text.now c.ask-asked.result (length a.hits.now) (length a.rerouters.now) (length a.bus_wires.now) (length a.ports.now) (length a.answers.now) (work_rows a.records.now a.facts.now a.taps.now a.groups.now a.demands.now a.keys.now a.marks.now) (asked_is) p.new.records p.new.facts p.new.taps p.new.groups p.result p.ensures _ _ (laned)) a.hits.now _ c.list_hits-found.result f.result.groups _ c.list_hits-found.ensures done.1 done.2
+    let done = f.ensures (told w).on_board (told w).lanes (ready w) in
+    hits_found (ready w) f.result.bus stands a.q _ (box_call a.q a.text.now c.ask-asked.result (length a.hits.now) (length a.rerouters.now) (length a.bus_wires.now) (length a.ports.now) (length a.answers.now) (work_rows a.records.now a.facts.now a.taps.now a.groups.now a.demands.now a.keys.now a.marks.now) (asked w) p.new.records p.new.facts p.new.taps p.new.groups p.result p.ensures _ _ (sym c.box_plan.ensures ∙ c.in-Laned.is)) a.hits.now _ c.list_hits-found.result f.result.groups _ c.list_hits-found.ensures done.1 done.2
