@@ -2,9 +2,11 @@ pub mod Bools
 pub mod Lists
 pub mod Members
 pub mod Views
+pub mod Orders
 pub mod SortLaws
 pub mod Filling
 pub mod MergeLaws
+pub mod Passing
 pub mod HalvesLaws
 pub mod KeyLaws
 pub mod InsertLaws

@@ -12,7 +12,8 @@ use mathlib.Core.List.{List, [], ◌∷◌, map, Memᴰ as Mem}
 use lib.ListN.{length, get_or}
 use Rattle.base.specs.Sort.{inserted, sorted, lex_less}
 use Rattle.base.proofs.Bools.{clash}
-use Rattle.base.proofs.SortLaws.{Order}
+use Rattle.base.proofs.SortLaws.{Order, weak_alone}
+use Rattle.base.proofs.Orders.{row_weak}
 use Rattle.base.specs.Lists.{keep, upto}
 
 module _ {A : Type 0} where
@@ -154,6 +155,4 @@ module _ {A : Type 0} (less : A → A → Bool) where
   ascending_at d (x ∷ l) (suc i) (suc j) a h k = ascending_at d l i j a.1 (omega arith) (omega arith)
 
 pub lex_alone : (x : List ℕ) → lex_less x x ≡ false
-unfolding lex_less
-lex_alone [] = refl
-lex_alone (x ∷ xs) = rw (borrow.Author.Tests.le-ltb x x (omega arith), borrow.Author.Tests.eq-eqb x x refl) (lex_alone xs)
+lex_alone = weak_alone lex_less row_weak

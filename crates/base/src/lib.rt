@@ -1,4 +1,4 @@
-// What every layer uses: numbers by name, rows by type, ids apart from numbers, one sort for rows and for keys, and runs of a key, counted or filled as one goes.
+// What every layer uses: numbers by name, rows by type, refusals, ids apart from numbers, one sort for rows and for keys, and runs of a key, counted or filled as one goes.
 #![tactic(auto)]
 
 pub mod digits;
@@ -6,6 +6,7 @@ pub mod growing;
 pub mod ids;
 pub mod keys;
 pub mod numbers;
+pub mod refusal;
 pub mod rows;
 pub mod runs;
 pub mod sort;

@@ -8,8 +8,10 @@ use mathlib.Core.List.{List, []}
 use lib.Dec.{eqb, leb}
 use lib.ListN.{length, get_or, get_or-eq_default}
 use borrow.Author.Tests.{eqb-true, not-true, leb-false}
+use Rattle.base.specs.declared.refusal.Reason.TheVariants.{IdTaken, NotThere, Unplaced}
+use Rattle.base.specs.Refusal.{refusal}
 use Rattle.sheet.specs.declared.Counts.{Counts}
-use Rattle.sheet.specs.Table.{MISSING, ID_MOST, PORT_MOST, HALF_MOST, PAGE_MOST, library_most, program_most}
+use Rattle.sheet.specs.Table.{MISSING, ID_MOST, PORT_MOST, HALF_MOST, PAGE_MOST, program_most}
 use Rattle.sheet.specs.Reading.{Reading, rows, reading, rows_from}
 use Rattle.sheet.proofs.Accepted.{COORDINATE_LOW, MayBe, NodeRow, PageRow, WireRow, accepted}
 use Rattle.base.specs.Lists.{Found, none, at, or_else, oldest}
@@ -89,7 +91,7 @@ unfolding judged_board
 fine_board c b = go (id_twice c) (not_there c) (unplaced c)
   where
     go : (f g h : Found)
-        → elim f as (λ _. Judged) [ at l ↦ Refusals.turned_away 4 l | none ↦ elim g as (λ _. Judged) [ at l ↦ Refusals.turned_away 5 l | none ↦ elim h as (λ _. Judged) [ at l ↦ Refusals.turned_away 6 l | none ↦ board c ] ] ] ≡ board b
+        → elim f as (λ _. Judged) [ at l ↦ Refusals.turned_away (refusal IdTaken l) | none ↦ elim g as (λ _. Judged) [ at l ↦ Refusals.turned_away (refusal NotThere l) | none ↦ elim h as (λ _. Judged) [ at l ↦ Refusals.turned_away (refusal Unplaced l) | none ↦ board c ] ] ] ≡ board b
         → (c ≡ b) × (g ≡ none) × (h ≡ none)
     go (at l) g h e = never cc
     go none (at l) h e = never cc
@@ -140,8 +142,8 @@ unfolding judged
 from_sheet most text b = go (reading most text) refl
   where
     go : (r : Reading) → reading most text ≡ r
-        → elim r as (λ _. Judged) [ Reading.refused n l ↦ Refusals.turned_away n l | rows l ↦ judged_board (board_of l) ] ≡ board b → FromSheet most text b
-    go (Reading.refused n l) e d = never cc
+        → elim r as (λ _. Judged) [ Reading.refused x ↦ Refusals.turned_away x | rows l ↦ judged_board (board_of l) ] ≡ board b → FromSheet most text b
+    go (Reading.refused x) e d = never cc
     go (rows l) e d =
         let a = accepted most text l e in
         let f = fine_board (board_of l) b d in
@@ -204,9 +206,6 @@ within_program (suc (suc (suc (suc (suc (suc s)))))) = omega arith
 
 -- What is known of the nodes alone.
 module _ {nodes : List (List ℕ)} (a : AcceptedNodes nodes) where
-  pub nodes_few_lem : length nodes ≤ library_most.nodes
-  nodes_few_lem = let f = a.2.few_nodes in omega (arith, ap length a.1)
-
   pub nodes_half_x : (i : ℕ) → field nodes i 5 ≤ HALF_MOST
   nodes_half_x i = subst (λ (l : List (List ℕ)). field l i 5 ≤ HALF_MOST) a.1 (a.2.half_x i)
 

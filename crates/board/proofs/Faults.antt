@@ -8,8 +8,8 @@ use lib.Dec.{eqb, leb, eqb-suc-zero}
 use lib.ListN.{length, get_or, set, replicate, length-replicate}
 use lib.Seq.{get_or-set_same, get_or-set_other}
 use native.Mathlib.Nat.{add-suc}
-use borrow.Author.Tests.{eq-eqb, ne_eqb, eqb-true, eqb-false}
-use Rattle.sheet.specs.Table.{MISSING, library_most}
+use borrow.Author.Tests.{ne_eqb, eqb-true, eqb-false}
+use Rattle.sheet.specs.Table.{library_most}
 use Rattle.sheet.specs.Reading.{rows_from}
 use Rattle.sheet.specs.Answer.{row_from}
 use Rattle.sheet.proofs.Accepted.{Accepted, zeros_at, accepted, accepted_more}
@@ -18,29 +18,18 @@ use Rattle.base.specs.Lists.{Found, none, at, found, or_else, newest, oldest}
 use Rattle.board.specs.Board.{Board, field, given, kind_chip, id_of, kind_of, chip_id, parent_of, inner_id}
 use Rattle.board.specs.Refusals.{first_line, node_line, chip_line, inner_line, body_of, chip_at, inner_of, body_chip, node_twice, chip_twice, inner_twice, page_missing, parent_missing, chip_missing, row_unplaced, id_twice, not_there, unplaced, turned_away, board, judged_board}
 use Rattle.board.specs.Index.{Index, BUCKETS, link, entry_of, column}
+use Rattle.std.proofs.Common.{Result, Err}
+use Rattle.base.specs.declared.refusal.Reason.TheVariants.{IdTaken, NotThere, Unplaced}
+use Rattle.base.specs.declared.refusal.Refusal.{Refusal}
+use Rattle.base.specs.Refusal.{refusal}
 use Rattle.sheet.specs.declared.Counts.{Counts}
 use Rattle.sheet.specs.Answer.{counts_of}
-use Rattle.board.specs.declared.refusals.Fault.{Fault}
-use Rattle.board.specs.declared.refusals.Fault.TheVariants.{Refused}
-use Rattle.board.specs.Walk.{verdict_of, fault_of, line_or, line_if, earlier, line_from, sheet_board, is_chip, Ids, Entered, Fresh, Ready, Walked}
+use Rattle.board.specs.Walk.{verdict_of, fault_of, line_or, line_if, earlier, line_from, sheet_board, is_chip, Ids, Entered, Fresh, Ready, Walked, ChipsReady, InnerReady}
+use Rattle.sheet.specs.declared.RowAt.{RowAt}
 use Rattle.board.specs.declared.walks.Walk.{Walk}
-use Rattle.board.proofs.Sections.{Part, part_at, part_below, Sections, sections}
+use Rattle.board.proofs.Sections.{Part, part_at, part_below, Sections, sections, in_order_lem}
 use Rattle.base.proofs.Bools.{never, pick_false}
 use Rattle.board.proofs.Newest.{newest_same, link_below, column_at, column-length}
-
--- A field, and the test whether it is missing.
-pub given_missing : (v : ℕ) → v ≡ MISSING → given v ≡ false
-given_missing v e = ap not (eq-eqb v MISSING e)
-
-pub given_there : (v : ℕ) → (v ≡ MISSING → ⊥) → given v ≡ true
-given_there v e = ap not (ne_eqb v MISSING e)
-
-pub not-given : (v : ℕ) → eqb v MISSING ≡ not (given v)
-not-given v = go (eqb v MISSING)
-  where
-    go : (t : Bool) → t ≡ not (not t)
-    go true = refl
-    go false = refl
 
 -- Entries -----------------------------------------------------------------------------------------------------------------------------------
 
@@ -76,9 +65,6 @@ module _ {ids : List (List ℕ)} {n : ℕ} {id_at : ℕ → ℕ} where
   pub ids_more : {ids' : List (List ℕ)} {was : Bool} (id : ℕ) → Ids ids n id_at → n < length ids → Entered ids n id was ids' → was ≡ false → id ≡ id_at n
       → Ids ids' (suc n) id_at
   ids_more id x room e fresh same = ids_added id x room (e.added fresh) (e.index fresh) same
-
-pub ids_none : {ids : List (List ℕ)} {most : ℕ} (id_at : ℕ → ℕ) → Fresh ids most → Ids ids 0 id_at
-ids_none id_at f = record { index = f.index; same = λ j h. absurd (omega arith) }
 
 module _ (ids : List (List ℕ)) (n id : ℕ) (ids' : List (List ℕ)) where
   pub entered_there : true ≡ found (entry_of ids n id) → Entered ids n id true ids'
@@ -130,13 +116,6 @@ module _ (p : ℕ → Bool) where
       go : (t : Bool) → eqb m (suc n) ≡ t → (m ≤ n → oldest p n ≡ at k) → oldest p (suc n) ≡ at k
       go true is rec = let same : m ≡ suc n = eqb-true m (suc n) is in rw same at e
       go false is rec = let other = eqb-false m (suc n) is in rw (rec (omega (arith, other)))
-
-pub earlier_zero : (m : ℕ) → earlier m 0 ≡ m
-earlier_zero m = go (eqb m 0) refl
-  where
-    go : (t : Bool) → eqb m 0 ≡ t → elim t [ true ↦ 0 | false ↦ m ] ≡ m
-    go true e = sym (eqb-true m 0 e)
-    go false e = refl
 
 earlier_assoc : (a b c : ℕ) → earlier (earlier a b) c ≡ earlier a (earlier b c)
 earlier_assoc a b c = go (eqb a 0) refl
@@ -195,12 +174,6 @@ pub record Walking (text : List ℕ) (lent : List (List ℕ)) (first n i : ℕ) 
   pub so_far : missing ≡ earlier missing₀ (line_or (first_line (sheet_board text) (line_from first) gone i))
 
 module _ (text : List ℕ) (lent : List (List ℕ)) (first n : ℕ) (id_at : ℕ → ℕ) (repeats gone : ℕ → Bool) (missing₀ : ℕ) where
-  pub walking_start : (place : ℕ) {ids : List (List ℕ)} → Ready text lent first place → Fresh ids n
-      → Walking text lent first n 0 id_at repeats gone missing₀ missing₀ place ids
-  walking_start place r f =
-      let here : first ≡ first + 0 = omega arith in
-      record { within = omega arith; ready = rw (← here) r; entered = ids_none id_at f; once = refl; so_far = sym (earlier_zero missing₀) }
-
   module _ (i missing place : ℕ) {ids : List (List ℕ)} (w : Walking text lent first n i id_at repeats gone missing₀ missing place ids) (h : i < n) where
     pub walking_more : (place' missing' : ℕ) {ids' : List (List ℕ)} → repeats i ≡ false → Ready text lent (suc (first + i)) place' → Ids ids' (suc i) id_at
         → missing' ≡ earlier missing (line_if (gone i) (line_from first i))
@@ -224,16 +197,6 @@ module _ (text : List ℕ) (lent : List (List ℕ)) (first n : ℕ) (id_at : ℕ
           missing = λ z. absurd (omega arith);
           entered = λ z. absurd (omega arith);
         }
-
-  pub walking_end : (i missing place : ℕ) {ids : List (List ℕ)} (w₀ w' : Walk) → Walking text lent first n i id_at repeats gone missing₀ missing place ids → i ≡ n
-      → w₀.missing ≡ missing₀ → w'.place ≡ place → w'.twice ≡ 0 → w'.missing ≡ missing → Walked text lent first n id_at repeats gone w₀ w' ids
-  walking_end i missing place {ids} w₀ w' w end m₀ p t m =
-      record {
-        twice = t ∙ ap line_or (sym (on_line (sheet_board text) first repeats n ∙ ap (on_line_lem first) (rw end at w.once)));
-        place = λ z. rw p (rw end at w.ready);
-        missing = λ z. m ∙ (rw end at w.so_far) ∙ ap (λ (k : ℕ). earlier k (line_or (first_line (sheet_board text) (line_from first) gone n))) (sym m₀);
-        entered = λ z. rw end at w.entered;
-      }
 
 -- What the sheet of a walk says of its rows.
 ready_accepted : (text : List ℕ) {lent : List (List ℕ)} {k place : ℕ} → Ready text lent k place → Accepted library_most text (rows_from text)
@@ -260,6 +223,34 @@ module _ (text : List ℕ) {lent : List (List ℕ)} {first place : ℕ} {x rest 
 
 pub walk_sections : (text : List ℕ) {lent : List (List ℕ)} {k place : ℕ} → Ready text lent k place → Sections library_most (rows_from text) (sheet_board text)
 walk_sections text r = sections library_most text (rows_from text) (ready_accepted text r)
+
+-- How many lines stand before a section's records, and how many these are.
+module _ (text : List ℕ) {lent : List (List ℕ)} {first n place : ℕ} (r : Ready text lent first place) where
+  pub nodes_few : (first ≡ length (sheet_board text).pages) × (n ≡ length (sheet_board text).nodes) → (first ≤ 64) × (n ≤ 4096)
+  nodes_few is = let s = walk_sections text r in (omega (arith, is, s.few_pages), omega (arith, is, s.few_nodes))
+
+  pub chips_few : {nodes : ℕ} {bodyIds : List (List ℕ)} {kinds : List ℕ} → ChipsReady (sheet_board text) first n nodes bodyIds kinds → (first ≤ 4160) × (n ≤ 256)
+  chips_few is = let s = walk_sections text r in (omega (arith, is.behind, s.few_pages, s.few_nodes), omega (arith, is.count, s.few_chips))
+
+  pub inner_few : {nodes chips : ℕ} {bodyIds chipIds : List (List ℕ)} → InnerReady (sheet_board text) first n nodes chips bodyIds chipIds → (first ≤ 4416) × (n ≤ 4096)
+  inner_few is = let s = walk_sections text r in (omega (arith, is.behind, s.few_pages, s.few_nodes, s.few_chips), omega (arith, is.count, s.few_inner))
+
+-- The line at hand has the record at hand, and the next line starts behind it.
+module _ (text : List ℕ) {lent : List (List ℕ)} {first n i place : ℕ} (r : Ready text lent (first + i) place) (h : i < n) (line : RowAt) (e : line ≡ row_from text lent (first + i) place) where
+  record_here : (x rest : List (List ℕ)) → Part (rows_from text) first x rest → n ≡ length x → (line.row ≡ get_or x i []) × Ready text lent (suc (first + i)) line.next
+  record_here x rest p count = let inside : i < length x = omega (arith, h, count) in rw e (walk_row text p i r inside, walk_next text p i r inside)
+
+  pub node_here : (first ≡ length (sheet_board text).pages) × (n ≡ length (sheet_board text).nodes)
+      → (line.row ≡ get_or (sheet_board text).nodes i []) × Ready text lent (suc (first + i)) line.next
+  node_here is = record_here _ (in_order_lem 2 4 (rows_from text)) (rw is.0 (walk_sections text r).nodes) is.1
+
+  pub chip_here : {nodes : ℕ} {bodyIds : List (List ℕ)} {kinds : List ℕ} → ChipsReady (sheet_board text) first n nodes bodyIds kinds
+      → (line.row ≡ get_or (sheet_board text).chips i []) × Ready text lent (suc (first + i)) line.next
+  chip_here is = record_here _ (in_order_lem 3 3 (rows_from text)) (rw is.behind (walk_sections text r).chips) is.count
+
+  pub inner_here : {nodes chips : ℕ} {bodyIds chipIds : List (List ℕ)} → InnerReady (sheet_board text) first n nodes chips bodyIds chipIds
+      → (line.row ≡ get_or (sheet_board text).inner i []) × Ready text lent (suc (first + i)) line.next
+  inner_here is = record_here _ (in_order_lem 4 2 (rows_from text)) (rw is.behind (walk_sections text r).inner) is.count
 
 -- A node found is a Chip by the kinds held, or by the rules.
 chips_same : (b : Board) (kinds : List ℕ) (n : ℕ) → ((j : ℕ) → j < n → get_or kinds j 0 ≡ kind_of b j) → (f : Found) → ((i : ℕ) → f ≡ at i → i < n) → is_chip kinds f ≡ body_chip b f
@@ -359,8 +350,8 @@ counted text c r e =
     }
 
 -- 4 before 5 before 6, by the first lines of each.
-abbrev pub fault_by : ℕ → ℕ → ℕ → Fault
-fault_by twice missing unplaced = elim (eqb twice 0) [ false ↦ Refused 4 twice | true ↦ verdict_of missing unplaced ]
+abbrev pub fault_by : ℕ → ℕ → ℕ → Result (Unit {0}) Refusal
+fault_by twice missing unplaced = elim (eqb twice 0) [ false ↦ Err (refusal IdTaken twice) | true ↦ verdict_of missing unplaced ]
 
 -- A line that is there is not 0.
 abbrev Counting : Found → Type 0
@@ -381,7 +372,7 @@ counting_other : (l : ℕ) → 0 < l → eqb l 0 ≡ false
 counting_other l h = ne_eqb l 0 (λ z. omega arith)
 
 judged_by_lem : (b : Board) (f g h : Found) → Counting f → Counting g → Counting h
-    → fault_of (elim f [ at l ↦ turned_away 4 l | none ↦ elim g [ at l ↦ turned_away 5 l | none ↦ elim h [ at l ↦ turned_away 6 l | none ↦ board b ] ] ])
+    → fault_of (elim f [ at l ↦ turned_away (refusal IdTaken l) | none ↦ elim g [ at l ↦ turned_away (refusal NotThere l) | none ↦ elim h [ at l ↦ turned_away (refusal Unplaced l) | none ↦ board b ] ] ])
     ≡ fault_by (line_or f) (line_or g) (line_or h)
 judged_by_lem b (at l) g h cf cg ch = sym (pick_false (eqb l 0) _ _ (counting_other l (cf l refl)))
 judged_by_lem b none (at l) h cf cg ch = sym (pick_false (eqb l 0) _ _ (counting_other l (cg l refl)))
@@ -445,7 +436,7 @@ module _ (b : Board) (c : Counts) (e : Counted b c) where
   abbrev some_twice : ℕ
   some_twice = earlier (nodes_first (node_twice b)) (earlier (chips_first (chip_twice b)) (inner_first (inner_twice b)))
 
-  fault_four : (t : ℕ) → some_twice ≡ t → (t ≡ 0 → ⊥) → Refused 4 t ≡ fault_of (judged_board b)
+  fault_four : (t : ℕ) → some_twice ≡ t → (t ≡ 0 → ⊥) → Err (refusal IdTaken t) ≡ fault_of (judged_board b)
   fault_four t same some =
       sym
       (fault_by_lem
@@ -455,13 +446,13 @@ module _ (b : Board) (c : Counts) (e : Counted b c) where
       same
       ∙ pick_false (eqb t 0) _ _ (ne_eqb t 0 some))
 
-  pub fault_nodes : (t : ℕ) → t ≡ nodes_first (node_twice b) → (t ≡ 0 → ⊥) → Refused 4 t ≡ fault_of (judged_board b)
+  pub fault_nodes : (t : ℕ) → t ≡ nodes_first (node_twice b) → (t ≡ 0 → ⊥) → Err (refusal IdTaken t) ≡ fault_of (judged_board b)
   fault_nodes t same some =
       fault_four t
       (ap (λ (k : ℕ). earlier k (earlier (chips_first (chip_twice b)) (inner_first (inner_twice b)))) (sym same) ∙ pick_false (eqb t 0) _ t (ne_eqb t 0 some)) some
 
   module _ (t₁ : ℕ) (nodes-once : t₁ ≡ nodes_first (node_twice b)) (none₁ : t₁ ≡ 0) where
-    pub fault_chips : (t : ℕ) → t ≡ chips_first (chip_twice b) → (t ≡ 0 → ⊥) → Refused 4 t ≡ fault_of (judged_board b)
+    pub fault_chips : (t : ℕ) → t ≡ chips_first (chip_twice b) → (t ≡ 0 → ⊥) → Err (refusal IdTaken t) ≡ fault_of (judged_board b)
     fault_chips t same some =
         fault_four t
         ((λ w. earlier ((sym nodes-once ∙ none₁) w) (earlier (sym same w) (inner_first (inner_twice b)))) ∙ pick_false (eqb t 0) _ t (ne_eqb t 0 some)) some
@@ -470,7 +461,7 @@ module _ (b : Board) (c : Counts) (e : Counted b c) where
       rest_twice : (t : ℕ) → t ≡ inner_first (inner_twice b) → some_twice ≡ t
       rest_twice t same w = earlier ((sym nodes-once ∙ none₁) w) (earlier ((sym chips-once ∙ none₂) w) (sym same w))
 
-      pub fault_inner : (t : ℕ) → t ≡ inner_first (inner_twice b) → (t ≡ 0 → ⊥) → Refused 4 t ≡ fault_of (judged_board b)
+      pub fault_inner : (t : ℕ) → t ≡ inner_first (inner_twice b) → (t ≡ 0 → ⊥) → Err (refusal IdTaken t) ≡ fault_of (judged_board b)
       fault_inner t same some = fault_four t (rest_twice t same) some
 
       pub fault_rest : (t m₁ m₂ m₃ u : ℕ) → t ≡ inner_first (inner_twice b) → t ≡ 0 → m₁ ≡ nodes_first (page_missing b)

@@ -1,5 +1,5 @@
 -- The newest entry that passes a test, and how a chain of entries finds it.
-use Prim.Native.Nat.{ℕ, zero, suc, ◌≤◌, ◌<◌}
+use Prim.Native.Nat.{ℕ, zero, suc, ◌-◌, ◌≤◌, ◌<◌}
 use mathlib.Core.Path.{◌≡◌, refl, ap, sym, subst, ◌∙◌}
 use mathlib.Core.Bool.{Bool, true, false}
 use mathlib.Core.List.{List, [], ◌∷◌}
@@ -64,19 +64,6 @@ module _ (p q : ℕ → Bool) (n l j : ℕ) (f : Following p q n l) where
 
   pub follow_end : l ≡ 0 → newest p n ≡ none
   follow_end e = f.same ∙ ap (newest p) e
-
--- A scan down, one entry after the other, is a chain of all of them.
-abbrev pub Scan : (ℕ → Bool) → ℕ → ℕ → Type 0
-Scan p n l = Following p (λ j. true) n l
-
-module _ (p : ℕ → Bool) (n : ℕ) where
-  pub scan_start : Scan p n n
-  scan_start = record { below = omega arith; same = refl; held = λ j e. refl }
-
-  pub scan_next : (l j : ℕ) → l ≡ suc j → Scan p n l → p j ≡ false → Scan p n j
-  scan_next l j e f not' =
-      let low = f.below in
-      record { below = omega arith; same = f.same ∙ ap (newest p) e ∙ pick_false (p j) (at j) (newest p j) not'; held = λ i z. refl }
 
 -- A chained table, followed for a test whose entries all lie in bucket k.
 module _ (buckets : ℕ) (bucket : ℕ → ℕ) (nexts heads : List ℕ) (n : ℕ) (c : Chained buckets bucket nexts heads n) where
@@ -194,6 +181,10 @@ module _ (ids : List (List ℕ)) (n : ℕ) (x : Index ids n) (id : ℕ) where
 
   pub index_start : IdChain ids id n (field ids (bucket_of id) 2)
   index_start = subst (IdChain ids id n) (column_at 2 ids (bucket_of id)) (chain_start BUCKETS _ (column 1 ids) (column 2 ids) n x.chained _ (bucket_of id) id_implies bucket_small)
+
+  -- The entry that a link names.
+  pub index_entry : (l : ℕ) → IdChain ids id n l → (l ≡ 0 → ⊥) → (l - 1 < length ids) × (l - 1 < n) × (l ≡ suc (l - 1))
+  index_entry l f more = let r = x.room in let b = f.below in (omega (arith, more), omega (arith, more), omega (arith, more))
 
   pub index_next : (l j : ℕ) → l ≡ suc j → IdChain ids id n l → (field ids j 0 ≡ id → ⊥) → IdChain ids id n (field ids j 1)
   index_next l j e f other =

@@ -3,6 +3,9 @@ use Prim.Native.Nat.{ℕ}
 use mathlib.Core.Path.{◌≡◌, refl, sym, ap, ◌∙◌}
 use mathlib.Core.Bool.{Bool, true, false}
 use mathlib.Core.List.{List}
+use Rattle.base.specs.declared.refusal.Reason.TheVariants.{NoRoom}
+use Rattle.base.specs.declared.refusal.Refusal.{Refusal}
+use Rattle.base.specs.Refusal.{refusal}
 use Rattle.sheet.specs.declared.Counts.{Counts}
 use Rattle.board.specs.Board.{Board}
 use Rattle.board.specs.Refusals
@@ -12,9 +15,9 @@ use Rattle.board.specs.Planning.{Planning, refused, lanes_for, planning, fitted,
 use Rattle.base.proofs.Bools.{never}
 
 module _ (most : Counts) (text : List ℕ) (fits : Board → Bool) where
-  pub planning_refused : (n l : ℕ) → judged most text ≡ Refusals.turned_away n l → planning most fits text ≡ refused n l
+  pub planning_refused : (r : Refusal) → judged most text ≡ Refusals.turned_away r → planning most fits text ≡ refused r
   unfolding planning
-  planning_refused n l e = ap (judged_for fits) e
+  planning_refused r e = ap (judged_for fits) e
 
   pub planning_fine : (b : Board) → judged most text ≡ board b → planning most fits text ≡ fitted fits b
   unfolding planning
@@ -31,10 +34,10 @@ module _ (most : Counts) (text : List ℕ) (fits : Board → Bool) (b : Board) (
   lanes_from e = go (judged most text) refl
     where
       go : (j : Judged) → judged most text ≡ j → LanesFrom
-      go (Refusals.turned_away n l) is = let d : refused n l ≡ lanes_for b ps = sym (planning_refused most text fits n l is) ∙ e in never cc
+      go (Refusals.turned_away r) is = let d : refused r ≡ lanes_for b ps = sym (planning_refused most text fits r is) ∙ e in never cc
       go (board c) is = fit (fits c) refl
         where
-          from : (t : Bool) → fits c ≡ t → elim t as (λ _. Planning) [ true ↦ crowding c (plan_lanes c) | false ↦ refused 7 0 ] ≡ lanes_for b ps
+          from : (t : Bool) → fits c ≡ t → elim t as (λ _. Planning) [ true ↦ crowding c (plan_lanes c) | false ↦ refused (refusal NoRoom 0) ] ≡ lanes_for b ps
           from t f = rw (← f) (sym (planning_fine most text fits c is) ∙ e)
 
           laned : fits c ≡ true → (r : Planned) → plan_lanes c ≡ r → crowding c r ≡ lanes_for b ps → LanesFrom
@@ -46,4 +49,4 @@ module _ (most : Counts) (text : List ℕ) (fits : Board → Bool) (b : Board) (
 
           fit : (t : Bool) → fits c ≡ t → LanesFrom
           fit true f = laned f (plan_lanes c) refl (from true f)
-          fit false f = let d : refused 7 0 ≡ lanes_for b ps = from false f in never cc
+          fit false f = let d : refused (refusal NoRoom 0) ≡ lanes_for b ps = from false f in never cc

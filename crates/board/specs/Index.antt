@@ -1,14 +1,12 @@
 -- How the code finds the record that an id names: entries chained by bucket, stated by place and not by following links. No rule stands here.
-use Rattle.std.specs.Prelude.{ℕ, zero, suc, ◌%◌, ◌≤◌, ◌<◌, ◌≡◌, List, map, eqb, length, get_or}
+use Rattle.std.specs.Prelude.{ℕ, zero, suc, ◌%◌, ◌≤◌, ◌<◌, ◌≡◌, List, map, eqb, length, get_or, Option, Some, None}
 use Rattle.base.specs.Lists.{Found, none, at, newest}
 use Rattle.board.specs.Board.{field}
-use Rattle.board.specs.declared.ids.Found.{Found as FoundId}
-use Rattle.board.specs.declared.ids.Found.TheVariants.{At, Nothing}
 
 -- An index that may not be there, as the code answers it.
-abbrev pub found_of : Found → FoundId
-found_of none = Nothing
-found_of (at i) = At i
+abbrev pub found_of : Found → Option ℕ
+found_of none = None
+found_of (at i) = Some i
 
 -- An entry that may not be there as one number: 0, or one more than its index.
 abbrev pub link : Found → ℕ
@@ -40,6 +38,10 @@ pub record Index (ids : List (List ℕ)) (n : ℕ) : Type 0 where
 -- The newest of the first n entries that has the id.
 unfoldable pub entry_of : List (List ℕ) → ℕ → ℕ → Found
 entry_of ids n id = newest (λ i. eqb (field ids i 0) id) n
+
+-- No chip record from n on has the id.
+abbrev pub NoChipFrom : List (List ℕ) → ℕ → ℕ → Type 0
+NoChipFrom chips id n = (k : ℕ) → n ≤ k → k < length chips → field chips k 1 ≡ id → ⊥
 
 -- An index whose first n entries are the ids of a section's records.
 pub record Ids (ids : List (List ℕ)) (n : ℕ) (id_at : ℕ → ℕ) : Type 0 where

@@ -1,6 +1,9 @@
 -- E, what turns a board away: refusals 4 to 6 in their order, each with the first line that meets it.
 use Rattle.std.specs.Prelude.{ℕ, suc, ◌+◌, Bool, true, false, not, ◌&&◌, ◌||◌, List, eqb, leb, length}
 use Rattle.sheet.specs.declared.Counts.{Counts}
+use Rattle.base.specs.declared.refusal.Reason.TheVariants.{IdTaken, NotThere, Unplaced}
+use Rattle.base.specs.declared.refusal.Refusal.{Refusal}
+use Rattle.base.specs.Refusal.{refusal}
 use Rattle.sheet.specs.Reading.{refused, rows, reading}
 use Rattle.base.specs.Lists.{Found, none, at, found, or_else, newest, oldest}
 use Rattle.board.specs.Board.{Board, board_of, given, kind_chip, id_of, kind_of, page_of, has_row, placed, chip_id, parent_of, inner_id, inner_chip}
@@ -77,9 +80,9 @@ module _ (b : Board) where
   unfoldable pub unplaced : Found
   unplaced = first_line node_line row_unplaced (length b.nodes)
 
--- What a sheet is judged to be: turned away, with a refusal's number and line, or a board.
+-- What a sheet is judged to be: turned away, with a refusal and its line, or a board.
 pub data Judged : Type 0 where
-  turned_away : (number line : ℕ) → Judged
+  turned_away : Refusal → Judged
   board : Board → Judged
 
 -- E9: 4 on all lines, then 5, then 6.
@@ -87,12 +90,12 @@ unfoldable pub judged_board : Board → Judged
 unfolding id_twice not_there unplaced
 judged_board b =
     elim (id_twice b) [
-      | at line ↦ turned_away 4 line
+      | at line ↦ turned_away (refusal IdTaken line)
       | none ↦
-          elim (not_there b) [ at line ↦ turned_away 5 line | none ↦ elim (unplaced b) [ at line ↦ turned_away 6 line | none ↦ board b ] ]
+          elim (not_there b) [ at line ↦ turned_away (refusal NotThere line) | none ↦ elim (unplaced b) [ at line ↦ turned_away (refusal Unplaced line) | none ↦ board b ] ]
     ]
 
 -- E9: refusals 1 to 6 of a sheet of which at most so many records are taken.
 unfoldable pub judged : Counts → List ℕ → Judged
 unfolding reading judged_board board_of
-judged most text = elim (reading most text) [ refused number line ↦ turned_away number line | rows l ↦ judged_board (board_of l) ]
+judged most text = elim (reading most text) [ refused e ↦ turned_away e | rows l ↦ judged_board (board_of l) ]

@@ -1,14 +1,13 @@
 -- How the code finds refusals 4 to 6: one walk along a sheet's records, in which every id is entered into an index. No rule stands here.
-use Rattle.std.specs.Prelude.{ℕ, suc, ◌+◌, ◌≤◌, ◌<◌, ◌≡◌, Bool, true, false, List, eqb, length, get_or, set}
+use Rattle.std.specs.Prelude.{ℕ, suc, ◌+◌, ◌≤◌, ◌<◌, ◌≡◌, Bool, true, false, List, eqb, length, get_or, set, Result, Ok, Err}
+use Rattle.base.specs.declared.refusal.Reason.TheVariants.{NotThere, Unplaced}
+use Rattle.base.specs.declared.refusal.Refusal.{Refusal}
+use Rattle.base.specs.Refusal.{refusal}
 use Rattle.sheet.specs.declared.Counts.{Counts}
-use Rattle.sheet.specs.declared.Checked.{Checked}
-use Rattle.sheet.specs.declared.Checked.TheVariants.{Refused as NotTaken, Fine as Taken}
 use Rattle.sheet.specs.Table.{library_most}
 use Rattle.sheet.specs.Reading.{rows_from, listed, rows, reading}
 use Rattle.sheet.specs.Answer.{AtRow, RowsHeld}
 use Rattle.board.specs.declared.walks.Walk.{Walk}
-use Rattle.board.specs.declared.refusals.Fault.{Fault}
-use Rattle.board.specs.declared.refusals.Fault.TheVariants.{Refused, Fine}
 use Rattle.base.specs.Lists.{Found, none, at, found}
 use Rattle.board.specs.Board.{Board, board_of, kind_chip, id_of, kind_of, chip_id, inner_id}
 use Rattle.board.specs.Refusals.{first_line, node_twice, chip_twice, inner_twice, page_missing, parent_missing, chip_missing, row_unplaced, Judged, turned_away, board}
@@ -120,14 +119,14 @@ pub record NodesSeen (text : List ℕ) (first n : ℕ) (w₀ w : Walk) (held : L
   pub unplaced : w.twice ≡ 0 → w.unplaced ≡ earlier w₀.unplaced (line_or (first_line (sheet_board text) (line_from first) (row_unplaced (sheet_board text)) n))
 
 -- 5 before 6, by the first lines of each.
-abbrev pub verdict_of : ℕ → ℕ → Fault
+abbrev pub verdict_of : ℕ → ℕ → Result (Unit {0}) Refusal
 verdict_of missing unplaced =
-    elim (eqb missing 0) [ false ↦ Refused 5 missing | true ↦ elim (eqb unplaced 0) [ false ↦ Refused 6 unplaced | true ↦ Fine ] ]
+    elim (eqb missing 0) [ false ↦ Err (refusal NotThere missing) | true ↦ elim (eqb unplaced 0) [ false ↦ Err (refusal Unplaced unplaced) | true ↦ Ok tt ] ]
 
 -- What `find_fault` answers.
-abbrev pub fault_of : Judged → Fault
-fault_of (turned_away number line) = Refused number line
-fault_of (board b) = Fine
+abbrev pub fault_of : Judged → Result (Unit {0}) Refusal
+fault_of (turned_away e) = Err e
+fault_of (board b) = Ok tt
 
 -- What `check_board` answers: the refusal, or how many records of each section the board has.
 abbrev pub counts_in : Board → Counts
@@ -141,9 +140,9 @@ counts_in b =
       wires = length b.wires;
     }
 
-abbrev pub board_checked : Judged → Checked
-board_checked (turned_away number line) = NotTaken number line
-board_checked (board b) = Taken (counts_in b)
+abbrev pub board_checked : Judged → Result Counts Refusal
+board_checked (turned_away e) = Err e
+board_checked (board b) = Ok (counts_in b)
 
 -- The three indexes of a board's ids.
 pub record Indexed (b : Board) (bodyIds chipIds innerIds : List (List ℕ)) : Type 0 where
@@ -153,5 +152,5 @@ pub record Indexed (b : Board) (bodyIds chipIds innerIds : List (List ℕ)) : Ty
 
 -- .. of the board that a sheet is judged to be, if it is one.
 abbrev pub IndexedIf : Judged → (bodyIds chipIds innerIds : List (List ℕ)) → Type 0
-IndexedIf (turned_away number line) bodyIds chipIds innerIds = Unit {0}
+IndexedIf (turned_away e) bodyIds chipIds innerIds = Unit {0}
 IndexedIf (board b) bodyIds chipIds innerIds = Indexed b bodyIds chipIds innerIds

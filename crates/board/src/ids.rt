@@ -1,22 +1,14 @@
 // Which record an id names, and a chip's top chip. Ids are chained by bucket, so that no board makes a lookup slow: at most ID_MOST / BUCKETS,
 // 244, further ids share a bucket.
-ghost use Rattle.std.specs.Prelude.{◌≡◌, List, length, get_or, set};
+ghost use Rattle.std.specs.Prelude.{◌≡◌, List, length, get_or, set, ◌+◌, IfSome, MatchOption};
 ghost use Prim.Native.Nat.{ℕ, ◌≤◌, ◌<◌};
-ghost use Rattle.board.specs.Board.{Board};
-ghost use Rattle.board.specs.Refusals.{chip_at};
+ghost use Rattle.board.specs.Board.{Board, field};
 ghost use Rattle.board.specs.Groups.{top_chip};
-ghost use Rattle.board.specs.Index.{Index, column, found_of, entry_of};
+ghost use Rattle.board.specs.Index.{Index, column, found_of, entry_of, NoChipFrom};
 
 use base::ids::NodeId;
 use base::numbers::MISSING;
 use base::rows::{IdRow, Record};
-
-// An index that may not be there.
-#[derive(Clone, Copy)]
-pub enum Found {
-    At(usize),
-    Nothing,
-}
 
 const BUCKETS: u32 = 4096;
 
@@ -26,22 +18,25 @@ fn bucket_of(id: u32) -> usize
     (id % BUCKETS) as usize
 }
 
+// Stays (no plainer): an index is not cut to its first `n` entries, since the heads of the buckets stand in the rows behind them, too.
+
 // The newest of the first `n` entries that has the id.
-pub fn find_id(index: &[IdRow], n: usize, id: NodeId) -> Found
+pub fn find_id(index: &[IdRow], n: usize, id: NodeId) -> Option<usize>
     requires { Index index.now n }
-    ensures { result ≡ found_of (entry_of index.now n id.0) }
+    ensures value { result ≡ found_of (entry_of index.now n id.0) }
+    ensures below { IfSome result (λ i. i < n) }
 {
     let wanted = id.0;
-    let k = bucket_of(wanted);
-    let mut link = index[k][2];
+    // Stays (no heap): an id's bucket is followed by links, in place of a map.
+    let mut link = index[bucket_of(wanted)][2];
     while link != 0 {
         let i = (link - 1) as usize;
         if index[i][0] == wanted {
-            return Found::At(i);
+            return Some(i);
         }
         link = index[i][1];
     }
-    Found::Nothing
+    None
 }
 
 // One more entry.
@@ -61,35 +56,24 @@ pub fn add_id(index: &mut [IdRow], n: usize, id: NodeId)
     index[k] = [bucket[0], bucket[1], (n + 1) as u32];
 }
 
-// The newest of the first `n` chip records that has the id.
-fn chip_below(chips: &[Record], n: usize, id: u32) -> Found
-    requires { n ≤ length chips.now }
-    ensures { (b : Board) → b.chips ≡ chips.now → result ≡ found_of (chip_at b id n) }
+// The newest of the chip records that has the id.
+fn find_chip(chips: &[Record], id: NodeId) -> Option<usize>
+    ensures { MatchOption result (NoChipFrom chips.now id.0 0) (λ c. (c < length chips.now) × (field chips.now c 1 ≡ id.0) × NoChipFrom chips.now id.0 (c + 1)) }
 {
-    let mut c = n;
-    while 0 < c {
-        if chips[c - 1][1] == id {
-            return Found::At(c - 1);
-        }
-        c -= 1;
-    }
-    Found::Nothing
+    chips.iter().rposition(|chip| chip[1] == id.0)
 }
 
 // G1: a chip's top chip. A parent stands before its chips, so each search goes on below the record found.
-pub fn top_chip(chips: &[Record], n: usize, id: NodeId) -> NodeId
-    requires { n ≤ length chips.now }
-    ensures { (b : Board) → b.chips ≡ chips.now → result.0 ≡ top_chip b n id.0 }
+pub fn top_chip(chips: &[Record], id: NodeId) -> NodeId
+    ensures { (b : Board) → b.chips ≡ chips.now → result.0 ≡ top_chip b (length chips.now) id.0 }
 {
-    match chip_below(chips, n, id.0) {
-        Found::Nothing => id,
-        Found::At(c) => {
-            let parent = chips[c][2];
-            if parent == MISSING {
-                id
-            } else {
-                top_chip(chips, c, NodeId(parent))
-            }
-        }
+    let Some(c) = find_chip(chips, id) else {
+        return id;
+    };
+    let parent = chips[c][2];
+    if parent == MISSING {
+        id
+    } else {
+        top_chip(&chips[..c], NodeId(parent))
     }
 }

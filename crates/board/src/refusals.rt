@@ -1,38 +1,32 @@
 // Refusals 4 to 6, from the walks along a sheet's nodes, chips and nodes inside chips.
-ghost use Rattle.std.specs.Prelude.{◌≡◌, ◌+◌};
+ghost use Rattle.std.specs.Prelude.{◌≡◌, ◌+◌, Ok};
 ghost use Rattle.sheet.specs.Reading.{rows_from};
 ghost use Rattle.board.specs.Refusals.{judged_board, judged};
 ghost use Rattle.board.specs.Walk.{sheet_board, Fresh, Ready, RowsIf, Indexed, NODES_MOST, CHIPS_MOST, INNER_MOST, WithinLibrary, IndexedIf, verdict_of, fault_of, board_checked};
 ghost use Rattle.sheet.specs.Answer.{counts_of};
 
 use crate::walks::{Walk, skip_lines, walk_chips, walk_inner, walk_nodes};
+use base::refusal::{Reason, Refusal};
 use base::rows::{IdRow, Record};
-use sheet::{Checked, Counts, check_rows};
-
-// A refusal's number and line, or none of 4 to 6.
-#[derive(Clone, Copy)]
-pub enum Fault {
-    Refused { number: usize, line: usize },
-    Fine,
-}
+use sheet::{Counts, check_rows};
 
 // 5 before 6, once no id stands twice.
-fn verdict(missing: usize, unplaced: usize) -> Fault
+fn verdict(missing: usize, unplaced: usize) -> Result<(), Refusal>
     ensures { result ≡ verdict_of missing unplaced }
 {
     if missing != 0 {
-        return Fault::Refused {
-            number: 5,
-            line: missing,
-        };
+        return Err(Refusal {
+            reason: Reason::NotThere,
+            place: missing,
+        });
     }
     if unplaced != 0 {
-        return Fault::Refused {
-            number: 6,
-            line: unplaced,
-        };
+        return Err(Refusal {
+            reason: Reason::Unplaced,
+            place: unplaced,
+        });
     }
-    Fault::Fine
+    Ok(())
 }
 
 // Refusals 4 to 6 of a sheet that reading accepts: `rows` holds its rows as far as they were lent, and at `rest` the first line without one starts. Without a
@@ -45,14 +39,14 @@ pub fn find_fault(
     body: &mut [IdRow],
     chips: &mut [IdRow],
     inner: &mut [IdRow],
-) -> Fault
+) -> Result<(), Refusal>
     requires ready { Ready text.now rows.now 0 rest }
     requires counts_value { counts ≡ counts_of (rows_from text.now) }
     requires fresh { Fresh body.old NODES_MOST }
     requires fresh_2 { Fresh chips.old CHIPS_MOST }
     requires fresh_3 { Fresh inner.old INNER_MOST }
     ensures value { result ≡ fault_of (judged_board (sheet_board text.now)) }
-    ensures indexed { result ≡ Fault.Fine → Indexed (sheet_board text.now) body.new chips.new inner.new }
+    ensures indexed { result ≡ Ok tt → Indexed (sheet_board text.now) body.new chips.new inner.new }
 {
     let pages = counts.pages;
     let nodes = counts.nodes;
@@ -66,10 +60,10 @@ pub fn find_fault(
     };
     let after_nodes = walk_nodes(text, rows, pages, nodes, start, body, &mut kinds);
     if after_nodes.twice != 0 {
-        return Fault::Refused {
-            number: 4,
-            line: after_nodes.twice,
-        };
+        return Err(Refusal {
+            reason: Reason::IdTaken,
+            place: after_nodes.twice,
+        });
     }
     let after_chips = walk_chips(
         text,
@@ -83,10 +77,10 @@ pub fn find_fault(
         chips,
     );
     if after_chips.twice != 0 {
-        return Fault::Refused {
-            number: 4,
-            line: after_chips.twice,
-        };
+        return Err(Refusal {
+            reason: Reason::IdTaken,
+            place: after_chips.twice,
+        });
     }
     let after_inner = walk_inner(
         text,
@@ -101,10 +95,10 @@ pub fn find_fault(
         inner,
     );
     if after_inner.twice != 0 {
-        return Fault::Refused {
-            number: 4,
-            line: after_inner.twice,
-        };
+        return Err(Refusal {
+            reason: Reason::IdTaken,
+            place: after_inner.twice,
+        });
     }
     verdict(after_inner.missing, after_inner.unplaced)
 }
@@ -118,7 +112,7 @@ pub fn check_board(
     body: &mut [IdRow],
     chips: &mut [IdRow],
     inner: &mut [IdRow],
-) -> Checked
+) -> Result<Counts, Refusal>
     requires within_library { WithinLibrary most }
     requires fresh { Fresh body.old NODES_MOST }
     requires fresh_2 { Fresh chips.old CHIPS_MOST }
@@ -127,15 +121,8 @@ pub fn check_board(
     ensures indexed_if { IndexedIf (judged most text.now) body.new chips.new inner.new }
     ensures rows_if { RowsIf most text.now rows.new }
 {
-    let kept = check_rows(text, most, rows);
-    let checked = kept.checked;
-    match checked {
-        Checked::Refused { number, line } => Checked::Refused { number, line },
-        Checked::Fine(counts) => {
-            match find_fault(text, rows, kept.rest, counts, body, chips, inner) {
-                Fault::Refused { number, line } => Checked::Refused { number, line },
-                Fault::Fine => Checked::Fine(counts),
-            }
-        }
-    }
+    let kept = check_rows(text, most, rows)?;
+    let counts = kept.counts;
+    find_fault(text, rows, kept.rest, counts, body, chips, inner)?;
+    Ok(counts)
 }

@@ -7,7 +7,7 @@ ghost use Rattle.board.specs.Board.{given};
 ghost use Rattle.board.specs.Index.{Index, entry_of};
 ghost use Rattle.board.specs.Walk.{line_if, earlier, is_chip, sheet_board, Fresh, Entered, Ready, ChipsReady, InnerReady, WalkedNodes, WalkedChips, WalkedInner, NodesSeen};
 
-use crate::ids::{Found, add_id, find_id};
+use crate::ids::{add_id, find_id};
 use base::ids::NodeId;
 use base::numbers::{KIND_CHIP, MISSING};
 use base::rows::{IdRow, Record};
@@ -26,10 +26,7 @@ fn has_id(index: &[IdRow], n: usize, id: NodeId) -> bool
     requires { Index index.now n }
     ensures { result ≡ found (entry_of index.now n id.0) }
 {
-    match find_id(index, n, id) {
-        Found::At(_) => true,
-        Found::Nothing => false,
-    }
+    find_id(index, n, id).is_some()
 }
 
 // Enters an id, unless it is there already.
@@ -50,30 +47,26 @@ fn first_line(so_far: usize, here: bool, line: usize) -> usize
     ensures { result ≡ earlier so_far (line_if here line) }
 {
     if so_far != 0 {
-        return so_far;
+        so_far
+    } else if here {
+        line
+    } else {
+        0
     }
-    if here { line } else { 0 }
 }
 
 // E5: the page of an N.
 fn page_missing(row: [u32; 16], pages: usize) -> bool
     ensures { result ≡ (given (get_or row 10 0) && leb pages (get_or row 10 0)) }
 {
-    let page = row[10];
-    if page == MISSING {
-        return false;
-    }
-    pages <= page as usize
+    row[10] != MISSING && pages <= row[10] as usize
 }
 
 // E6: an N that has a row and is not placed.
 fn row_unplaced(row: [u32; 16]) -> bool
     ensures { result ≡ (given (get_or row 10 0) && not (given (get_or row 8 0))) }
 {
-    if row[10] == MISSING {
-        return false;
-    }
-    row[8] == MISSING
+    row[10] != MISSING && row[8] == MISSING
 }
 
 // Whether the id names a body node that is a Chip.
@@ -82,10 +75,7 @@ fn is_body_chip(body: &[IdRow], kinds: &[u32], n: usize, id: NodeId) -> bool
     requires n_in_bounds { n ≤ length kinds.now }
     ensures { result ≡ is_chip kinds.now (entry_of body.now n id.0) }
 {
-    match find_id(body, n, id) {
-        Found::At(i) => kinds[i] == KIND_CHIP,
-        Found::Nothing => false,
-    }
+    find_id(body, n, id).is_some_and(|i| kinds[i] == KIND_CHIP)
 }
 
 // E5: the parent of a C, among the `c` chips before it, or the brick of a top chip.
@@ -105,11 +95,11 @@ fn parent_missing(
       | false ↦ not (is_chip kinds.now (entry_of body.now nodes (get_or row 1 0)))
     ] }
 {
-    let parent = row[2];
-    if parent == MISSING {
-        return !is_body_chip(body, kinds, nodes, NodeId(row[1]));
+    if row[2] == MISSING {
+        !is_body_chip(body, kinds, nodes, NodeId(row[1]))
+    } else {
+        !has_id(index, c, NodeId(row[2]))
     }
-    !has_id(index, c, NodeId(parent))
 }
 
 // Where the first line starts that has no row and is not among the first `n`: `rest` is where the first without a row starts.
@@ -119,14 +109,13 @@ pub fn skip_lines(text: &[u8], rows: &[Record], n: usize, rest: usize) -> usize
     ensures { Ready text.now rows.now n result }
 {
     let mut place = rest;
-    let mut k = rows.len();
-    while k < n {
-        let r = row_of(text, rows, k, place);
-        place = r.next;
-        k += 1;
+    for k in rows.len()..n {
+        place = row_of(text, rows, k, place).next;
     }
     place
 }
+
+// Stays (no plainer): each of the three walks asks and enters something else of a row; one walk would take that as a closure over the index that it fills.
 
 // The N lines, `first` lines behind.
 pub fn walk_nodes(
@@ -134,7 +123,7 @@ pub fn walk_nodes(
     rows: &[Record],
     first: usize,
     n: usize,
-    w: Walk,
+    mut w: Walk,
     index: &mut [IdRow],
     kinds: &mut [u32],
 ) -> Walk
@@ -145,34 +134,19 @@ pub fn walk_nodes(
     ensures walked_nodes { WalkedNodes text.now rows.now first n w result index.new }
     ensures nodes_seen { NodesSeen text.now first n w result kinds.new }
 {
-    let mut place = w.place;
-    let mut missing = w.missing;
-    let mut unplaced = w.unplaced;
-    let mut i = 0;
-    while i < n {
-        let r = row_of(text, rows, first + i, place);
+    for i in 0..n {
+        let r = row_of(text, rows, first + i, w.place);
         let row = r.row;
         let line = first + i + 1;
         if enter_id(index, i, NodeId(row[1])) {
-            return Walk {
-                place,
-                twice: line,
-                missing,
-                unplaced,
-            };
+            return Walk { twice: line, ..w };
         }
         kinds[i] = row[2];
-        missing = first_line(missing, page_missing(row, first), line);
-        unplaced = first_line(unplaced, row_unplaced(row), line);
-        place = r.next;
-        i += 1;
+        w.missing = first_line(w.missing, page_missing(row, first), line);
+        w.unplaced = first_line(w.unplaced, row_unplaced(row), line);
+        w.place = r.next;
     }
-    Walk {
-        place,
-        twice: 0,
-        missing,
-        unplaced,
-    }
+    Walk { twice: 0, ..w }
 }
 
 // The C lines, `first` lines behind, once the body nodes are known.
@@ -181,7 +155,7 @@ pub fn walk_chips(
     rows: &[Record],
     first: usize,
     n: usize,
-    w: Walk,
+    mut w: Walk,
     body: &[IdRow],
     kinds: &[u32],
     nodes: usize,
@@ -193,32 +167,18 @@ pub fn walk_chips(
     ensures walked_chips { WalkedChips text.now rows.now first n w result index.new }
     ensures unplaced_value { result.unplaced ≡ w.unplaced }
 {
-    let mut place = w.place;
-    let mut missing = w.missing;
-    let mut c = 0;
-    while c < n {
-        let r = row_of(text, rows, first + c, place);
+    for c in 0..n {
+        let r = row_of(text, rows, first + c, w.place);
         let row = r.row;
         let line = first + c + 1;
         let gone = parent_missing(body, kinds, nodes, index, c, row);
         if enter_id(index, c, NodeId(row[1])) {
-            return Walk {
-                place,
-                twice: line,
-                missing,
-                unplaced: w.unplaced,
-            };
+            return Walk { twice: line, ..w };
         }
-        missing = first_line(missing, gone, line);
-        place = r.next;
-        c += 1;
+        w.missing = first_line(w.missing, gone, line);
+        w.place = r.next;
     }
-    Walk {
-        place,
-        twice: 0,
-        missing,
-        unplaced: w.unplaced,
-    }
+    Walk { twice: 0, ..w }
 }
 
 // The F lines, `first` lines behind, once the body nodes and the chips are known.
@@ -227,7 +187,7 @@ pub fn walk_inner(
     rows: &[Record],
     first: usize,
     n: usize,
-    w: Walk,
+    mut w: Walk,
     body: &[IdRow],
     nodes: usize,
     chips: &[IdRow],
@@ -240,37 +200,15 @@ pub fn walk_inner(
     ensures walked_inner { WalkedInner text.now rows.now first n w result index.new }
     ensures unplaced_value { result.unplaced ≡ w.unplaced }
 {
-    let mut place = w.place;
-    let mut missing = w.missing;
-    let mut f = 0;
-    while f < n {
-        let r = row_of(text, rows, first + f, place);
+    for f in 0..n {
+        let r = row_of(text, rows, first + f, w.place);
         let row = r.row;
         let line = first + f + 1;
-        if has_id(body, nodes, NodeId(row[1])) {
-            return Walk {
-                place,
-                twice: line,
-                missing,
-                unplaced: w.unplaced,
-            };
+        if has_id(body, nodes, NodeId(row[1])) || enter_id(index, f, NodeId(row[1])) {
+            return Walk { twice: line, ..w };
         }
-        if enter_id(index, f, NodeId(row[1])) {
-            return Walk {
-                place,
-                twice: line,
-                missing,
-                unplaced: w.unplaced,
-            };
-        }
-        missing = first_line(missing, !has_id(chips, chip_count, NodeId(row[2])), line);
-        place = r.next;
-        f += 1;
+        w.missing = first_line(w.missing, !has_id(chips, chip_count, NodeId(row[2])), line);
+        w.place = r.next;
     }
-    Walk {
-        place,
-        twice: 0,
-        missing,
-        unplaced: w.unplaced,
-    }
+    Walk { twice: 0, ..w }
 }

@@ -15,27 +15,18 @@ use Rattle.board.specs.Board.{Board, field, class_of, class_inline, inner_class}
 use Rattle.board.specs.Refusals.{body_of, inner_of}
 use Rattle.board.specs.Groups.{anchor_of, is_bussable, top_chip}
 use Rattle.board.specs.Index.{Ids, entry_of, found_of, link}
-use Rattle.board.specs.declared.ids.Found.{Found as FoundId}
-use Rattle.board.specs.declared.ids.Found.TheVariants.{At, Nothing}
+use Rattle.std.specs.Prelude.{Option, Some, None}
 use Rattle.board.specs.Tables.{held, flag}
-use Rattle.board_groups.specs.Collecting.{Indexes, inner_anchor, UNASKED, SomeAnchors}
+use Rattle.board_groups.specs.Collecting.{Indexes, inner_anchor, SomeAnchors}
 use Rattle.base.proofs.Bools.{never}
 use Rattle.board.proofs.Newest.{newest_same, link_below}
 
 pub found_below : (p : ℕ → Bool) (n i : ℕ) → newest p n ≡ at i → i < n
 found_below p n i e = let h = link_below p n in let l : link (newest p n) ≡ suc i = ap link e in omega arith
 
--- An index as one number: below the count where there is one, at least the count where there is none.
 pub held_there : (f : Found) (n i : ℕ) → n ≤ MISSING → held f ≡ i → i < n → f ≡ at i
 held_there none n i m e h = absurd (omega arith)
 held_there (at j) n i m e h = ap at e
-
-pub held_gone : (p : ℕ → Bool) (n i : ℕ) → held (newest p n) ≡ i → n ≤ i → newest p n ≡ none
-held_gone p n i e h = go (newest p n) refl
-  where
-    go : (f : Found) → newest p n ≡ f → f ≡ none
-    go none q = refl
-    go (at j) q = absurd (let l = found_below p n j q in let k : j ≡ i = sym (ap held q) ∙ e in omega arith)
 
 pub entry_is : (ids : List (List ℕ)) (n id : ℕ) (id_at : ℕ → ℕ) → ((j : ℕ) → j < n → field ids j 0 ≡ id_at j) → entry_of ids n id ≡ newest (λ i. eqb (id_at i) id) n
 unfolding entry_of
@@ -78,26 +69,14 @@ module _ (rows ids : List (List ℕ)) (known : Ids ids (length rows) (λ i. fiel
   unfolding inner_of
   inner_entry b e = entry_is ids (length rows) id (λ i. field rows i 1) known.same ∙ (λ z. newest (λ i. eqb (field (sym e z) i 1) id) (length (sym e z)))
 
-  module _ (count : length rows ≤ 4096) (i : ℕ) (e : held (entry_of ids (length rows) id) ≡ i) where
-    pub entry_there : i < length rows → entry_of ids (length rows) id ≡ at i
-    entry_there h = held_there (entry_of ids (length rows) id) (length rows) i (omega arith) e h
-
-    pub entry_gone : length rows ≤ i → entry_of ids (length rows) id ≡ none
-    unfolding entry_of
-    entry_gone h = held_gone (λ j. eqb (field ids j 0) id) (length rows) i e h
-
 -- What a search answered.
-pub found_at : (f : Found) (r : FoundId) (i : ℕ) → r ≡ found_of f → r ≡ At i → f ≡ at i
-found_at none r i e g = never cc
-found_at (at j) r i e g = let z : j ≡ i = cc in ap at z
+pub found_some : (f : Found) (i : ℕ) → Some i ≡ found_of f → f ≡ at i
+found_some none i e = never cc
+found_some (at j) i e = let z : j ≡ i = cc in ap at z
 
-pub found_nothing : (f : Found) (r : FoundId) → r ≡ found_of f → r ≡ Nothing → f ≡ none
-found_nothing none r e g = refl
-found_nothing (at j) r e g = never cc
-
-pub entry_below : (ids : List (List ℕ)) (n id i : ℕ) → entry_of ids n id ≡ at i → i < n
-unfolding entry_of
-entry_below ids n id i e = found_below (λ j. eqb (field ids j 0) id) n i e
+pub found_nothing : (f : Found) → None ≡ found_of f → f ≡ none
+found_nothing none e = refl
+found_nothing (at j) e = never cc
 
 -- The anchor of an inner record, as `inner_anchor` finds it.
 pub anchor_found : (nodes chips inner bi : List (List ℕ)) → Ids bi (length nodes) (λ i. field nodes i 1) → (f top r : ℕ)
@@ -106,44 +85,44 @@ pub anchor_found : (nodes chips inner bi : List (List ℕ)) → Ids bi (length n
 anchor_found nodes chips inner bi known f top r t e b n c i =
     e ∙ ap held (body_entry nodes bi known top b n ∙ ap (body_of b) (t b c ∙ (λ z. top_chip b (length (sym c z)) (field (sym i z) f 2))))
 
--- A table of anchors: none asked for, one that is known, one more entered.
-pub none_asked : (b : Board) (n : ℕ) → length b.inner ≤ n → SomeAnchors b (replicate n UNASKED)
-none_asked b n h f l other = absurd (other (get_or-replicate n f UNASKED 0 (omega (arith, h, l))))
+-- A table of anchors: none asked for, and one more entered.
+pub none_asked : (b : Board) (n : ℕ) → length b.inner ≤ n → SomeAnchors b (replicate n None)
+none_asked b n h f anchor l e = let none : None ≡ Some anchor = sym (get_or-replicate n f None None (omega (arith, h, l))) ∙ e in never cc
 
-pub anchor_entered : (b : Board) (anchors : List ℕ) (f r : ℕ) → f < length anchors → SomeAnchors b anchors → r ≡ held (inner_anchor b f) → SomeAnchors b (set anchors f r)
-anchor_entered b anchors f r room some is k l other = go (eqb k f) refl
+pub anchor_entered : (b : Board) (anchors : List (Option ℕ)) (f r : ℕ) → f < length anchors → SomeAnchors b anchors → r ≡ held (inner_anchor b f) → SomeAnchors b (set anchors f (Some r))
+anchor_entered b anchors f r room some is k anchor l e = go (eqb k f) refl
   where
-    go : (t : Bool) → eqb k f ≡ t → get_or (set anchors f r) k 0 ≡ held (inner_anchor b k)
-    go true q = let z : k ≡ f = eqb-true k f q in ap (λ (i : ℕ). get_or (set anchors f r) i 0) z ∙ get_or-set_same anchors f r 0 room ∙ is ∙ ap (λ (i : ℕ). held (inner_anchor b i)) (sym z)
-    go false q = let e : get_or (set anchors f r) k 0 ≡ get_or anchors k 0 = get_or-set_other anchors f k r 0 (λ w. eqb-false k f q w) in e ∙ some k l (λ u. other (e ∙ u))
+    go : (t : Bool) → eqb k f ≡ t → anchor ≡ held (inner_anchor b k)
+    go true q =
+        let z : k ≡ f = eqb-true k f q in
+        let here : Some r ≡ Some anchor = sym (get_or-set_same anchors f (Some r) None room) ∙ (λ w. get_or (set anchors f (Some r)) (sym z w) None) ∙ e in
+        let same : anchor ≡ r = cc in
+        same ∙ is ∙ ap (λ (i : ℕ). held (inner_anchor b i)) (sym z)
+    go false q = some k anchor l (sym (get_or-set_other anchors f k (Some r) None (λ w. eqb-false k f q w)) ∙ e)
 
 -- The end at a node: what `find_end` finds of a board whose body nodes and nodes inside chips are indexed.
-module _ (nodes inner bi ii : List (List ℕ)) (known : Indexes nodes inner bi ii) (id i : ℕ) (is : i ≡ held (entry_of bi (length nodes) id))
-    (b : Board) (n : b.nodes ≡ nodes) (f : b.inner ≡ inner) where
-  module _ (h : i < length nodes) where
-    at_body : body_of b id ≡ at i
-    at_body = sym (body_entry nodes bi known.body id b n) ∙ entry_there nodes bi known.body id known.few i (sym is) h
+module _ (nodes inner bi ii : List (List ℕ)) (known : Indexes nodes inner bi ii) (id : ℕ) (b : Board) (n : b.nodes ≡ nodes) (f : b.inner ≡ inner) where
+  pub end_body : (i : ℕ) → Some i ≡ found_of (entry_of bi (length nodes) id) → (i ≡ held (anchor_of b id)) × (not (eqb (field nodes i 3) 2) ≡ is_bussable b id)
+  end_body i e =
+      let here : body_of b id ≡ at i = sym (body_entry nodes bi known.body id b n) ∙ found_some _ i e in (
+        sym (ap held (anchor_body b id i here)),
+        (λ z. not (eqb (field (sym n z) i 3) 2)) ∙ sym (bussable_body b id i here),
+      )
 
-    pub end_body : (i ≡ held (anchor_of b id)) × (not (eqb (field nodes i 3) 2) ≡ is_bussable b id)
-    end_body = (
-      sym (ap held (anchor_body b id i at_body)),
-      (λ z. not (eqb (field (sym n z) i 3) 2)) ∙ sym (bussable_body b id i at_body),
-    )
-
-  module _ (h : length nodes ≤ i) (j : ℕ) (is-inner : j ≡ held (entry_of ii (length inner) id)) where
+  module _ (e : None ≡ found_of (entry_of bi (length nodes) id)) where
     no_body : body_of b id ≡ none
-    no_body = sym (body_entry nodes bi known.body id b n) ∙ entry_gone nodes bi known.body id known.few i (sym is) h
+    no_body = sym (body_entry nodes bi known.body id b n) ∙ found_nothing _ e
 
-    module _ (k : j < length inner) where
-      at_inner : inner_of b id ≡ at j
-      at_inner = sym (inner_entry inner ii known.inside id b f) ∙ entry_there inner ii known.inside id known.few_inner j (sym is-inner) k
+    pub end_inner : (j : ℕ) → Some j ≡ found_of (entry_of ii (length inner) id) → (r : ℕ) → r ≡ held (inner_anchor b j) → (r ≡ held (anchor_of b id)) × (not (eqb (field inner j 3) 2) ≡ is_bussable b id)
+    end_inner j g r a =
+        let here : inner_of b id ≡ at j = sym (inner_entry inner ii known.inside id b f) ∙ found_some _ j g in (
+          a ∙ sym (ap held (anchor_inner b id no_body j here)),
+          (λ z. not (eqb (field (sym f z) j 3) 2)) ∙ sym (bussable_inner b id no_body j here),
+        )
 
-      pub end_inner : (r : ℕ) → r ≡ held (inner_anchor b j) → (r ≡ held (anchor_of b id)) × (not (eqb (field inner j 3) 2) ≡ is_bussable b id)
-      end_inner r a = (a ∙ sym (ap held (anchor_inner b id no_body j at_inner)), (λ z. not (eqb (field (sym f z) j 3) 2)) ∙ sym (bussable_inner b id no_body j at_inner))
-
-    pub end_none : length inner ≤ j → (MISSING ≡ held (anchor_of b id)) × (false ≡ is_bussable b id)
-    end_none k =
-        let gone : inner_of b id ≡ none = sym (inner_entry inner ii known.inside id b f) ∙ entry_gone inner ii known.inside id known.few_inner j (sym is-inner) k in
+    pub end_none : None ≡ found_of (entry_of ii (length inner) id) → (MISSING ≡ held (anchor_of b id)) × (false ≡ is_bussable b id)
+    end_none g =
+        let gone : inner_of b id ≡ none = sym (inner_entry inner ii known.inside id b f) ∙ found_nothing _ g in
         (sym (ap held (anchor_none b id no_body gone)), sym (bussable_none b id no_body gone))
 
 -- A bool cast to a number.

@@ -7,7 +7,7 @@ use mathlib.Core.Path.{◌≡◌, refl, sym, ap, ◌∙◌, subst}
 use mathlib.Core.Bool.{Bool, true, false, not}
 use mathlib.Core.List.{List, [], ◌∷◌, ◌++◌, Memᴰ}
 use lib.Dec.{eqb}
-use lib.ListN.{length, get_or, set, take, drop, length-append, length-drop}
+use lib.ListN.{length, get_or, set, take, drop}
 use lib.Seq.{get_or-set_same, get_or-set_other, get_or-take, length-take-le, take_at}
 use borrow.Author.Tests.{eq-eqb, ne_eqb, eqb-true, eqb-false, lt-ltb, le-ltb}
 use Rattle.sheet.specs.Table.{MISSING, HALF_MOST}
@@ -433,12 +433,6 @@ module _ (nodes keys front : List (List ℕ)) (room : length nodes ≤ length ke
   lent_ranked =
       subst (Ranked (nodes_alone nodes)) (sym done ∙ sym (take_at front (drop (length nodes) keys) (length nodes) front_length))
       (ranked_of (nodes_alone nodes) keys room filled end_most)
-
-  pub lent_length : length (take (length nodes) (front ++ drop (length nodes) keys)) ≡ length nodes
-  lent_length = ap length (take_at front (drop (length nodes) keys) (length nodes) front_length) ∙ front_length
-
-  pub whole_length : length (front ++ drop (length nodes) keys) ≡ length keys
-  whole_length = length-append front (drop (length nodes) keys) ∙ (let e = front_length in let d = length-drop (length nodes) keys in omega arith)
 
   pub lent_index : (k : ℕ) → k < length (take (length nodes) (front ++ drop (length nodes) keys)) → field (take (length nodes) (front ++ drop (length nodes) keys)) k 3 < length nodes
   lent_index k h =

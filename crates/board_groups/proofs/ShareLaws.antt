@@ -5,9 +5,10 @@ use native.Mathlib.Decide.{dec_lt, ℕ_discrete}
 use mathlib.Core.Path.{◌≡◌, refl, sym, ap, ◌∙◌, subst}
 use mathlib.Core.Bool.{Bool, true, false, not}
 use mathlib.Core.Logic.{◌⊎◌, inl, inr, ⊎_elim}
-use mathlib.Core.List.{List, [], ◌∷◌}
+use mathlib.Core.List.{List, [], ◌∷◌, ◌++◌}
 use lib.Dec.{eqb}
-use lib.ListN.{length, get_or, set, length-set}
+use lib.ListN.{length, get_or, set, take, drop, length-set}
+use Rattle.std.proofs.lemmas.List.{get_or-take, get_or_append_left}
 use lib.Seq.{get_or-set_same, get_or-set_other}
 use borrow.Author.Tests.{eq-eqb}
 use Rattle.base.specs.Views.{view}
@@ -17,24 +18,24 @@ use Rattle.base.proofs.Lists.{same_three}
 use Rattle.board.specs.Board.{Board, field}
 use Rattle.board.specs.Groups.{group_for}
 use Rattle.board.specs.Tables.{tap_in}
-use Rattle.board_groups.specs.Shares.{Wired, key_of, same_key, packed, NUMBERS, tap_at, starts_run, First, Leads, LeadsIn, Runs, grouped, Shared}
+use Rattle.board_groups.specs.Shares.{Wired, key_of, same_key, packed, NUMBERS, tap_at, starts_run, First, Leads, LeadsIn, Runs, Shared}
 use Rattle.board_groups.proofs.Facts.{column_kept}
 
 -- Any keys
 module _ (key : ℕ → List ℕ) (wire : ℕ → ℕ) where
-  -- The first tap with a key leads all that have it.
-  pub leads_from : (k j : ℕ) → key j ≡ key k → ((i : ℕ) → i < j → key i ≡ key k → ⊥) → Leads key wire k (wire j)
-  leads_from k j e none i f first =
-      elim (dec_lt i j) [
-        | yes h ↦ absurd (none i h f)
-        | no h ↦ elim (dec_lt j i) [ yes l ↦ absurd (first j l (e ∙ sym f)) | no g ↦ let same : j ≡ i = omega arith in ap wire same ]
-      ]
-
   pub leads_on : (j k g : ℕ) → key j ≡ key k → Leads key wire j g → Leads key wire k g
   leads_on j k g e l i f first = l i (f ∙ sym e) first
 
 pub leads_same : (key key' : ℕ → List ℕ) (wire wire' : ℕ → ℕ) → key ≡ key' → wire ≡ wire' → (k g : ℕ) → Leads key wire k g → Leads key' wire' k g
 leads_same key key' wire wire' e f k g l = subst (λ (x : ℕ → List ℕ). Leads x wire' k g) e (subst (λ (x : ℕ → ℕ). Leads key x k g) f l)
+
+-- Keys and wires that are the same below m have the same leaders there.
+leads_front : (key key' : ℕ → List ℕ) (wire wire' : ℕ → ℕ) (m : ℕ) → ((j : ℕ) → j < m → key j ≡ key' j) → ((j : ℕ) → j < m → wire j ≡ wire' j) → (k g : ℕ) → k < m → Leads key wire k g → Leads key' wire' k g
+leads_front key key' wire wire' m keys wires k g h l j e first =
+    elim (dec_lt k j) [
+      | yes b ↦ absurd (first k b (sym e))
+      | no f ↦ l j (keys j (omega arith) ∙ e ∙ sym (keys k h)) (λ i a q. first i a (sym (keys i (omega arith)) ∙ q ∙ keys j (omega arith))) ∙ wires j (omega arith)
+    ]
 
 -- The keys of taps
 module _ (wires taps : List (List ℕ)) where
@@ -168,11 +169,6 @@ module _ (wires taps : List (List ℕ)) (keys : List ℕ) (m : ℕ) (r : Runs wi
   pub comes_there : (k < m) × (k < length taps) × (field taps k 7 < length wires)
   comes_there = let b : k < m = omega (arith, r.within p h) in (b, omega (arith, r.rows), r.wired k b)
 
-  pub group_begins : starts_run keys p ≡ true → LeadsIn wires taps (tap_at keys p) (field taps k 7)
-  group_begins s =
-      subst (λ (j : ℕ). LeadsIn wires taps (tap_at keys p) (field taps j 7)) (sym is)
-      (leads_from (key_of wires taps) (λ j. field taps j 7) (tap_at keys p) (tap_at keys p) refl (r.begins p h s))
-
   pub group_goes_on : (j : ℕ) → j ≡ tap_at keys (p - 1) → same_key wires taps j k ≡ true → LeadsIn wires taps (tap_at keys (p - 1)) (field taps (tap_at keys (p - 1)) 1)
       → LeadsIn wires taps (tap_at keys p) (field taps j 1)
   group_goes_on j e t before =
@@ -201,34 +197,27 @@ module _ (wires old new : List (List ℕ)) (pages : (k : ℕ) → field new k 0 
 -- The walk: the first p taps along the keys have their groups.
 pub record Walked (wires old taps : List (List ℕ)) (keys : List ℕ) (p : ℕ) : Type 0 where
   pub long : length taps ≡ length old
+  pub wide : (k : ℕ) → length (get_or taps k []) ≡ length (get_or old k [])
   pub kept : (k c : ℕ) → c < 8 → (c ≡ 1 → ⊥) → field taps k c ≡ field old k c
   pub done : (q : ℕ) → q < p → LeadsIn wires taps (tap_at keys q) (field taps (tap_at keys q) 1)
 
--- The columns of a tap's row with its group.
-column : (r : List ℕ) (g c : ℕ) → c < 8 → (c ≡ 1 → ⊥) → get_or (grouped r g) c 0 ≡ get_or r c 0
-column r g zero h n = refl
-column r g (suc zero) h n = absurd (n refl)
-column r g (suc (suc zero)) h n = refl
-column r g (suc (suc (suc zero))) h n = refl
-column r g (suc (suc (suc (suc zero)))) h n = refl
-column r g (suc (suc (suc (suc (suc zero))))) h n = refl
-column r g (suc (suc (suc (suc (suc (suc zero)))))) h n = refl
-column r g (suc (suc (suc (suc (suc (suc (suc zero))))))) h n = refl
-column r g (suc (suc (suc (suc (suc (suc (suc (suc c)))))))) h n = absurd (omega arith)
-
 module _ (wires old : List (List ℕ)) (keys : List ℕ) where
   pub walked_start : Walked wires old old keys 0
-  walked_start = record { long = refl; kept = λ k c h n. refl; done = λ q h. absurd (omega arith) }
+  walked_start = record { long = refl; wide = λ k. refl; kept = λ k c h n. refl; done = λ q h. absurd (omega arith) }
 
   module _ (taps : List (List ℕ)) (p : ℕ) (walked : Walked wires old taps keys p) where
     pub walked_runs : (m : ℕ) → Runs wires old keys m → Runs wires taps keys m
     walked_runs m = runs_moved wires old taps (λ k. walked.kept k 0 (omega arith) (λ e. omega arith)) (λ k. walked.kept k 7 (omega arith) (λ e. omega arith)) keys m walked.long
 
-    walked_more : (g : ℕ) → tap_at keys p < length taps → LeadsIn wires taps (tap_at keys p) g
-        → Walked wires old (set taps (tap_at keys p) (grouped (get_or taps (tap_at keys p) []) g)) keys (p + 1)
-    walked_more g room leads =
+    walked_more : (g : ℕ) → tap_at keys p < length taps → 1 < length (get_or taps (tap_at keys p) []) → LeadsIn wires taps (tap_at keys p) g
+        → Walked wires old (set taps (tap_at keys p) (set (get_or taps (tap_at keys p) []) 1 g)) keys (p + 1)
+    walked_more g room wide leads =
         record {
           long = length-set taps k row ∙ walked.long;
+          wide = λ i. elim (ℕ_discrete i k) [
+            | yes e ↦ rw e (ap length (get_or-set_same taps k row [] room) ∙ length-set (get_or taps k []) 1 g ∙ walked.wide k)
+            | no f ↦ ap length (get_or-set_other taps k i row [] f) ∙ walked.wide i
+          ];
           kept = λ i c h n. same i c h n ∙ walked.kept i c h n;
           done = λ q h. elim (ℕ_discrete (tap_at keys q) k) [
             | yes e ↦ subst (λ (j : ℕ). LeadsIn wires new j (field new j 1)) (sym e) (subst (LeadsIn wires new k) (sym here) (moved k g leads))
@@ -240,19 +229,19 @@ module _ (wires old : List (List ℕ)) (keys : List ℕ) where
         k = tap_at keys p
 
         row : List ℕ
-        row = grouped (get_or taps k []) g
+        row = set (get_or taps k []) 1 g
 
         new : List (List ℕ)
         new = set taps k row
 
         same : (i c : ℕ) → c < 8 → (c ≡ 1 → ⊥) → field new i c ≡ field taps i c
-        same i c h n = column_kept taps k row room c (column (get_or taps k []) g c h n) i
+        same i c h n = column_kept taps k row room c (get_or-set_other (get_or taps k []) 1 c g 0 n) i
 
         moved : (j h : ℕ) → LeadsIn wires taps j h → LeadsIn wires new j h
         moved = leads_moved wires taps new (λ i. same i 0 (omega arith) (λ e. omega arith)) (λ i. same i 7 (omega arith) (λ e. omega arith))
 
         here : field new k 1 ≡ g
-        here = ap (λ (r : List ℕ). get_or r 1 0) (get_or-set_same taps k row [] room)
+        here = ap (λ (r : List ℕ). get_or r 1 0) (get_or-set_same taps k row [] room) ∙ get_or-set_same (get_or taps k []) 1 g 0 wide
 
         other : (i : ℕ) → (i ≡ k → ⊥) → field new i 1 ≡ field taps i 1
         other i f = ap (λ (r : List ℕ). get_or r 1 0) (get_or-set_other taps k i row [] f)
@@ -260,10 +249,9 @@ module _ (wires old : List (List ℕ)) (keys : List ℕ) where
         below : (q : ℕ) → q < p + 1 → (tap_at keys q ≡ k → ⊥) → q < p
         below q h f = elim (dec_lt q p) [ yes l ↦ l | no o ↦ let e : q ≡ p = omega arith in absurd (f (ap (tap_at keys) e)) ]
 
-    pub walked_on : (g k : ℕ) (new : List (List ℕ)) → k ≡ tap_at keys p → k < length taps → LeadsIn wires taps (tap_at keys p) g → new ≡ set taps k (grouped (get_or taps k []) g)
-        → Walked wires old new keys (p + 1)
-    walked_on g k new e room leads is =
-        subst (λ (t : List (List ℕ)). Walked wires old t keys (p + 1)) (sym (is ∙ ap (λ (j : ℕ). set taps j (grouped (get_or taps j []) g)) e)) (walked_more g (omega arith) leads)
+    pub walked_on : (g k : ℕ) → k ≡ tap_at keys p → k < length taps → 1 < length (get_or taps k []) → LeadsIn wires taps (tap_at keys p) g
+        → Walked wires old (set taps k (set (get_or taps k []) 1 g)) keys (p + 1)
+    walked_on g k e room wide leads = rw e (walked_more g (rw e at room) (rw e at wide) leads)
 
     pub walked_done : (m : ℕ) → m ≤ p → Runs wires old keys m → Shared wires old taps m
     walked_done m all r =
@@ -271,3 +259,21 @@ module _ (wires old : List (List ℕ)) (keys : List ℕ) where
           kept = λ k c b h n. walked.kept k c h n;
           groups = λ k b. let q = r.reaches k b in subst (λ (j : ℕ). LeadsIn wires taps j (field taps j 1)) q.2 (walked.done q.0 (omega (arith, q.1)));
         }
+
+-- The first m taps of a table get their groups in the rows that are lent on.
+pub shared_front : (wires taps front : List (List ℕ)) (m : ℕ) → m ≤ length taps → length front ≡ m → Shared wires (take m taps) front m → Shared wires taps (front ++ drop m taps) m
+shared_front wires taps front m room long s =
+    record {
+      kept = λ k c h b n. whole k c h ∙ s.kept k c h b n ∙ ap (λ (r : List ℕ). get_or r c 0) (get_or-take m taps k [] h);
+      groups = λ k h.
+          rw (whole k 1 h)
+          (leads_front (key_of wires front) (key_of wires (front ++ drop m taps)) (λ j. field front j 7) (λ j. field (front ++ drop m taps) j 7) m
+          (λ j l. ap (λ (r : List ℕ). get_or r 0 0 ∷ field wires (get_or r 7 0) 1 ∷ field wires (get_or r 7 0) 2 ∷ []) (sym (row j l)))
+          (λ j l. sym (whole j 7 l)) k (field front k 1) h (s.groups k h));
+    }
+  where
+    row : (k : ℕ) → k < m → get_or (front ++ drop m taps) k [] ≡ get_or front k []
+    row k h = get_or_append_left front (drop m taps) [] k (omega (arith, long))
+
+    whole : (k c : ℕ) → k < m → field (front ++ drop m taps) k c ≡ field front k c
+    whole k c h = ap (λ (r : List ℕ). get_or r c 0) (row k h)

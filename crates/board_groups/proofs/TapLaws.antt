@@ -1,7 +1,6 @@
 -- Which wires become taps, what their facts hold, and the taps as they are appended.
 use Prim.Native.Nat.{ℕ, zero, suc, ◌+◌, ◌≤◌, ◌<◌}
 use native.Mathlib.Omega.{arith}
-use native.Mathlib.Decide.{ℕ_discrete}
 use native.Mathlib.Numerals.{add-one}
 use mathlib.Core.Path.{◌≡◌, refl, sym, ap, ◌∙◌, subst}
 use mathlib.Core.Bool.{Bool, true, false, not, ◌&&◌, ◌||◌}
@@ -18,7 +17,7 @@ use Rattle.board.specs.Rows.{row_of}
 use Rattle.board.specs.Groups.{Tap, anchor_of, top_chip, is_bussable, wire_open, anchors_open, crosses_at, is_bus_worthy, targets_exec, group_for, tap_for, add_wire, taps_of}
 use Rattle.base.specs.Views.{view}
 use Rattle.board.specs.Tables.{held, flag, tap_in, tap_target, NodeFacts, WireFacts}
-use Rattle.board_groups.specs.Shares.{Wired, Shared, Appended}
+use Rattle.board_groups.specs.Shares.{Shared, Appended}
 use Rattle.board_groups.proofs.Ends.{found_below, held_there}
 use Rattle.board_groups.proofs.ShareLaws.{group_told}
 use Rattle.board_groups.proofs.Facts.{same_nodes, same_wires_lem, column_kept, column_more}
@@ -199,18 +198,6 @@ pub record EndsUpto (b : Board) (facts : List (List ℕ)) (n : ℕ) : Type 0 whe
   pub targets : (w : ℕ) → w < n → field facts w 3 ≡ held (anchor_of b (target_node b w))
   pub opens : (w : ℕ) → w < n → field facts w 4 ≡ flag (wire_open b w)
 
-pub ends_none : (b : Board) (facts : List (List ℕ)) → EndsUpto b facts 0
-ends_none b facts =
-    record { sources = λ w h. absurd (omega arith); targets = λ w h. absurd (omega arith); opens = λ w h. absurd (omega arith) }
-
-pub ends_all : (b : Board) (facts : List (List ℕ)) (n : ℕ) → length b.wires ≤ n → EndsUpto b facts n → WireFacts b facts
-ends_all b facts n all known =
-    record {
-      sources = λ w h. known.sources w (omega arith);
-      targets = λ w h. known.targets w (omega arith);
-      opens = λ w h. known.opens w (omega arith);
-    }
-
 -- A wire's row with its ends, as `write_ends` writes it.
 abbrev pub ends_row : List (List ℕ) → ℕ → ℕ → ℕ → ℕ → List ℕ
 ends_row facts w s t f = field facts w 0 ∷ field facts w 1 ∷ s ∷ t ∷ f ∷ 0 ∷ 0 ∷ 0 ∷ []
@@ -339,17 +326,7 @@ module _ (b : Board) (nodes wires facts taps : List (List ℕ)) (m w t : ℕ) (n
       tap : tap_in (get_or new m []) ≡ tap_for b ts w t
       tap = seen ∙ tap_for_lem b nodes wires facts ts w t (field new m 1) n e known there group
 
-pub wired_more : (wires taps : List (List ℕ)) (m : ℕ) (row : List ℕ) → m < length taps → get_or row 7 0 < length wires → Wired wires taps m → Wired wires (set taps m row) (m + 1)
-wired_more wires taps m row room new old k h =
-    elim (ℕ_discrete k m) [
-      | yes e ↦ let same : field (set taps m row) k 7 ≡ get_or row 7 0 = (λ z. field (set taps m row) (e z) 7) ∙ ap (λ (r : List ℕ). get_or r 7 0) (get_or-set_same taps m row [] room) in omega arith
-      | no f ↦ let same : field (set taps m row) k 7 ≡ field taps k 7 = ap (λ (r : List ℕ). get_or r 7 0) (get_or-set_other taps m k row [] f) in let a = old k (omega (arith, f)) in omega arith
-    ]
-
--- The taps of the first w wires, and of all.
-pub appended_more : (b : Board) (taps : List (List ℕ)) (m w : ℕ) → Appended b taps m (add_wire b (fold (add_wire b) [] (upto w)) w) → Appended b taps m (fold (add_wire b) [] (upto (w + 1)))
-appended_more b taps m w a = subst (λ (n : ℕ). Appended b taps m (fold (add_wire b) [] (upto n))) (sym (add-one w)) a
-
+-- The taps of all wires.
 pub appended_done : (b : Board) (wires taps : List (List ℕ)) (m w : ℕ) → b.wires ≡ wires → w ≡ length wires → Appended b taps m (fold (add_wire b) [] (upto w)) → Appended b taps m (taps_of b)
 unfolding taps_of
 appended_done b wires taps m w e f a = subst (λ (n : ℕ). Appended b taps m (fold (add_wire b) [] (upto n))) (f ∙ ap length (sym e)) a

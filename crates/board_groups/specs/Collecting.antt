@@ -1,5 +1,5 @@
 -- How the code that collects taps, groups and demands holds them on its way. No rule stands here.
-use Rattle.std.specs.Prelude.{ℕ, ◌+◌, ◌-◌, ◌*◌, ◌≤◌, ◌<◌, ◌≡◌, true, false, ◌&&◌, List, [], ◌∷◌, eqb, length, get_or}
+use Rattle.std.specs.Prelude.{ℕ, ◌+◌, ◌-◌, ◌*◌, ◌≤◌, ◌<◌, ◌≡◌, true, false, ◌&&◌, List, [], ◌∷◌, eqb, length, get_or, Option, Some, None}
 use Rattle.sheet.specs.Table.{MISSING, library_most}
 use Rattle.base.specs.Sort.{lex_less}
 use Rattle.base.specs.Keys.{Rising}
@@ -54,12 +54,9 @@ pub record Indexes (nodes inner bodyIds innerIds : List (List ℕ)) : Type 0 whe
 abbrev pub inner_anchor : Board → ℕ → Found
 inner_anchor b f = body_of b (top_chip b (length b.chips) (inner_chip b f))
 
--- A table of the anchors of inner records: each entry is one, or stands for one that was not asked for.
-abbrev pub UNASKED : ℕ
-UNASKED = 4294967294
-
-abbrev pub SomeAnchors : Board → List ℕ → Type 0
-SomeAnchors b anchors = (f : ℕ) → f < length b.inner → (get_or anchors f 0 ≡ UNASKED → ⊥) → get_or anchors f 0 ≡ held (inner_anchor b f)
+-- A table of the anchors of inner records: each entry is one, or none where it was not asked for.
+abbrev pub SomeAnchors : Board → List (Option ℕ) → Type 0
+SomeAnchors b anchors = (f anchor : ℕ) → f < length b.inner → get_or anchors f None ≡ Some anchor → anchor ≡ held (inner_anchor b f)
 
 -- One more than the greatest number of 32 bits.
 abbrev pub WORD : ℕ

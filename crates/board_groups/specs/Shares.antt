@@ -56,10 +56,6 @@ pub record Runs (wires taps : List (List ℕ)) (keys : List ℕ) (m : ℕ) : Typ
   pub reaches : (k : ℕ) → k < m → (p : ℕ) × (p < m) × (tap_at keys p ≡ k)
   pub begins : (p : ℕ) → p < m → starts_run keys p ≡ true → First (key_of wires taps) (tap_at keys p)
 
--- A tap's row with its group.
-abbrev pub grouped : List ℕ → ℕ → List ℕ
-grouped r g = get_or r 0 0 ∷ g ∷ get_or r 2 0 ∷ get_or r 3 0 ∷ get_or r 4 0 ∷ get_or r 5 0 ∷ get_or r 6 0 ∷ get_or r 7 0 ∷ []
-
 -- The first m taps have their groups, and are else as they were.
 pub record Shared (wires old new : List (List ℕ)) (m : ℕ) : Type 0 where
   pub kept : (k c : ℕ) → k < m → c < 8 → (c ≡ 1 → ⊥) → field new k c ≡ field old k c

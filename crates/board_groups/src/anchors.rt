@@ -10,164 +10,125 @@ ghost use Rattle.board_groups.specs.Collecting.{Indexes, inner_anchor, SomeAncho
 use base::ids::NodeId;
 use base::numbers::MISSING;
 use base::rows::{IdRow, Record, WorkRow};
-use board::ids::{Found, find_id, top_chip};
+use board::ids::{find_id, top_chip};
 
+// Stays (C interface): classes and ports are numbers in the rows that are lent.
 pub const CLASS_INLINE: u32 = 2;
 
 const PORT_LAYOUT: u32 = 0;
 
-// The entry that has the id, or MISSING.
+// The entry that has the id.
+// Stays (C interface): it goes into a lent row of numbers, MISSING for none.
 fn held_id(index: &[IdRow], n: usize, id: NodeId) -> u32
     requires index { Index index.now n }
     requires n_le_nodes { n ≤ library_most.nodes }
     ensures { result ≡ held (entry_of index.now n id.0) }
 {
-    match find_id(index, n, id) {
-        Found::At(i) => i as u32,
-        Found::Nothing => MISSING,
-    }
+    find_id(index, n, id).map_or(MISSING, |i| i as u32)
 }
 
 // A wire's end: the anchor of its node, and whether the node itself may be on the bus.
 #[derive(Clone, Copy)]
-pub struct End {
-    pub anchor: u32,
-    pub open: bool,
+struct End {
+    anchor: u32,
+    bussable: bool,
 }
 
-// An anchor that was not asked for yet. MISSING is one that is not there.
-const UNASKED: u32 = 4_294_967_294;
-
-// G2: the anchor of the f-th node inside a chip: the brick of its top chip, which is looked for once.
-fn inner_anchor(
-    nodes: &[Record],
-    chips: &[Record],
-    inner: &[Record],
-    body_index: &[IdRow],
-    anchors: &mut [u32],
-    f: usize,
-) -> u32
-    requires nodes_len_bound { (length nodes.now ≤ library_most.nodes) × Ids body_index.now (length nodes.now) (λ i. field nodes.now i 1) }
-    requires f_in_bounds { (f < length inner.now) × (length inner.now ≤ length anchors.old) }
-    ensures { (b : Board) → b.nodes ≡ nodes.now → b.chips ≡ chips.now → b.inner ≡ inner.now → SomeAnchors b anchors.old
-        → (result ≡ held (inner_anchor b f)) × SomeAnchors b anchors.new }
-{
-    let known = anchors[f];
-    if known != UNASKED {
-        return known;
-    }
-    let record = inner[f];
-    let top = top_chip(chips, chips.len(), NodeId(record[2]));
-    let anchor = held_id(body_index, nodes.len(), top);
-    anchors[f] = anchor;
-    anchor
+// The records that ids name, with the indexes of the ids of the body nodes and of the nodes inside chips.
+#[derive(Clone, Copy)]
+struct Named<'a> {
+    nodes: &'a [Record],
+    chips: &'a [Record],
+    inner: &'a [Record],
+    body_index: &'a [IdRow],
+    inner_index: &'a [IdRow],
 }
 
-// G2: the end at a node. A body node is its own anchor, a node inside a chip has the brick of its top chip.
-fn find_end(
-    nodes: &[Record],
-    chips: &[Record],
-    inner: &[Record],
-    anchors: &mut [u32],
-    body_index: &[IdRow],
-    inner_index: &[IdRow],
-    id: NodeId,
-) -> End
-    requires indexes { Indexes nodes.now inner.now body_index.now inner_index.now }
-    requires inner_in_bounds { length inner.now ≤ length anchors.old }
-    ensures { (b : Board) → b.nodes ≡ nodes.now → b.chips ≡ chips.now → b.inner ≡ inner.now → SomeAnchors b anchors.old
-        → ((result.anchor ≡ held (anchor_of b id.0)) × (result.open ≡ is_bussable b id.0)) × SomeAnchors b anchors.new }
-{
-    let anchor = held_id(body_index, nodes.len(), id);
-    let i = anchor as usize;
-    if i < nodes.len() {
-        let node = nodes[i];
-        return End {
-            anchor,
-            open: node[3] != CLASS_INLINE,
-        };
+impl Named<'_> {
+    // G2: the anchor of the f-th node inside a chip: the brick of its top chip, which is looked for once. An anchor that was not asked for yet is None.
+    fn inner_anchor(self, anchors: &mut [Option<u32>], f: usize) -> u32
+        requires indexes { Indexes self.nodes.now self.inner.now self.body_index.now self.inner_index.now }
+        requires f_in_bounds { (f < length self.inner.now) × (length self.inner.now ≤ length anchors.old) }
+        ensures { (b : Board) → b.nodes ≡ self.entry.nodes.now → b.chips ≡ self.entry.chips.now → b.inner ≡ self.entry.inner.now → SomeAnchors b anchors.old
+            → (result ≡ held (inner_anchor b f)) × SomeAnchors b anchors.new }
+    {
+        if let Some(anchor) = anchors[f] {
+            return anchor;
+        }
+        let top = top_chip(self.chips, NodeId(self.inner[f][2]));
+        let anchor = held_id(self.body_index, self.nodes.len(), top);
+        anchors[f] = Some(anchor);
+        anchor
     }
-    let f = held_id(inner_index, inner.len(), id) as usize;
-    if f < inner.len() {
-        let record = inner[f];
-        let anchor = inner_anchor(nodes, chips, inner, body_index, anchors, f);
-        return End {
-            anchor,
-            open: record[3] != CLASS_INLINE,
-        };
-    }
-    End {
-        anchor: MISSING,
-        open: false,
+
+    // G2: the end at a node. A body node is its own anchor, a node inside a chip has the brick of its top chip.
+    fn find_end(self, anchors: &mut [Option<u32>], id: NodeId) -> End
+        requires indexes { Indexes self.nodes.now self.inner.now self.body_index.now self.inner_index.now }
+        requires inner_in_bounds { length self.inner.now ≤ length anchors.old }
+        ensures { (b : Board) → b.nodes ≡ self.entry.nodes.now → b.chips ≡ self.entry.chips.now → b.inner ≡ self.entry.inner.now → SomeAnchors b anchors.old
+            → ((result.anchor ≡ held (anchor_of b id.0)) × (result.bussable ≡ is_bussable b id.0)) × SomeAnchors b anchors.new }
+    {
+        if let Some(i) = find_id(self.body_index, self.nodes.len(), id) {
+            return End {
+                anchor: i as u32,
+                bussable: self.nodes[i][3] != CLASS_INLINE,
+            };
+        }
+        match find_id(self.inner_index, self.inner.len(), id) {
+            Some(f) => {
+                End {
+                    anchor: self.inner_anchor(anchors, f),
+                    bussable: self.inner[f][3] != CLASS_INLINE,
+                }
+            }
+            None => {
+                End {
+                    anchor: MISSING,
+                    bussable: false,
+                }
+            }
+        }
     }
 }
 
 // The tests on a wire before any on its anchors.
-fn wire_open(wire: [u32; 16], source_open: bool, target_open: bool) -> bool
-    ensures { result ≡ (not (eqb (get_or wire 2 0) 0) && not (eqb (get_or wire 4 0) 0) && not (eqb (get_or wire 1 0) (get_or wire 3 0)) && source_open && target_open) }
+fn wire_open(wire: [u32; 16], source_bussable: bool, target_bussable: bool) -> bool
+    ensures { result ≡ (not (eqb (get_or wire 2 0) 0) && not (eqb (get_or wire 4 0) 0) && not (eqb (get_or wire 1 0) (get_or wire 3 0)) && source_bussable && target_bussable) }
 {
-    if wire[2] == PORT_LAYOUT {
-        return false;
-    }
-    if wire[4] == PORT_LAYOUT {
-        return false;
-    }
-    if wire[1] == wire[3] {
-        return false;
-    }
-    if source_open { target_open } else { false }
+    wire[2] != PORT_LAYOUT
+        && wire[4] != PORT_LAYOUT
+        && wire[1] != wire[3]
+        && source_bussable
+        && target_bussable
 }
 
 // Writes the ends of every wire: both anchors, and whether it passes the tests before any on them. What is known of the nodes stays.
 fn write_ends(
-    nodes: &[Record],
-    chips: &[Record],
-    inner: &[Record],
+    named: Named<'_>,
     wires: &[Record],
-    anchors: &mut [u32],
-    body_index: &[IdRow],
-    inner_index: &[IdRow],
+    anchors: &mut [Option<u32>],
     facts: &mut [WorkRow],
 )
-    requires indexes { Indexes nodes.now inner.now body_index.now inner_index.now }
-    requires inner_in_bounds { (length inner.now ≤ length anchors.old) × (length wires.now ≤ length facts.old) }
-    ensures { (b : Board) → b.nodes ≡ nodes.now → b.chips ≡ chips.now → b.inner ≡ inner.now → b.wires ≡ wires.now → SomeAnchors b anchors.old
+    requires indexes { Indexes named.nodes.now named.inner.now named.body_index.now named.inner_index.now }
+    requires inner_in_bounds { (length named.inner.now ≤ length anchors.old) × (length wires.now ≤ length facts.old) }
+    ensures { (b : Board) → b.nodes ≡ named.entry.nodes.now → b.chips ≡ named.entry.chips.now → b.inner ≡ named.entry.inner.now → b.wires ≡ wires.now → SomeAnchors b anchors.old
         → NodeFacts b facts.old → NodeFacts b facts.new × WireFacts b facts.new }
 {
-    let mut w: usize = 0;
-    while w < wires.len() {
-        let wire = wires[w];
-        let source = find_end(
-            nodes,
-            chips,
-            inner,
-            anchors,
-            body_index,
-            inner_index,
-            NodeId(wire[1]),
-        );
-        let target = find_end(
-            nodes,
-            chips,
-            inner,
-            anchors,
-            body_index,
-            inner_index,
-            NodeId(wire[3]),
-        );
-        let open = wire_open(wire, source.open, target.open);
+    for (w, wire) in wires.iter().enumerate() {
+        let source = named.find_end(anchors, NodeId(wire[1]));
+        let target = named.find_end(anchors, NodeId(wire[3]));
+        let passes = wire_open(*wire, source.bussable, target.bussable);
         let row = facts[w];
         facts[w] = [
             row[0],
             row[1],
             source.anchor,
             target.anchor,
-            open as u32,
+            u32::from(passes),
             0,
             0,
             0,
         ];
-        w += 1;
     }
 }
 
@@ -186,15 +147,13 @@ pub fn find_ends(
     ensures { (b : Board) → b.nodes ≡ nodes.now → b.chips ≡ chips.now → b.inner ≡ inner.now → b.wires ≡ wires.now
         → NodeFacts b facts.old → NodeFacts b facts.new × WireFacts b facts.new }
 {
-    let mut anchors = [UNASKED; 4096];
-    write_ends(
+    let named = Named {
         nodes,
         chips,
         inner,
-        wires,
-        &mut anchors,
         body_index,
         inner_index,
-        facts,
-    );
+    };
+    let mut anchors = [None; 4096];
+    write_ends(named, wires, &mut anchors, facts);
 }

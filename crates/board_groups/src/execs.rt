@@ -1,17 +1,17 @@
-// The X records as keys, sorted once: whether one of them names a wire's target is asked by halves.
+// The X records as keys, sorted once: whether one of them names a wire's target is searched by halves.
 ghost use Rattle.std.specs.Prelude.{◌≡◌, ◌&&◌, ℕ, ◌≤◌, ◌<◌, eqb, length, get_or};
 ghost use Rattle.base.specs.Lists.{any, upto};
 ghost use Rattle.board.specs.Board.{field};
 ghost use Rattle.board_groups.specs.Collecting.{WORD, exec_key, ExecKeys};
 
-use base::keys::{first_not_below, raise_keys};
+use base::keys::raise_keys;
 use base::rows::Record;
 
 // A node and a port in one key.
 fn exec_key(node: u32, port: u32) -> u64
     ensures { result ≡ exec_key node port }
 {
-    node as u64 * 4_294_967_296 + port as u64
+    u64::from(node) * 4_294_967_296 + u64::from(port)
 }
 
 // The key of an X record. Its port is less than a word, so that the key names no other node and port.
@@ -26,10 +26,8 @@ fn fill_keys(execs: &[Record], keys: &mut [u64])
     requires { length execs.now ≤ length keys.old }
     ensures { (e : ℕ) → e < length execs.now → (get_or keys.new e 0 ≡ exec_key (field execs.now e 1) (field execs.now e 2)) × (field execs.now e 2 < WORD) }
 {
-    let mut e: usize = 0;
-    while e < execs.len() {
-        keys[e] = key_of(execs[e]);
-        e += 1;
+    for (e, exec) in execs.iter().enumerate() {
+        keys[e] = key_of(*exec);
     }
 }
 
@@ -47,11 +45,7 @@ pub fn targets_exec(execs: &[Record], keys: &[u64], node: u32, port: u32) -> boo
     requires { ExecKeys execs.now keys.now }
     ensures { result ≡ any (λ e. eqb (field execs.now e 1) node && eqb (field execs.now e 2) port) (upto (length execs.now)) }
 {
-    let n = execs.len();
-    let key = exec_key(node, port);
-    let p = first_not_below(keys, n, key);
-    if n <= p {
-        return false;
-    }
-    keys[p] == key
+    keys[..execs.len()]
+        .binary_search(&exec_key(node, port))
+        .is_ok()
 }

@@ -15,6 +15,7 @@ use crate::shares::share_groups;
 use base::numbers::{KIND_CHIP, MISSING};
 use base::rows::{IdRow, Record, WorkRow};
 
+// Stays (C interface): kinds and classes are numbers in the rows that are lent.
 const KIND_INPUT: u32 = 3;
 
 const KIND_COERCE: u32 = 5;
@@ -25,23 +26,14 @@ const CLASS_STORAGE: u32 = 1;
 pub fn is_bus_worthy_source(node: [u32; 16]) -> bool
     ensures { result ≡ (eqb (get_or node 2 0) kind_input || eqb (get_or node 4 0) 1 || eqb (get_or node 3 0) class_storage) }
 {
-    if node[2] == KIND_INPUT {
-        return true;
-    }
-    if node[4] == 1 {
-        return true;
-    }
-    node[3] == CLASS_STORAGE
+    node[2] == KIND_INPUT || node[4] == 1 || node[3] == CLASS_STORAGE
 }
 
 // Whether a wire at the id crosses a chip's wall at this anchor: `into_chip` of a target, `out_of_chip` of a source.
 pub fn crosses_at(anchor: [u32; 16], id: u32) -> bool
     ensures { result ≡ (not (eqb (get_or anchor 1 0) id) || eqb (get_or anchor 2 0) kind_chip) }
 {
-    if anchor[1] != id {
-        return true;
-    }
-    anchor[2] == KIND_CHIP
+    anchor[1] != id || anchor[2] == KIND_CHIP
 }
 
 // The tests on a wire's anchors.
@@ -61,32 +53,17 @@ fn anchors_open(
         && not (eqb (get_or source 2 0) kind_coerce)
         && given (get_or target 10 0)) }
 {
-    if source[3] == CLASS_INLINE {
-        return false;
-    }
-    if target[3] == CLASS_INLINE {
-        return false;
-    }
-    if source[2] == KIND_COERCE {
-        return false;
-    }
-    if target[10] == MISSING {
-        return false;
-    }
-    if crosses_at(target, wire[3]) {
-        return true;
-    }
-    if is_bus_worthy_source(source) {
-        return true;
-    }
-    if targets_exec(execs, keys, wire[3], wire[4]) {
-        false
-    } else {
-        true
-    }
+    source[3] != CLASS_INLINE
+        && target[3] != CLASS_INLINE
+        && source[2] != KIND_COERCE
+        && target[10] != MISSING
+        && (crosses_at(target, wire[3])
+            || is_bus_worthy_source(source)
+            || !targets_exec(execs, keys, wire[3], wire[4]))
 }
 
-// The target anchor of a wire that is not passed over, or MISSING.
+// The target anchor of a wire that is not passed over.
+// Stays (C interface): it goes into a lent row of numbers, MISSING for none.
 fn tap_target(
     nodes: &[Record],
     execs: &[Record],
@@ -103,15 +80,13 @@ fn tap_target(
     if facts[4] == 0 {
         return MISSING;
     }
-    let s = facts[2] as usize;
-    if nodes.len() <= s {
+    let Some(source) = nodes.get(facts[2] as usize) else {
         return MISSING;
-    }
-    let t = facts[3] as usize;
-    if nodes.len() <= t {
+    };
+    let Some(target) = nodes.get(facts[3] as usize) else {
         return MISSING;
-    }
-    if anchors_open(execs, keys, nodes[s], nodes[t], wire) {
+    };
+    if anchors_open(execs, keys, *source, *target, wire) {
         facts[3]
     } else {
         MISSING
@@ -131,12 +106,10 @@ fn mark_wires(
         → NodeFacts b facts.old → WireFacts b facts.old
         → NodeFacts b facts.new × WireFacts b facts.new × TapTargets b facts.new }
 {
-    let mut w: usize = 0;
-    while w < wires.len() {
+    for (w, wire) in wires.iter().enumerate() {
         let row = facts[w];
-        let target = tap_target(nodes, execs, keys, wires[w], row);
+        let target = tap_target(nodes, execs, keys, *wire, row);
         facts[w] = [row[0], row[1], row[2], row[3], row[4], target, 0, 0];
-        w += 1;
     }
 }
 
@@ -168,13 +141,11 @@ fn add_tap(
     ensures appended { (b : Board) (ts : List Tap) → b.nodes ≡ nodes.now → b.wires ≡ wires.now → NodeFacts b facts.now → target ≡ held (tap_target b w)
         → Appended b taps.old m ts → Appended b taps.new result (add_wire b ts w) }
 {
-    let t = target as usize;
-    if nodes.len() <= t {
+    let Some(node) = nodes.get(target as usize) else {
         return m;
-    }
-    let node = nodes[t];
+    };
     let wire = wires[w];
-    let row = facts[t][0];
+    let row = facts[target as usize][0];
     taps[m] = [
         node[10], w as u32, row, node[9], node[8], wire[3], wire[4], w as u32,
     ];
@@ -188,12 +159,10 @@ fn append_all(nodes: &[Record], wires: &[Record], facts: &[WorkRow], taps: &mut 
     ensures appended { (b : Board) → b.nodes ≡ nodes.now → b.wires ≡ wires.now → NodeFacts b facts.now → TapTargets b facts.now
         → Appended b taps.new result (taps_of b) }
 {
-    let mut m: usize = 0;
-    let mut w: usize = 0;
-    while w < wires.len() {
-        let fact = facts[w];
-        m = add_tap(nodes, wires, facts, taps, m, w, fact[5]);
-        w += 1;
+    // Stays (no heap): the lent rows are filled from the front, and counted.
+    let mut m = 0;
+    for w in 0..wires.len() {
+        m = add_tap(nodes, wires, facts, taps, m, w, facts[w][5]);
     }
     m
 }
@@ -206,7 +175,7 @@ fn append_taps(nodes: &[Record], wires: &[Record], facts: &[WorkRow], taps: &mut
         → view tap_in taps.new result ≡ taps_of b }
 {
     let m = append_all(nodes, wires, facts, taps);
-    share_groups(wires, taps, m);
+    share_groups(wires, &mut taps[..m]);
     m
 }
 

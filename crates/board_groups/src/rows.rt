@@ -16,13 +16,11 @@ const END_MOST: u32 = 4_000_000;
 fn half_along(rotation: u32, half_x: u32, half_y: u32) -> u32
     ensures { result ≡ elim (eqb rotation 1 || eqb rotation 3) [ true ↦ half_y | false ↦ half_x ] }
 {
-    if rotation == 1 {
-        return half_y;
+    if rotation == 1 || rotation == 3 {
+        half_y
+    } else {
+        half_x
     }
-    if rotation == 3 {
-        return half_y;
-    }
-    half_x
 }
 
 // The row by which a node is sorted. A node without a row comes behind all others.
@@ -46,10 +44,8 @@ fn fill_keys(nodes: &[Record], keys: &mut [WorkRow])
     requires accepted_nodes { AcceptedNodes nodes.now }
     ensures { (i : ℕ) → i < length nodes.now → get_or keys.new i [] ≡ row_key (nodes_alone nodes.now) i }
 {
-    let mut i: usize = 0;
-    while i < nodes.len() {
+    for i in 0..nodes.len() {
         keys[i] = row_key(nodes, i);
-        i += 1;
     }
 }
 
@@ -69,22 +65,22 @@ fn run_after(run: Run, key: [u32; 8]) -> Run
     ensures row_bound { result.row ≤ run.row + 1 }
 {
     if key[0] != run.page {
-        return Run {
+        Run {
             page: key[0],
             down: key[1],
             row: 0,
             top: key[4],
-        };
-    }
-    if key[1] != run.down {
-        return Run {
+        }
+    } else if key[1] != run.down {
+        Run {
             page: key[0],
             down: key[1],
             row: run.row + 1,
             top: key[4],
-        };
+        }
+    } else {
+        run
     }
-    run
 }
 
 // Walks the sorted keys and gives each node its row's number and top.
@@ -99,13 +95,9 @@ fn assign_rows(keys: &[WorkRow], facts: &mut [WorkRow])
         row: 0,
         top: 0,
     };
-    let mut k: usize = 0;
-    while k < keys.len() {
-        let key = keys[k];
-        run = run_after(run, key);
-        let i = key[3] as usize;
-        facts[i] = [run.row, run.top, 0, 0, 0, 0, 0, 0];
-        k += 1;
+    for key in keys {
+        run = run_after(run, *key);
+        facts[key[3] as usize] = [run.row, run.top, 0, 0, 0, 0, 0, 0];
     }
 }
 

@@ -1,7 +1,7 @@
 // Which taps share a group: their keys are packed and sorted, and along them each tap takes the group of the one before, if that has the same key.
-ghost use Rattle.std.specs.Prelude.{◌≡◌, [], ◌∷◌, ℕ, ◌+◌, ◌*◌, ◌-◌, ◌≤◌, ◌<◌, ◌&&◌, eqb, length, get_or, set};
+ghost use Rattle.std.specs.Prelude.{◌≡◌, [], ◌∷◌, ℕ, ◌+◌, ◌*◌, ◌-◌, ◌≤◌, ◌<◌, ◌&&◌, eqb, length, get_or};
 ghost use Rattle.board.specs.Board.{field};
-ghost use Rattle.board_groups.specs.Shares.{Wired, key_of, same_key, packed, tap_at, starts_run, LeadsIn, Runs, grouped, Shared};
+ghost use Rattle.board_groups.specs.Shares.{Wired, key_of, same_key, packed, tap_at, starts_run, LeadsIn, Runs, Shared};
 
 use base::keys::raise_keys;
 use base::rows::{Record, WorkRow};
@@ -9,40 +9,44 @@ use base::rows::{Record, WorkRow};
 // A tap's number stands behind its packed key.
 const NUMBERS: u64 = 8192;
 
+// What taps of one group have in common: the page, and the source node and port of their wires.
+#[derive(Clone, Copy, PartialEq, Eq)]
+struct Key {
+    page: u32,
+    node: u32,
+    port: u32,
+}
+
+fn key_of(wires: &[Record], taps: &[WorkRow], k: usize) -> Key
+    requires { (k < length taps.now) × (field taps.now k 7 < length wires.now) }
+    ensures { result.page ∷ result.node ∷ result.port ∷ [] ≡ key_of wires.now taps.now k }
+{
+    let tap = taps[k];
+    let wire = wires[tap[7] as usize];
+    Key {
+        page: tap[0],
+        node: wire[1],
+        port: wire[2],
+    }
+}
+
 // The key of tap k in one number: the source node in 20 bits, its port in 16, the page in 6, then the tap's number.
-fn pack_key(page: u32, node: u32, port: u32, k: usize) -> u64
+fn pack_key(key: Key, k: usize) -> u64
     requires { k < 8192 }
-    ensures { result ≡ packed (page ∷ node ∷ port ∷ []) * 8192 + k }
+    ensures { result ≡ packed (key.page ∷ key.node ∷ key.port ∷ []) * 8192 + k }
 {
-    let source = (node % 1_048_576) as u64 * 65_536 + (port % 65_536) as u64;
-    (source * 64 + (page % 64) as u64) * NUMBERS + k as u64
+    let source = u64::from(key.node % 1_048_576) * 65_536 + u64::from(key.port % 65_536);
+    (source * 64 + u64::from(key.page % 64)) * NUMBERS + k as u64
 }
 
-// The keys of the first m taps, in order.
-fn fill_keys(wires: &[Record], taps: &[WorkRow], m: usize, keys: &mut [u64])
-    requires { (m ≤ length taps.now) × (m ≤ length keys.old) × (m ≤ 8192) × Wired wires.now taps.now m }
-    ensures { (k : ℕ) → k < m → get_or keys.new k 0 ≡ packed (key_of wires.now taps.now k) * 8192 + k }
+// The keys of the taps, in order.
+fn fill_keys(wires: &[Record], taps: &[WorkRow], keys: &mut [u64])
+    requires { (length taps.now ≤ length keys.old) × (length taps.now ≤ 8192) × Wired wires.now taps.now (length taps.now) }
+    ensures { (k : ℕ) → k < length taps.now → get_or keys.new k 0 ≡ packed (key_of wires.now taps.now k) * 8192 + k }
 {
-    let mut k: usize = 0;
-    while k < m {
-        let tap = taps[k];
-        let wire = wires[tap[7] as usize];
-        keys[k] = pack_key(tap[0], wire[1], wire[2], k);
-        k += 1;
+    for k in 0..taps.len() {
+        keys[k] = pack_key(key_of(wires, taps, k), k);
     }
-}
-
-// Whether two taps are of one page, and their wires of one source node and port.
-fn same_key(a: [u32; 8], b: [u32; 8], from: [u32; 16], other: [u32; 16]) -> bool
-    ensures { result ≡ (eqb (get_or a 0 0) (get_or b 0 0) && eqb (get_or from 1 0) (get_or other 1 0) && eqb (get_or from 2 0) (get_or other 2 0)) }
-{
-    if a[0] != b[0] {
-        return false;
-    }
-    if from[1] != other[1] {
-        return false;
-    }
-    from[2] == other[2]
 }
 
 // Whether taps j and k have the same key.
@@ -50,9 +54,7 @@ fn have_one_key(wires: &[Record], taps: &[WorkRow], j: usize, k: usize) -> bool
     requires { (j < length taps.now) × (k < length taps.now) × (field taps.now j 7 < length wires.now) × (field taps.now k 7 < length wires.now) }
     ensures { result ≡ same_key wires.now taps.now j k }
 {
-    let a = taps[j];
-    let b = taps[k];
-    same_key(a, b, wires[a[7] as usize], wires[b[7] as usize])
+    key_of(wires, taps, j) == key_of(wires, taps, k)
 }
 
 // The wire of the first tap with the key of tap k.
@@ -60,12 +62,10 @@ fn first_wire(wires: &[Record], taps: &[WorkRow], k: usize) -> u32
     requires { (k < length taps.now) × Wired wires.now taps.now (k + 1) }
     ensures { LeadsIn wires.now taps.now k result }
 {
-    let mut j: usize = 0;
-    while j < k {
+    for j in 0..k {
         if have_one_key(wires, taps, j, k) {
             return taps[j][7];
         }
-        j += 1;
     }
     taps[k][7]
 }
@@ -83,10 +83,7 @@ fn starts_run(keys: &[u64], p: usize) -> bool
     requires { p < length keys.now }
     ensures { result ≡ starts_run keys.now p }
 {
-    if p == 0 {
-        return true;
-    }
-    keys[p - 1] / NUMBERS != keys[p] / NUMBERS
+    p == 0 || keys[p - 1] / NUMBERS != keys[p] / NUMBERS
 }
 
 // The group of the tap that comes p-th, where the one before it has its own. Keys that are packed alike and differ all the same have
@@ -107,35 +104,25 @@ fn group_at(wires: &[Record], taps: &[WorkRow], keys: &[u64], p: usize) -> u32
     first_wire(wires, taps, k)
 }
 
-fn set_group(taps: &mut [WorkRow], k: usize, group: u32)
-    requires { k < length taps.old }
-    ensures { taps.new ≡ set taps.old k (grouped (get_or taps.old k []) group) }
+// Gives the taps their groups, along their sorted keys.
+fn share_along(wires: &[Record], taps: &mut [WorkRow], keys: &[u64])
+    requires { Runs wires.now taps.old keys.now (length taps.old) }
+    ensures { Shared wires.now taps.old taps.new (length taps.old) }
 {
-    let r = taps[k];
-    taps[k] = [r[0], group, r[2], r[3], r[4], r[5], r[6], r[7]];
-}
-
-// Gives the first m taps their groups, along their sorted keys.
-fn share_along(wires: &[Record], taps: &mut [WorkRow], keys: &[u64], m: usize)
-    requires { Runs wires.now taps.old keys.now m }
-    ensures { Shared wires.now taps.old taps.new m }
-{
-    let mut p: usize = 0;
-    while p < m {
+    for p in 0..taps.len() {
         let group = group_at(wires, taps, keys, p);
-        set_group(taps, tap_at(keys, p), group);
-        p += 1;
+        taps[tap_at(keys, p)][1] = group;
     }
 }
 
-// Gives the first m taps their groups: the wire of the first tap with the same key.
-pub fn share_groups(wires: &[Record], taps: &mut [WorkRow], m: usize)
-    requires { (m ≤ length taps.old) × (m ≤ 8192) × Wired wires.now taps.old m }
-    ensures { Shared wires.now taps.old taps.new m }
+// Gives the taps their groups: the wire of the first tap with the same key.
+pub fn share_groups(wires: &[Record], taps: &mut [WorkRow])
+    requires { (length taps.old ≤ 8192) × Wired wires.now taps.old (length taps.old) }
+    ensures { Shared wires.now taps.old taps.new (length taps.old) }
 {
     let mut keys = [0u64; 8192];
     let mut spare = [0u64; 8192];
-    fill_keys(wires, taps, m, &mut keys);
-    raise_keys(&mut keys, m, &mut spare);
-    share_along(wires, taps, &keys, m);
+    fill_keys(wires, taps, &mut keys);
+    raise_keys(&mut keys, taps.len(), &mut spare);
+    share_along(wires, taps, &keys);
 }

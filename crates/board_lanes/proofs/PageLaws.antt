@@ -11,17 +11,17 @@ use mathlib.Core.List.Memᴰ.{not-nil as nowhere}
 use mathlib.Core.List.Memᴰ.{tail as there}
 use mathlib.Core.List.{List, [], ◌∷◌, ◌++◌, map, reverse, reverse_aux, reverse-cons, map-append, Memᴰ as Mem}
 use lib.Dec.{eqb, ltb}
-use lib.ListN.{length, get_or, set, take, drop, length-append, length-drop}
+use lib.ListN.{length, get_or, set, take, drop}
 use lib.Seq.{get_or-set_same, get_or-set_other, take-suc, drop-cons, take_at, length-take-le}
-use borrow.Author.Tests.{eq-eqb, ne_eqb, eqb-true, eqb-false, lt-ltb, le-ltb, ltb-true, ltb-false}
+use borrow.Author.Tests.{eq-eqb, ne_eqb, eqb-true, eqb-false, lt-ltb, le-ltb}
 use Rattle.sheet.specs.Table.{MISSING}
 use Rattle.lanes.specs.Lanes.{Demand, no_demand, Packed, full, laned, packed, lane_most}
 use Rattle.lanes.specs.Apart.{Rising}
-use Rattle.lanes.specs.declared.pack.Packing.{Packing}
-use Rattle.lanes.specs.declared.pack.Packing.TheVariants.{Lanes, Full}
+use Rattle.std.specs.Prelude.{Result, Ok, Err}
+use Rattle.lanes.specs.declared.pack.LanesFull.{LanesFull}
 use Rattle.lanes.specs.LaneCall.{faulty, Sound}
 use Rattle.lanes.specs.Keys.{demand_of, lane_column, with_lane, each_with, rows_after, result_of, PackedRows}
-use Rattle.base.proofs.Bools.{never, clash, or_left, or_right, pick_true, pick_false}
+use Rattle.base.proofs.Bools.{never, clash, pick_true, pick_false}
 use Rattle.lanes.proofs.Promise.{lanes_apart}
 use Rattle.base.specs.Lists.{Found, none, at, keep, upto}
 use Rattle.board.specs.Board.{Board, field, source_node, target_node, kind_chip, kind_input, class_storage}
@@ -30,7 +30,7 @@ use Rattle.board.specs.Demands.{lane_in, first_row, last_row, needs_lane}
 use Rattle.base.specs.Views.{view}
 use Rattle.board.specs.Tables.{held, flag, tap_in, tap_target}
 use Rattle.board_groups.specs.Collecting.{relaned, head_page, Packable}
-use Rattle.board_lanes.specs.PagePlan.{group_demand, order_column, asking, NoneAsks, AddedDemand, PageDemands, PagePacked}
+use Rattle.board_lanes.specs.PagePlan.{group_demand, order_column, asking, NoneAsks, PageDemands, PagePacked}
 use Rattle.base.proofs.Members.{at_mem, keep_from, map_in, map_from, upto_below}
 use Rattle.board_groups.proofs.TapLaws.{view_more}
 use Rattle.board_lanes.proofs.GroupLaws.{source_held, target_held, source_below, target_below}
@@ -237,76 +237,24 @@ module _ (b : Board) (w t : ℕ) (nodes : List (List ℕ)) (is : b.nodes ≡ nod
     crosses_into y enters h =
         enters ∙ at_target ∙ ap (λ (z : Bool). z || crosses_at b (target_anchor b w) (target_node b w)) (sym h ∙ leaves ∙ at_source)
 
--- One tap's demand, or none.
-module _ (groups : List (List ℕ)) (tap : List ℕ) (mark p : ℕ) (before : List (List ℕ)) (n : ℕ) where
-  pub demand_none : (mark ≡ p → ⊥) → AddedDemand groups tap mark p before n before n
-  demand_none h =
-      record {
-        count = omega arith;
-        rows = sym (pick_false (eqb mark p) (group_demand groups (get_or tap 1 0) ∷ view demand_of before n) (view demand_of before n) (ne_eqb mark p h));
-        orders = sym (pick_false (eqb mark p) (get_or tap 1 0 ∷ view order_column before n) (view order_column before n) (ne_eqb mark p h));
-      }
-
-  pub demand_more : (row : List ℕ) → n < length before → mark ≡ p
-      → row ≡ field groups (get_or tap 1 0) 0 ∷ field groups (get_or tap 1 0) 1 ∷ field groups (get_or tap 1 0) 2 ∷ get_or tap 1 0 ∷ 0 ∷ 0 ∷ 0 ∷ 0 ∷ []
-      → AddedDemand groups tap mark p before n (set before n row) (n + 1)
-  unfolding demand_of
-  demand_more row room h e =
-      record {
-        count = omega arith;
-        rows =
-            view_more demand_of before row n room ∙ ap (λ (r : List ℕ). demand_of r ∷ view demand_of before n) e
-            ∙ sym (pick_true (eqb mark p) (group_demand groups (get_or tap 1 0) ∷ view demand_of before n) (view demand_of before n) (eq-eqb mark p h));
-        orders =
-            view_more order_column before row n room ∙ ap (λ (r : List ℕ). order_column r ∷ view order_column before n) e
-            ∙ sym (pick_true (eqb mark p) (get_or tap 1 0 ∷ view order_column before n) (view order_column before n) (eq-eqb mark p h));
-      }
-
--- One more tap looked at.
-pub demands_more : (taps groups : List (List ℕ)) (marks : List ℕ) (p k n r : ℕ) (before after : List (List ℕ)) → PageDemands taps marks k groups p before n
-    → AddedDemand groups (get_or taps k []) (get_or marks k 0) p before n after r → PageDemands taps marks (k + 1) groups p after r
-demands_more taps groups marks p k n r before after old new =
-    rw (add-one k) (record { rows = new.rows ∙ one (eqb (get_or marks k 0) p); orders = new.orders ∙ other (eqb (get_or marks k 0) p) })
+-- One more tap's demand.
+pub demands_more : (taps groups : List (List ℕ)) (marks : List ℕ) (p k n : ℕ) (before : List (List ℕ)) (row : List ℕ) → PageDemands taps marks k groups p before n → n < length before → get_or marks k 0 ≡ p
+    → row ≡ field groups (field taps k 1) 0 ∷ field groups (field taps k 1) 1 ∷ field groups (field taps k 1) 2 ∷ field taps k 1 ∷ 0 ∷ 0 ∷ 0 ∷ 0 ∷ []
+    → PageDemands taps marks (k + 1) groups p (set before n row) (n + 1)
+unfolding demand_of
+demands_more taps groups marks p k n before row old room asks e =
+    rw (add-one k)
+    (record {
+      rows =
+          view_more demand_of before row n room ∙ ap (λ (r : List ℕ). demand_of r ∷ view demand_of before n) e
+          ∙ ap (λ (l : List Demand). group_demand groups (field taps k 1) ∷ l) old.rows ∙ ap (map (group_demand groups)) (sym one);
+      orders =
+          view_more order_column before row n room ∙ ap (λ (r : List ℕ). order_column r ∷ view order_column before n) e
+          ∙ ap (λ (l : List ℕ). field taps k 1 ∷ l) old.orders ∙ sym one;
+    })
   where
-    rest : List ℕ
-    rest = keep (λ j. eqb (get_or marks j 0) p) (upto k)
-
-    one : (s : Bool) → ◌≡◌ {A = List Demand} (elim s [ true ↦ group_demand groups (field taps k 1) ∷ view demand_of before n | false ↦ view demand_of before n ])
-        (map (group_demand groups) (map (λ j. field taps j 1) (elim s [ true ↦ k ∷ rest | false ↦ rest ])))
-    one true = ap (λ (l : List Demand). group_demand groups (field taps k 1) ∷ l) old.rows
-    one false = old.rows
-
-    other : (s : Bool) → ◌≡◌ {A = List ℕ} (elim s [ true ↦ field taps k 1 ∷ view order_column before n | false ↦ view order_column before n ]) (map (λ j. field taps j 1) (elim s [ true ↦ k ∷ rest | false ↦ rest ]))
-    other true = ap (λ (l : List ℕ). field taps k 1 ∷ l) old.orders
-    other false = old.orders
-
--- One more mark is not that of the page.
-pub none_more : (marks : List ℕ) (p j i : ℕ) (hit : Bool) → (hit ≡ false → NoneAsks marks p j (j + i)) → (hit || eqb (get_or marks (j + i) 0) p) ≡ false → NoneAsks marks p j (j + (i + 1))
-none_more marks p j i hit h e k a b = go (eqb k (j + i)) refl
-  where
-    go : (t : Bool) → eqb k (j + i) ≡ t → get_or marks k 0 ≡ p → ⊥
-    go true q = let z : k ≡ j + i = eqb-true k (j + i) q in λ is. eqb-false (get_or marks (j + i) 0) p (or_right hit (eqb (get_or marks (j + i) 0) p) e) (ap (λ (x : ℕ). get_or marks x 0) (sym z) ∙ is)
-    go false q = let other = eqb-false k (j + i) q in h (or_left hit (eqb (get_or marks (j + i) 0) p) e) k a (omega (arith, b, other))
-
-pub none_done : (marks : List ℕ) (p j i : ℕ) (hit : Bool) → (hit ≡ false → NoneAsks marks p j (j + i)) → i ≡ 8 → not hit ≡ true → NoneAsks marks p j (j + 8)
-none_done marks p j i true h z e = clash e refl
-none_done marks p j i false h z e = λ k a b. h refl k a (omega (arith, b, z))
-
-pub none_joined : (marks : List ℕ) (p a b c : ℕ) → NoneAsks marks p a b → NoneAsks marks p b c → NoneAsks marks p a c
-none_joined marks p a b c f g j l h = go (ltb j b) refl
-  where
-    go : (t : Bool) → ltb j b ≡ t → get_or marks j 0 ≡ p → ⊥
-    go true q = f j l (ltb-true j b q)
-    go false q = g j (ltb-false j b q) h
-
-pub none_here : {C : Type 0} → false ≡ true → C
-none_here e = clash e refl
-
-pub other_here : (marks : List ℕ) (p j m : ℕ) → j < m → not (eqb (get_or marks j 0) p) ≡ true → (j < m) × (get_or marks j 0 ≡ p → ⊥)
-other_here marks p j m h e = (h, λ is. clash e (ap not (eq-eqb (get_or marks j 0) p is)))
-
-pub none_one : (marks : List ℕ) (p j : ℕ) → (get_or marks j 0 ≡ p → ⊥) → NoneAsks marks p j (j + 1)
-none_one marks p j f k a b = let z : k ≡ j = omega (arith, a, b) in λ is. f (ap (λ (x : ℕ). get_or marks x 0) (sym z) ∙ is)
+    one : asking taps marks p (suc k) ≡ field taps k 1 ∷ asking taps marks p k
+    one = ap (map (λ j. field taps j 1)) (pick_true (eqb (get_or marks k 0) p) _ _ (eq-eqb (get_or marks k 0) p asks))
 
 -- Taps that do not ask are passed over.
 pub demands_past : (taps groups : List (List ℕ)) (marks : List ℕ) (p k n : ℕ) (demands : List (List ℕ)) → PageDemands taps marks k groups p demands n
@@ -342,15 +290,12 @@ module _ (taps groups : List (List ℕ)) (marks : List ℕ) (m p : ℕ) (packabl
   pub rows_sound : Sound (map demand_of (take n demands))
   rows_sound = page_sound taps groups marks m p packable (take n demands) rows_are
 
-  module _ (left : List (List ℕ)) (r : Packing) (packs : PackedRows (take n demands) left r) (kept : length left ≡ length (take n demands)) where
+  module _ (left : List (List ℕ)) (r : Result ℕ LanesFull) (packs : PackedRows (take n demands) left r) (kept : length left ≡ length (take n demands)) where
     pub left_lent : take n (left ++ drop n demands) ≡ left
     left_lent = take_at left (drop n demands) n (kept ∙ length-take-le n demands room)
 
     pub left_length : length (take n (left ++ drop n demands)) ≡ n
     left_length = ap length left_lent ∙ kept ∙ length-take-le n demands room
-
-    pub whole_length : length (left ++ drop n demands) ≡ length demands
-    whole_length = length-append left (drop n demands) ∙ (let a = kept in let b = length-take-le n demands room in let c = length-drop n demands in omega arith)
 
     orders_are : map order_column left ≡ reverse (asking taps marks p m)
     orders_are = ap (map order_column) packs.after ∙ orders_kept (packed (map demand_of (take n demands))) (take n demands) ∙ front_view order_column demands n room ∙ ap reverse asked.orders
@@ -360,15 +305,15 @@ module _ (taps groups : List (List ℕ)) (marks : List ℕ) (m p : ℕ) (packabl
         subst (λ (l : List (List ℕ)). j < length l → field l j 3 < length groups) (sym left_lent)
         (λ k. page_group taps groups marks m p packable (field left j 3) (subst (Mem (field left j 3)) orders_are (map_in order_column left (at_mem [] left j k)))) h
 
-    pub page_full : (i : ℕ) → r ≡ Full i → packed (map (group_demand groups) (reverse (asking taps marks p m))) ≡ full i
-    page_full i e = ap packed (sym rows_are) ∙ packs.result ∙ ap (λ (q : Packing). result_of q (map lane_column left)) e
+    pub page_full : (crowd : LanesFull) → r ≡ Err crowd → packed (map (group_demand groups) (reverse (asking taps marks p m))) ≡ full crowd.index
+    page_full crowd e = ap packed (sym rows_are) ∙ packs.result ∙ ap (λ (q : Result ℕ LanesFull). result_of q (map lane_column left)) e
 
-    pub page_laned : (count : ℕ) (after : List (List ℕ)) → r ≡ Lanes count
+    pub page_laned : (count : ℕ) (after : List (List ℕ)) → r ≡ Ok count
         → ((g : ℕ) → g < length groups → get_or after g [] ≡ relaned (lane_in (map order_column (take n (left ++ drop n demands))) (map lane_column (take n (left ++ drop n demands))) g) (get_or groups g []))
-        → PagePacked taps marks m p groups after (Lanes count)
+        → PagePacked taps marks m p groups after (Ok count)
     page_laned count after e placed = (
       map lane_column left,
-      ap packed (sym rows_are) ∙ packs.result ∙ ap (λ (q : Packing). result_of q (map lane_column left)) e,
+      ap packed (sym rows_are) ∙ packs.result ∙ ap (λ (q : Result ℕ LanesFull). result_of q (map lane_column left)) e,
       λ g h. placed g h ∙ (λ z. relaned (lane_in (map order_column (left_lent z)) (map lane_column (left_lent z)) g) (get_or groups g [])) ∙ (λ z. relaned (lane_in (orders_are z) (map lane_column left) g) (get_or groups g [])),
     )
 
@@ -380,9 +325,9 @@ module _ (taps groups : List (List ℕ)) (marks : List ℕ) (m p : ℕ) (packabl
       let k = asker taps marks p m (reverse_from (asking taps marks p m) r.1) in
       subst (λ (d : Demand). d.first ≤ d.last) (sym r.2) (subst (λ (g : ℕ). field groups g 0 ≤ field groups g 1) (sym k.2) (packable.first k.0 k.1))
 
-  pub page_few : (after : List (List ℕ)) (r : Packing) → PagePacked taps marks m p groups after r → (count : ℕ) → r ≡ Lanes count → count ≤ lane_most
-  page_few after (Lanes k) packs count e =
+  pub page_few : (after : List (List ℕ)) (r : Result ℕ LanesFull) → PagePacked taps marks m p groups after r → (count : ℕ) → r ≡ Ok count → count ≤ lane_most
+  page_few after (Ok k) packs count e =
       let same : k ≡ count = cc in
       let most = (lanes_apart (map (group_demand groups) (reverse (asking taps marks p m))) page_rising packs.0 k packs.1).most in
       omega arith
-  page_few after (Full i) packs count e = never cc
+  page_few after (Err crowd) packs count e = never cc

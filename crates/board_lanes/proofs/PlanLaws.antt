@@ -10,23 +10,25 @@ use mathlib.Core.List.Memᴰ.{not-nil as nowhere}
 use mathlib.Core.List.Memᴰ.{tail as there}
 use mathlib.Core.List.{List, [], ◌∷◌, ◌++◌, map, reverse, Memᴰ as Mem}
 use lib.Dec.{eqb}
-use lib.ListN.{length, get_or, set, length-append, get_or-append, get_or-eq_default}
-use lib.Seq.{get_or_at}
+use lib.ListN.{length, get_or, set, take, length-append, get_or-append, get_or-eq_default}
+use lib.Seq.{get_or_at, length-take-le, take-length}
 use borrow.Author.Tests.{eqb-true}
 use Rattle.sheet.specs.Table.{MISSING}
 use Rattle.base.specs.Sort.{sorted}
 use Rattle.lanes.specs.Lanes.{full, laned, packed, pack_in, ranked, entries}
-use Rattle.lanes.specs.declared.pack.Packing.TheVariants.{Lanes, Full}
+use Rattle.std.specs.Prelude.{Ok, Err}
+use Rattle.lanes.specs.declared.pack.LanesFull.{LanesFull}
 use Rattle.base.proofs.Bools.{never, clash}
 use Rattle.base.specs.Lists.{Found, none, at, keep}
 use Rattle.board.specs.Board.{Board, field, given, has_gutter, min_y_of, page_of}
 use Rattle.board.specs.Groups.{Tap, taps_of}
 use Rattle.board.specs.Demands.{PageLanes, crowded, planned, no_lanes, lane_in, lane_of, needs_lane, demand_of, groups_on, packed_on, plan_upto, plan_lanes}
 use Rattle.board.specs.Tables.{held, tap_in, tap_target, group_row, NodeFacts, WireFacts, GroupFacts, PageFacts}
+use Rattle.base.specs.Views.{view}
 use Rattle.board_groups.specs.Collecting.{relaned, GroupSums, Packable}
 use Rattle.board_lanes.specs.PagePlan.{group_demand, asking, GutterPacked, Surveyed, Collected}
 use Rattle.base.proofs.Members.{keep_from, map_from}
-use Rattle.base.proofs.Views.{view_mem, length-view}
+use Rattle.base.proofs.Views.{view-take, view_mem, length-view}
 use Rattle.board_groups.proofs.Facts.{column_kept, column_more, same_nodes, same_wires_lem}
 use Rattle.board_lanes.proofs.GroupLaws.{Known, known, known_row, row_first, row_last, row_consumers, first_last, last_most, length_group}
 use Rattle.board_lanes.proofs.PageLaws.{asking_is, asker, map_same, reverse_from}
@@ -190,7 +192,7 @@ module _ (b : Board) where
     asked_packed h =
         ap packed (map_same (group_demand before) (demand_of b (taps_of b)) (reverse (asking taps marks p m)) same_demand ∙ ap (map (demand_of b (taps_of b))) (asked_groups h))
 
-    pub lanes_of_page : (after : List (List ℕ)) (count : ℕ) → GutterPacked (min_y_of b p) taps marks m p before after (Lanes count)
+    pub lanes_of_page : (after : List (List ℕ)) (count : ℕ) → GutterPacked (min_y_of b p) taps marks m p before after (Ok count)
         → (ls : List ℕ) × (packed_on b (taps_of b) p ≡ laned ls count)
         × ((g : ℕ) → g < length before → get_or after g [] ≡ relaned (lane_in (groups_on b (taps_of b) p) ls g) (get_or before g []))
     unfolding packed_on packed ranked entries sorted pack_in
@@ -210,13 +212,13 @@ module _ (b : Board) where
             let w = packs.within h in
             (w.0, sym (asked_packed h) ∙ w.1, λ g l. w.2 g l ∙ (λ z. relaned (lane_in (asked_groups h z) w.0 g) (get_or before g [])))
 
-    pub crowded_page : (after : List (List ℕ)) (i : ℕ) → GutterPacked (min_y_of b p) taps marks m p before after (Full i) → plan_upto b (taps_of b) (suc p) ≡ crowded p
+    pub crowded_page : (after : List (List ℕ)) (crowd : LanesFull) → GutterPacked (min_y_of b p) taps marks m p before after (Err crowd) → plan_upto b (taps_of b) (suc p) ≡ crowded p
     unfolding plan_upto
-    crowded_page after i packs = go (has_gutter b p) refl
+    crowded_page after crowd packs = go (has_gutter b p) refl
       where
         go : (s : Bool) → has_gutter b p ≡ s → plan_upto b (taps_of b) (suc p) ≡ crowded p
         go false h = let q = (packs.without h).0 in never cc
-        go true h = let e : packed_on b (taps_of b) p ≡ full i = sym (asked_packed h) ∙ packs.within h in rw (done.plan, e, plan_upto) refl
+        go true h = let e : packed_on b (taps_of b) p ≡ full crowd.index = sym (asked_packed h) ∙ packs.within h in rw (done.plan, e, plan_upto) refl
 
   crowded_stays : (n p q : ℕ) → plan_upto b (taps_of b) n ≡ crowded p → plan_upto b (taps_of b) (q + n) ≡ crowded p
   unfolding plan_upto
@@ -249,7 +251,7 @@ relaned_column : (f : Found) (r : List ℕ) → (get_or (relaned f r) 0 0 ≡ ge
 relaned_column none r = (refl, refl, refl)
 relaned_column (at l) r = (refl, refl, refl)
 
-gutter_rows : (min_y : ℕ) (taps : List (List ℕ)) (marks : List ℕ) (m p : ℕ) (before after : List (List ℕ)) (count : ℕ) → GutterPacked min_y taps marks m p before after (Lanes count)
+gutter_rows : (min_y : ℕ) (taps : List (List ℕ)) (marks : List ℕ) (m p : ℕ) (before after : List (List ℕ)) (count : ℕ) → GutterPacked min_y taps marks m p before after (Ok count)
     → (g : ℕ) → g < length before → (f : Found) × (get_or after g [] ≡ relaned f (get_or before g []))
 gutter_rows min_y taps marks m p before after count packs g h = go (given min_y) refl
   where
@@ -257,7 +259,7 @@ gutter_rows min_y taps marks m p before after count packs g h = go (given min_y)
     go false e = (none, ap (λ (rs : List (List ℕ)). get_or rs g []) (packs.without e).1)
     go true e = let w = packs.within e in (lane_in (reverse (asking taps marks p m)) w.0 g, w.2 g h)
 
-pub packable_kept : (min_y : ℕ) (taps : List (List ℕ)) (marks : List ℕ) (m p : ℕ) (before after : List (List ℕ)) (count : ℕ) → GutterPacked min_y taps marks m p before after (Lanes count)
+pub packable_kept : (min_y : ℕ) (taps : List (List ℕ)) (marks : List ℕ) (m p : ℕ) (before after : List (List ℕ)) (count : ℕ) → GutterPacked min_y taps marks m p before after (Ok count)
     → length after ≡ length before → Packable taps m before → Packable taps m after
 packable_kept min_y taps marks m p before after count packs same old =
     record {
@@ -273,6 +275,14 @@ packable_kept min_y taps marks m p before after count packs same old =
         let r = gutter_rows min_y taps marks m p before after count packs (field taps k 1) (old.group k h) in
         let c = relaned_column r.0 (get_or before (field taps k 1) []) in
         (ap (λ (q : List ℕ). get_or q 0 0) r.1 ∙ c.0, ap (λ (q : List ℕ). get_or q 1 0) r.1 ∙ c.1, ap (λ (q : List ℕ). get_or q 2 0) r.1 ∙ c.2)
+
+-- A view of all rows of a front is the front's view.
+pub view_front : {A : Type 0} (read : List ℕ → A) (s : List (List ℕ)) (n : ℕ) → n ≤ length s → view read (take n s) (length (take n s)) ≡ view read s n
+view_front read s n h =
+    view-take read (take n s) (length (take n s)) (omega arith) ∙ ap (λ (l : List (List ℕ)). reverse (map read l)) (take-length (take n s)) ∙ sym (view-take read s n h)
+
+pub front_length : {A : Type 0} (n : ℕ) (l : List A) (k : ℕ) → length l ≡ k → n ≤ k → length (take n l) ≡ n
+front_length n l k e h = length-take-le n l (omega arith)
 
 -- The taps of a board as planning takes them.
 module _ (b : Board) (pages nodes wires facts taps : List (List ℕ)) (m : ℕ) (given' : Collected b pages nodes wires facts taps m) where

@@ -1,10 +1,12 @@
 -- How the code plans a page, from the taps, the page that each asks for a lane on, and the groups' rows. No rule stands here.
-use Rattle.std.specs.Prelude.{ℕ, ◌+◌, ◌≤◌, ◌<◌, ◌≡◌, true, false, List, [], ◌∷◌, map, reverse, eqb, length, get_or}
+use Rattle.std.specs.Prelude.{ℕ, ◌+◌, ◌≤◌, ◌<◌, ◌≡◌, true, false, List, [], ◌∷◌, map, reverse, eqb, length, get_or, suc, Result, Ok, Err}
+use Rattle.base.specs.declared.refusal.Reason.TheVariants.{NoLane}
+use Rattle.base.specs.declared.refusal.Refusal.{Refusal}
+use Rattle.base.specs.Refusal.{refusal}
 use Rattle.sheet.specs.Table.{library_most}
 use Rattle.lanes.specs.Lanes.{Demand, full, laned, packed, lane_most}
 use Rattle.lanes.specs.Keys.{demand_of}
-use Rattle.lanes.specs.declared.pack.Packing.{Packing}
-use Rattle.lanes.specs.declared.pack.Packing.TheVariants.{Lanes, Full}
+use Rattle.lanes.specs.declared.pack.LanesFull.{LanesFull}
 use Rattle.base.specs.Lists.{keep, upto}
 use Rattle.board.specs.Board.{Board, field, given}
 use Rattle.board.specs.Groups.{taps_of}
@@ -12,14 +14,17 @@ use Rattle.board.specs.Demands.{lane_in, PageLanes, crowded, planned, plan_lanes
 use Rattle.base.specs.Views.{view}
 use Rattle.board.specs.Tables.{tap_in, NodeFacts, WireFacts, GroupFacts, PageFacts}
 use Rattle.board_groups.specs.Collecting.{relaned, head_page, GroupSums}
-use Rattle.board_lanes.specs.declared.demands.BoardPlan.{BoardPlan}
-use Rattle.board_lanes.specs.declared.demands.Plan.{Plan}
-use Rattle.board_lanes.specs.declared.demands.Plan.TheVariants.{Crowded, Laned}
 
--- What planning leaves: the first page that is crowded, or the lanes of all groups and pages.
-abbrev pub PlanHeld : Board → List (List ℕ) → List (List ℕ) → Plan → Type 0
-PlanHeld b groups facts (Crowded p) = plan_lanes b ≡ crowded p
-PlanHeld b groups facts Laned = (ps : List PageLanes) × (plan_lanes b ≡ planned ps) × GroupFacts b ps groups × PageFacts ps facts
+-- What planning leaves: the refusal at the first page that is crowded, or the lanes of all groups and pages.
+abbrev pub IsCrowded : Board → Refusal → Type 0
+IsCrowded b r = (p : ℕ) × (plan_lanes b ≡ crowded p) × (r ≡ refusal NoLane (suc p))
+
+abbrev pub LanesHeld : Board → List (List ℕ) → List (List ℕ) → Type 0
+LanesHeld b groups facts = (ps : List PageLanes) × (plan_lanes b ≡ planned ps) × GroupFacts b ps groups × PageFacts ps facts
+
+abbrev pub PlanHeld : Board → List (List ℕ) → List (List ℕ) → Result (Unit {0}) Refusal → Type 0
+PlanHeld b groups facts (Err r) = IsCrowded b r
+PlanHeld b groups facts (Ok u) = LanesHeld b groups facts
 
 -- The demand in a group's row.
 abbrev pub group_demand : List (List ℕ) → ℕ → Demand
@@ -37,29 +42,23 @@ asking taps marks p m = map (λ k. field taps k 1) (keep (λ k. eqb (get_or mark
 abbrev pub NoneAsks : List ℕ → ℕ → ℕ → ℕ → Type 0
 NoneAsks marks p from to = (j : ℕ) → from ≤ j → j < to → get_or marks j 0 ≡ p → ⊥
 
--- One tap's demand, where it asks for a lane on the page.
-pub record AddedDemand (groups : List (List ℕ)) (tap : List ℕ) (mark p : ℕ) (before : List (List ℕ)) (n : ℕ) (after : List (List ℕ)) (r : ℕ) : Type 0 where
-  pub count : r ≤ n + 1
-  pub rows : view demand_of after r ≡ elim (eqb mark p) [ true ↦ group_demand groups (get_or tap 1 0) ∷ view demand_of before n | false ↦ view demand_of before n ]
-  pub orders : view order_column after r ≡ elim (eqb mark p) [ true ↦ get_or tap 1 0 ∷ view order_column before n | false ↦ view order_column before n ]
-
 -- A page's demands, newest first.
 pub record PageDemands (taps : List (List ℕ)) (marks : List ℕ) (m : ℕ) (groups : List (List ℕ)) (p : ℕ) (demands : List (List ℕ)) (n : ℕ) : Type 0 where
   pub rows : view demand_of demands n ≡ map (group_demand groups) (asking taps marks p m)
   pub orders : view order_column demands n ≡ asking taps marks p m
 
 -- The groups' rows before and after a page's demands are packed: each group that asks has its lane, every other row is as it was.
-abbrev pub PagePacked : List (List ℕ) → List ℕ → ℕ → ℕ → List (List ℕ) → List (List ℕ) → Packing → Type 0
-PagePacked taps marks m p before after (Full i) = packed (map (group_demand before) (reverse (asking taps marks p m))) ≡ full i
-PagePacked taps marks m p before after (Lanes count) =
+abbrev pub PagePacked : List (List ℕ) → List ℕ → ℕ → ℕ → List (List ℕ) → List (List ℕ) → Result ℕ LanesFull → Type 0
+PagePacked taps marks m p before after (Err e) = packed (map (group_demand before) (reverse (asking taps marks p m))) ≡ full e.index
+PagePacked taps marks m p before after (Ok count) =
     (ls : List ℕ) × (packed (map (group_demand before) (reverse (asking taps marks p m))) ≡ laned ls count)
     × ((g : ℕ) → g < length before → get_or after g [] ≡ relaned (lane_in (reverse (asking taps marks p m)) ls g) (get_or before g []))
 
 -- The same of a page with or without min_y; the count of lanes is a number of 32 bits.
-pub record GutterPacked (min_y : ℕ) (taps : List (List ℕ)) (marks : List ℕ) (m p : ℕ) (before after : List (List ℕ)) (r : Packing) : Type 0 where
-  pub without : given min_y ≡ false → (r ≡ Lanes 0) × (after ≡ before)
+pub record GutterPacked (min_y : ℕ) (taps : List (List ℕ)) (marks : List ℕ) (m p : ℕ) (before after : List (List ℕ)) (r : Result ℕ LanesFull) : Type 0 where
+  pub without : given min_y ≡ false → (r ≡ Ok 0) × (after ≡ before)
   pub within : given min_y ≡ true → PagePacked taps marks m p before after r
-  pub few : (count : ℕ) → r ≡ Lanes count → count ≤ lane_most
+  pub few : (count : ℕ) → r ≡ Ok count → count ≤ lane_most
 
 -- Taps, sums of groups and marks that are a board's.
 pub record Surveyed (b : Board) (taps : List (List ℕ)) (m : ℕ) (groups : List (List ℕ)) (marks : List ℕ) : Type 0 where
@@ -87,10 +86,13 @@ pub record Room (pages nodes execs wires : List (List ℕ)) (facts taps groups d
   pub demand_room : (length wires ≤ length demands) × (length wires ≤ length keys) × (length wires ≤ length spare)
   pub page_room : length pages ≤ length facts
 
+-- What planning a board answers: the refusal at a crowded page, or how many taps there are, each of a group that has its lane if it needs one.
+abbrev pub TapsHeld : Board → (facts taps groups : List (List ℕ)) → Result ℕ Refusal → Type 0
+TapsHeld b facts taps groups (Err r) = IsCrowded b r
+TapsHeld b facts taps groups (Ok m) = (m ≤ length b.wires) × (view tap_in taps m ≡ taps_of b) × LanesHeld b groups facts
+
 -- A planned board: the facts of its nodes and wires, its taps, and its lanes.
-pub record BoardPlanned (b : Board) (facts taps groups : List (List ℕ)) (r : BoardPlan) : Type 0 where
+pub record BoardPlanned (b : Board) (facts taps groups : List (List ℕ)) (r : Result ℕ Refusal) : Type 0 where
   pub nodes_known : NodeFacts b facts
   pub wires_known : WireFacts b facts
-  pub count : r.taps ≤ length b.wires
-  pub taps_are : view tap_in taps r.taps ≡ taps_of b
-  pub plan_held : PlanHeld b groups facts r.plan
+  pub plan_held : TapsHeld b facts taps groups r

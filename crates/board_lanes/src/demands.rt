@@ -1,5 +1,5 @@
 // `plan_bus`, its planning: the demands of the groups, and the lanes of each page.
-ghost use Rattle.std.specs.Prelude.{◌≡◌, true, [], ◌∷◌, map, ℕ, ◌+◌, ◌≤◌, ◌<◌, length, get_or};
+ghost use Rattle.std.specs.Prelude.{◌≡◌, true, [], ◌∷◌, map, ℕ, ◌+◌, ◌≤◌, ◌<◌, length, get_or, MatchOption};
 ghost use Rattle.sheet.specs.Table.{library_most};
 ghost use Rattle.lanes.specs.Keys.{lane_column};
 ghost use Rattle.base.specs.Lists.{at};
@@ -7,57 +7,23 @@ ghost use Rattle.board.specs.Board.{Board, field};
 ghost use Rattle.board.specs.Demands.{lane_in};
 ghost use Rattle.board.specs.Tables.{NodeFacts, WireFacts};
 ghost use Rattle.board_groups.specs.Collecting.{Indexes, relaned, Packable};
-ghost use Rattle.board_lanes.specs.PagePlan.{PlanHeld, NoneAsks, order_column, AddedDemand, PageDemands, PagePacked, GutterPacked, Surveyed, Collected, Room, BoardPlanned};
+ghost use Rattle.board_lanes.specs.PagePlan.{PlanHeld, NoneAsks, order_column, PageDemands, PagePacked, GutterPacked, Surveyed, Collected, Room, BoardPlanned};
 ghost use Rattle.board.specs.Accepted.{AcceptedNodes};
 
 use crate::needs::{clear_groups, mark_heads, sum_taps};
 use base::numbers::MISSING;
+use base::refusal::{Reason, Refusal};
 use base::rows::{IdRow, Record, WorkRow};
 use board_groups::groups::collect_bus_groups;
 use board_groups::rows::number_rows;
-use lanes::pack::Packing;
+use lanes::pack::LanesFull;
 use lanes::rows::pack_rows;
-
-// The first page that opens one lane too many, or that every group which needs a lane has one.
-#[derive(Clone, Copy)]
-pub enum Plan {
-    Crowded(usize),
-    Laned,
-}
-
-// A board's plan, and how many taps it has.
-#[derive(Clone, Copy)]
-pub struct BoardPlan {
-    pub plan: Plan,
-    pub taps: usize,
-}
 
 // The demand of a group's row.
 fn demand_row(row: [u32; 8], group: u32) -> [u32; 8]
     ensures { result ≡ get_or row 0 0 ∷ get_or row 1 0 ∷ get_or row 2 0 ∷ group ∷ 0 ∷ 0 ∷ 0 ∷ 0 ∷ [] }
 {
     [row[0], row[1], row[2], group, 0, 0, 0, 0]
-}
-
-// The demand of a tap's group, where the tap asks for a lane on the page. The count of demands comes back.
-fn add_demand(
-    tap: [u32; 8],
-    mark: u32,
-    groups: &[WorkRow],
-    p: u32,
-    demands: &mut [WorkRow],
-    n: usize,
-) -> usize
-    requires { (n < length demands.old) × (get_or tap 1 0 < length groups.now) }
-    ensures { AddedDemand groups.now tap mark p demands.old n demands.new result }
-{
-    if mark != p {
-        return n;
-    }
-    let group = tap[1];
-    let g = group as usize;
-    demands[n] = demand_row(groups[g], group);
-    n + 1
 }
 
 // So many marks are passed over at once.
@@ -69,70 +35,61 @@ fn has_none(marks: &[u32], j: usize, p: u32) -> bool
     ensures { result ≡ true → NoneAsks marks.now p j (j + 8) }
 {
     let mut hit = false;
-    let mut i: usize = 0;
-    while i < MARKS_AT_ONCE {
+    for i in 0..MARKS_AT_ONCE {
         hit = hit | (marks[j + i] == p);
-        i += 1;
     }
     !hit
 }
 
 // Whether so many marks are there from the j-th on, and none is that of the page.
-fn passes(marks: &[u32], j: usize, m: usize, p: u32) -> bool
-    requires { (j ≤ m) × (m ≤ length marks.now) × (m ≤ library_most.wires) }
-    ensures { result ≡ true → (j + 8 ≤ m) × NoneAsks marks.now p j (j + 8) }
+fn passes(marks: &[u32], j: usize, p: u32) -> bool
+    requires { (j ≤ length marks.now) × (length marks.now ≤ library_most.wires) }
+    ensures { result ≡ true → (j + 8 ≤ length marks.now) × NoneAsks marks.now p j (j + 8) }
 {
-    if m < j + MARKS_AT_ONCE {
+    if marks.len() < j + MARKS_AT_ONCE {
         return false;
     }
     has_none(marks, j, p)
 }
 
-// Whether the j-th mark is there, and is not that of the page.
-fn is_other(marks: &[u32], j: usize, m: usize, p: u32) -> bool
-    requires { m ≤ length marks.now }
-    ensures { result ≡ true → (j < m) × (get_or marks.now j 0 ≡ p → ⊥) }
-{
-    if m <= j {
-        return false;
-    }
-    marks[j] != p
-}
-
-// The first tap from the k-th on that asks for a lane on the page, or m.
-fn next_asking(marks: &[u32], k: usize, m: usize, p: u32) -> usize
-    requires { (k ≤ m) × (m ≤ length marks.now) × (m ≤ library_most.wires) }
-    ensures { (k ≤ result) × (result ≤ m) × NoneAsks marks.now p k result }
+// The first tap from the k-th on that asks for a lane on the page.
+fn next_asking(marks: &[u32], k: usize, p: u32) -> Option<usize>
+    requires { (k ≤ length marks.now) × (length marks.now ≤ library_most.wires) }
+    ensures { MatchOption result (NoneAsks marks.now p k (length marks.now))
+        (λ i. (k ≤ i) × (i < length marks.now) × NoneAsks marks.now p k i × (get_or marks.now i 0 ≡ p)) }
 {
     let mut j = k;
-    while passes(marks, j, m, p) {
+    while passes(marks, j, p) {
         j += MARKS_AT_ONCE;
     }
-    while is_other(marks, j, m, p) {
-        j += 1;
+    for i in j..marks.len() {
+        if marks[i] == p {
+            return Some(i);
+        }
     }
-    j
+    None
 }
 
 // The demands of a page's groups, by rising first wire. Their count comes back.
 fn page_demands(
     taps: &[WorkRow],
     marks: &[u32],
-    m: usize,
     groups: &[WorkRow],
     p: u32,
     demands: &mut [WorkRow],
 ) -> usize
-    requires m_le_wires { (m ≤ library_most.wires) × (m ≤ length taps.now) × (m ≤ length marks.now) × (m ≤ length demands.old) }
-    requires packable { Packable taps.now m groups.now }
-    ensures upper_bound { result ≤ m }
-    ensures page_demands { PageDemands taps.now marks.now m groups.now p demands.new result }
+    requires few_taps { (length taps.now ≤ library_most.wires) × (length marks.now ≡ length taps.now) × (length taps.now ≤ length demands.old) }
+    requires packable { Packable taps.now (length taps.now) groups.now }
+    ensures upper_bound { result ≤ length taps.now }
+    ensures page_demands { PageDemands taps.now marks.now (length taps.now) groups.now p demands.new result }
 {
     let mut n: usize = 0;
-    let mut k = next_asking(marks, 0, m, p);
-    while k < m {
-        n = add_demand(taps[k], marks[k], groups, p, demands, n);
-        k = next_asking(marks, k + 1, m, p);
+    let mut from: usize = 0;
+    while let Some(k) = next_asking(marks, from, p) {
+        let group = taps[k][1];
+        demands[n] = demand_row(groups[group as usize], group);
+        n += 1;
+        from = k + 1;
     }
     n
 }
@@ -150,9 +107,7 @@ fn place_lanes(demands: &[WorkRow], groups: &mut [WorkRow])
     ensures { (g : ℕ) → g < length groups.old
         → get_or groups.new g [] ≡ relaned (lane_in (map order_column demands.now) (map lane_column demands.now) g) (get_or groups.old g []) }
 {
-    let mut j: usize = demands.len();
-    while 0 < j {
-        j -= 1;
+    for j in (0..demands.len()).rev() {
         let demand = demands[j];
         let g = demand[3] as usize;
         groups[g] = with_lane(groups[g], demand[4]);
@@ -163,25 +118,20 @@ fn place_lanes(demands: &[WorkRow], groups: &mut [WorkRow])
 fn plan_page(
     taps: &[WorkRow],
     marks: &[u32],
-    m: usize,
     groups: &mut [WorkRow],
     p: u32,
     demands: &mut [WorkRow],
     keys: &mut [WorkRow],
     spare: &mut [WorkRow],
-) -> Packing
-    requires m_le_wires { (m ≤ library_most.wires) × (m ≤ length taps.now) × (m ≤ length marks.now) × (m ≤ length demands.old) × (m ≤ length keys.old) × (m ≤ length spare.old) }
-    requires packable { Packable taps.now m groups.old }
-    ensures { PagePacked taps.now marks.now m p groups.old groups.new result }
+) -> Result<usize, LanesFull>
+    requires few_taps { (length taps.now ≤ library_most.wires) × (length marks.now ≡ length taps.now) × (length taps.now ≤ length demands.old) × (length taps.now ≤ length keys.old) × (length taps.now ≤ length spare.old) }
+    requires packable { Packable taps.now (length taps.now) groups.old }
+    ensures { PagePacked taps.now marks.now (length taps.now) p groups.old groups.new result }
 {
-    let n = page_demands(taps, marks, m, groups, p, demands);
-    match pack_rows(&mut demands[..n], keys, spare) {
-        Packing::Lanes(count) => {
-            place_lanes(&demands[..n], groups);
-            Packing::Lanes(count)
-        }
-        Packing::Full(index) => Packing::Full(index),
-    }
+    let n = page_demands(taps, marks, groups, p, demands);
+    let count = pack_rows(&mut demands[..n], keys, spare)?;
+    place_lanes(&demands[..n], groups);
+    Ok(count)
 }
 
 // The same, but a page without min_y gets no lanes.
@@ -189,49 +139,47 @@ fn plan_gutter(
     page: [u32; 16],
     taps: &[WorkRow],
     marks: &[u32],
-    m: usize,
     groups: &mut [WorkRow],
     p: u32,
     demands: &mut [WorkRow],
     keys: &mut [WorkRow],
     spare: &mut [WorkRow],
-) -> Packing
-    requires m_le_wires { (m ≤ library_most.wires) × (m ≤ length taps.now) × (m ≤ length marks.now) × (m ≤ length demands.old) × (m ≤ length keys.old) × (m ≤ length spare.old) }
-    requires packable { Packable taps.now m groups.old }
-    ensures { GutterPacked (get_or page 1 0) taps.now marks.now m p groups.old groups.new result }
+) -> Result<usize, LanesFull>
+    requires few_taps { (length taps.now ≤ library_most.wires) × (length marks.now ≡ length taps.now) × (length taps.now ≤ length demands.old) × (length taps.now ≤ length keys.old) × (length taps.now ≤ length spare.old) }
+    requires packable { Packable taps.now (length taps.now) groups.old }
+    ensures { GutterPacked (get_or page 1 0) taps.now marks.now (length taps.now) p groups.old groups.new result }
 {
     if page[1] == MISSING {
-        return Packing::Lanes(0);
+        return Ok(0);
     }
-    plan_page(taps, marks, m, groups, p, demands, keys, spare)
+    plan_page(taps, marks, groups, p, demands, keys, spare)
 }
 
-// Plans the pages in turn, up to the first that is crowded. What is known of nodes and wires stays.
+// Plans the pages in turn, up to the first that is crowded: 8 at its line. What is known of nodes and wires stays.
 fn plan_pages(
     pages: &[Record],
     taps: &[WorkRow],
     marks: &[u32],
-    m: usize,
     groups: &mut [WorkRow],
     facts: &mut [WorkRow],
     demands: &mut [WorkRow],
     keys: &mut [WorkRow],
     spare: &mut [WorkRow],
-) -> Plan
-    requires m_le_wires { (m ≤ library_most.wires) × (m ≤ length taps.now) × (m ≤ length marks.now) × (m ≤ length demands.old) × (m ≤ length keys.old) × (m ≤ length spare.old)
+) -> Result<(), Refusal>
+    requires few_taps { (length taps.now ≤ library_most.wires) × (length marks.now ≡ length taps.now) × (length taps.now ≤ length demands.old) × (length taps.now ≤ length keys.old) × (length taps.now ≤ length spare.old)
         × (length pages.now ≤ library_most.pages) × (length pages.now ≤ length facts.old) }
-    requires packable { Packable taps.now m groups.old }
-    ensures plan_held { (b : Board) → b.pages ≡ pages.now → Surveyed b taps.now m groups.old marks.now → length b.wires ≤ length groups.old
+    requires packable { Packable taps.now (length taps.now) groups.old }
+    ensures plan_held { (b : Board) → b.pages ≡ pages.now → Surveyed b taps.now (length taps.now) groups.old marks.now → length b.wires ≤ length groups.old
         → PlanHeld b groups.new facts.new result }
     ensures node_facts { (b : Board) → NodeFacts b facts.old → WireFacts b facts.old → NodeFacts b facts.new × WireFacts b facts.new }
 {
-    let mut p: usize = 0;
-    while p < pages.len() {
-        let packing = plan_gutter(
-            pages[p], taps, marks, m, groups, p as u32, demands, keys, spare,
-        );
-        let Packing::Lanes(count) = packing else {
-            return Plan::Crowded(p);
+    for (p, page) in pages.iter().enumerate() {
+        let packing = plan_gutter(*page, taps, marks, groups, p as u32, demands, keys, spare);
+        let Ok(count) = packing else {
+            return Err(Refusal {
+                reason: Reason::NoLane,
+                place: p + 1,
+            });
         };
         let row = facts[p];
         facts[p] = [
@@ -244,9 +192,8 @@ fn plan_pages(
             count as u32,
             0,
         ];
-        p += 1;
     }
-    Plan::Laned
+    Ok(())
 }
 
 // The lanes of all groups: what each group's taps add up to, which of them ask for a lane, and then page by page.
@@ -256,27 +203,27 @@ fn plan_lanes(
     wires: &[Record],
     facts: &mut [WorkRow],
     taps: &[WorkRow],
-    m: usize,
     groups: &mut [WorkRow],
     demands: &mut [WorkRow],
     keys: &mut [WorkRow],
     spare: &mut [WorkRow],
-) -> Plan
-    requires collected { (b : Board) × Collected b pages.now nodes.now wires.now facts.old taps.now m }
-    requires pages_len_bound { (length pages.now ≤ library_most.pages) × (length nodes.now ≤ library_most.nodes) × (length wires.now ≤ library_most.wires) × (m ≤ length wires.now) × (m ≤ length taps.now)
+) -> Result<(), Refusal>
+    requires collected { (b : Board) × Collected b pages.now nodes.now wires.now facts.old taps.now (length taps.now) }
+    requires pages_len_bound { (length pages.now ≤ library_most.pages) × (length nodes.now ≤ library_most.nodes) × (length wires.now ≤ library_most.wires) × (length taps.now ≤ length wires.now)
         × (length wires.now ≤ length facts.old) × (length wires.now ≤ length groups.old) × (length pages.now ≤ length facts.old)
-        × (m ≤ length demands.old) × (m ≤ length keys.old) × (m ≤ length spare.old) }
-    ensures { (b : Board) → Collected b pages.now nodes.now wires.now facts.old taps.now m
+        × (length taps.now ≤ length demands.old) × (length taps.now ≤ length keys.old) × (length taps.now ≤ length spare.old) }
+    ensures { (b : Board) → Collected b pages.now nodes.now wires.now facts.old taps.now (length taps.now)
         → NodeFacts b facts.new × WireFacts b facts.new × PlanHeld b groups.new facts.new result }
 {
     clear_groups(wires.len(), groups);
-    sum_taps(nodes, wires, facts, taps, m, groups);
-    let mut marks = [0u32; 8192];
-    mark_heads(nodes, wires, facts, taps, m, groups, &mut marks);
-    plan_pages(pages, taps, &marks, m, groups, facts, demands, keys, spare)
+    sum_taps(nodes, wires, facts, taps, groups);
+    let mut all_marks = [0u32; 8192];
+    let marks = &mut all_marks[..taps.len()];
+    mark_heads(nodes, wires, facts, taps, groups, marks);
+    plan_pages(pages, taps, marks, groups, facts, demands, keys, spare)
 }
 
-// Plans a board: its rows, its groups and its lanes.
+// Plans a board: its rows, its groups and its lanes. The count of taps comes back.
 pub fn plan_board(
     pages: &[Record],
     nodes: &[Record],
@@ -292,7 +239,7 @@ pub fn plan_board(
     demands: &mut [WorkRow],
     keys: &mut [WorkRow],
     spare: &mut [WorkRow],
-) -> BoardPlan
+) -> Result<usize, Refusal>
     requires accepted_nodes { AcceptedNodes nodes.now }
     requires indexes { Indexes nodes.now inner.now body_index.now inner_index.now }
     requires room { Room pages.now nodes.now execs.now wires.now facts.old taps.old groups.old demands.old keys.old spare.old }
@@ -312,8 +259,16 @@ pub fn plan_board(
         facts,
         taps,
     );
-    let plan = plan_lanes(
-        pages, nodes, wires, facts, taps, m, groups, demands, keys, spare,
-    );
-    BoardPlan { plan, taps: m }
+    plan_lanes(
+        pages,
+        nodes,
+        wires,
+        facts,
+        &taps[..m],
+        groups,
+        demands,
+        keys,
+        spare,
+    )?;
+    Ok(m)
 }

@@ -34,18 +34,6 @@ fn wire_crosses(nodes: &[Record], wire: [u32; 16], fact: [u32; 8]) -> bool
     crosses_at(nodes[t], wire[3])
 }
 
-fn lesser(a: u32, b: u32) -> u32
-    ensures { (result ≡ min a b) × (a ≤ GONE) }
-{
-    if a < b { a } else { b }
-}
-
-fn greater(a: u32, b: u32) -> u32
-    ensures { result ≡ max a b }
-{
-    if a < b { b } else { a }
-}
-
 // A group's row with one more tap.
 fn with_tap(row: [u32; 8], tap: [u32; 8], crosses: bool) -> [u32; 8]
     requires { get_or row 2 0 < library_most.wires }
@@ -54,13 +42,13 @@ fn with_tap(row: [u32; 8], tap: [u32; 8], crosses: bool) -> [u32; 8]
     ensures tap_bound { (get_or tap 2 0 ≤ GONE) × (get_or tap 4 0 ≤ GONE) }
 {
     [
-        lesser(tap[2], row[0]),
-        greater(tap[2], row[1]),
+        tap[2].min(row[0]),
+        tap[2].max(row[1]),
         row[2] + 1,
-        greater(crosses as u32, row[3]),
+        u32::from(crosses).max(row[3]),
         row[4],
-        lesser(tap[4], row[5]),
-        greater(tap[4], row[6]),
+        tap[4].min(row[5]),
+        tap[4].max(row[6]),
         0,
     ]
 }
@@ -70,11 +58,7 @@ pub fn clear_groups(n: usize, groups: &mut [WorkRow])
     requires { n ≤ length groups.old }
     ensures { (g : ℕ) → g < n → get_or groups.new g [] ≡ GONE ∷ 0 ∷ 0 ∷ 0 ∷ GONE ∷ GONE ∷ 0 ∷ 0 ∷ [] }
 {
-    let mut g: usize = 0;
-    while g < n {
-        groups[g] = [MISSING, 0, 0, 0, MISSING, MISSING, 0, 0];
-        g += 1;
-    }
+    groups[..n].fill([MISSING, 0, 0, 0, MISSING, MISSING, 0, 0]);
 }
 
 // Adds each tap to its group's row.
@@ -83,23 +67,19 @@ pub fn sum_taps(
     wires: &[Record],
     facts: &[WorkRow],
     taps: &[WorkRow],
-    m: usize,
     groups: &mut [WorkRow],
 )
-    requires m_in_bounds { (m ≤ length taps.now) × (m ≤ library_most.wires) × (length nodes.now ≤ library_most.nodes) × (length wires.now ≤ length facts.now) × (length wires.now ≤ length groups.old) }
-    requires by_index { (k : ℕ) → k < m → (field taps.now k 1 < length wires.now) × (field taps.now k 7 < length wires.now) }
+    requires in_bounds { (length taps.now ≤ library_most.wires) × (length nodes.now ≤ library_most.nodes) × (length wires.now ≤ length facts.now) × (length wires.now ≤ length groups.old) }
+    requires by_index { (k : ℕ) → k < length taps.now → (field taps.now k 1 < length wires.now) × (field taps.now k 7 < length wires.now) }
     requires by_index_2 { (g : ℕ) → g < length wires.now → get_or groups.old g [] ≡ GONE ∷ 0 ∷ 0 ∷ 0 ∷ GONE ∷ GONE ∷ 0 ∷ 0 ∷ [] }
     ensures { (b : Board) → b.nodes ≡ nodes.now → b.wires ≡ wires.now → WireFacts b facts.now
-        → view tap_in taps.now m ≡ taps_of b → GroupSums b (taps_of b) groups.new }
+        → view tap_in taps.now (length taps.now) ≡ taps_of b → GroupSums b (taps_of b) groups.new }
 {
-    let mut k: usize = 0;
-    while k < m {
-        let tap = taps[k];
+    for tap in taps {
         let g = tap[1] as usize;
         let w = tap[7] as usize;
         let crosses = wire_crosses(nodes, wires[w], facts[w]);
-        groups[g] = with_tap(groups[g], tap, crosses);
-        k += 1;
+        groups[g] = with_tap(groups[g], *tap, crosses);
     }
 }
 
@@ -123,6 +103,7 @@ fn needs_lane(nodes: &[Record], source: u32, row: [u32; 8]) -> bool
 }
 
 // The page of a tap that is its group's first, where the group needs a lane; else MISSING.
+// Stays (no plainer): a mark is a number and no Option, so that many are compared at once (`has_none`), and MISSING is no page.
 fn head_page(nodes: &[Record], source: u32, tap: [u32; 8], row: [u32; 8]) -> u32
     ensures { (b : Board) (ts : List Tap) → b.nodes ≡ nodes.now → source ≡ source_anchor b (get_or tap 1 0) → source < length nodes.now
         → get_or row 0 0 ≡ first_row b ts (get_or tap 1 0) → get_or row 1 0 ≡ last_row b ts (get_or tap 1 0)
@@ -144,22 +125,17 @@ pub fn mark_heads(
     wires: &[Record],
     facts: &[WorkRow],
     taps: &[WorkRow],
-    m: usize,
     groups: &[WorkRow],
     marks: &mut [u32],
 )
-    requires m_in_bounds { (m ≤ length taps.now) × (m ≤ length marks.old) × (length wires.now ≤ length facts.now) × (length wires.now ≤ length groups.now) }
-    requires by_index { (k : ℕ) → k < m → field taps.now k 1 < length wires.now }
+    requires in_bounds { (length marks.old ≡ length taps.now) × (length wires.now ≤ length facts.now) × (length wires.now ≤ length groups.now) }
+    requires by_index { (k : ℕ) → k < length taps.now → field taps.now k 1 < length wires.now }
     ensures { (b : Board) → b.nodes ≡ nodes.now → b.wires ≡ wires.now → WireFacts b facts.now
-        → view tap_in taps.now m ≡ taps_of b → GroupSums b (taps_of b) groups.now
-        → (k : ℕ) → k < m → get_or marks.new k 0 ≡ head_page b (taps_of b) (tap_in (get_or taps.now k [])) }
+        → view tap_in taps.now (length taps.now) ≡ taps_of b → GroupSums b (taps_of b) groups.now
+        → (k : ℕ) → k < length taps.now → get_or marks.new k 0 ≡ head_page b (taps_of b) (tap_in (get_or taps.now k [])) }
 {
-    let mut k: usize = 0;
-    while k < m {
-        let tap = taps[k];
+    for (k, tap) in taps.iter().enumerate() {
         let g = tap[1] as usize;
-        let fact = facts[g];
-        marks[k] = head_page(nodes, fact[2], tap, groups[g]);
-        k += 1;
+        marks[k] = head_page(nodes, facts[g][2], *tap, groups[g]);
     }
 }

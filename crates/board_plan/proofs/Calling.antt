@@ -6,6 +6,10 @@ use mathlib.Core.Bool.{Bool, true, false}
 use mathlib.Core.List.{List, [], ◌∷◌, ◌++◌, map}
 use lib.ListN.{length, get_or, drop}
 use borrow.Author.Tests.{le-leb}
+use Rattle.std.proofs.Common.{Ok, Err}
+use Rattle.base.specs.declared.refusal.Reason.TheVariants.{NoRoom}
+use Rattle.base.specs.declared.refusal.Refusal.{Refusal}
+use Rattle.base.specs.Refusal.{refusal}
 use Rattle.sheet.specs.declared.Counts.{Counts}
 use Rattle.sheet.specs.Table.{library_most}
 use Rattle.board.specs.Board.{Board, field}
@@ -18,7 +22,6 @@ use Rattle.board.specs.Walk.{WithinLibrary}
 use Rattle.lanes.specs.Lanes.{lane_most}
 use Rattle.board_plan.specs.declared.Asked.{Asked}
 use Rattle.board_plan.specs.declared.Lent.{Lent}
-use Rattle.board_plan.specs.declared.PagesPlan.TheVariants.{Refused, Planned}
 use Rattle.board_plan.specs.TextPlan.{LINE_MOST, has_room, fits_counts, fits_lent, shortest, WorkLent, work_rows, lent_of, asked_for}
 use Rattle.board_plan.specs.PagesPlan.{plan_call, pages_plan, PagesPlanned}
 use Rattle.board.proofs.Accepting.{sheet_accepted}
@@ -86,10 +89,10 @@ pub planning_same : (text : List ℕ) (f g : Board → Bool) → ((b : Board) �
 planning_same text f g same = go (judged library_most text) refl
   where
     go : (j : Judged) → judged library_most text ≡ j → planning library_most f text ≡ planning library_most g text
-    go (Refusals.turned_away n l) e = planning_refused library_most text f n l e ∙ sym (planning_refused library_most text g n l e)
+    go (Refusals.turned_away r) e = planning_refused library_most text f r e ∙ sym (planning_refused library_most text g r e)
     go (board b) e =
         planning_fine library_most text f b e
-        ∙ ap (λ (t : Bool). elim t as (λ _. Planning) [ true ↦ crowding b (plan_lanes b) | false ↦ refused 7 0 ]) (let h = sheet_accepted library_most text b within_library e in same b h.few_wires h.few_pages)
+        ∙ ap (λ (t : Bool). elim t as (λ _. Planning) [ true ↦ crowding b (plan_lanes b) | false ↦ refused (refusal NoRoom 0) ]) (let h = sheet_accepted library_most text b within_library e in same b h.few_wires h.few_pages)
         ∙ sym (planning_fine library_most text g b e)
 
 pages_planning : (text : List ℕ) (answers work : ℕ) → planning library_most (fits_lent (pages_lent answers work)) text ≡ planning library_most (fits_pages answers work) text
@@ -118,14 +121,14 @@ module _ (text : List ℕ) (work : List ℕ) (before after : List (List ℕ)) (a
   unfolding plan_call call
   told = ap (λ (q : Asked). planning q.most (fits_lent q.lent) text) is ∙ pages_planning text (length before) (shortest work)
 
-  pub pages_refused : (n l : ℕ) → planning asked.most (fits_lent asked.lent) text ≡ refused n l → PagesPlanned (plan_call text (length before) work) before before (Refused n l)
+  pub pages_refused : (r : Refusal) → planning asked.most (fits_lent asked.lent) text ≡ refused r → PagesPlanned (plan_call text (length before) work) before before (Err r)
   unfolding call pages_after
-  pages_refused n l e =
-      let same : plan_call text (length before) work ≡ refused n l = sym told ∙ e in
+  pages_refused r e =
+      let same : plan_call text (length before) work ≡ refused r = sym told ∙ e in
       record { answer = ap pages_plan (sym same); answers = ap (λ (p : Planning). pages_after p before) (sym same) }
 
   pub pages_laned : (b : Board) (ps : List PageLanes) → planning asked.most (fits_lent asked.lent) text ≡ lanes_for b ps → plan_lanes b ≡ Demands.planned ps
-      → after ≡ map page_row ps ++ drop (length b.pages) before → PagesPlanned (plan_call text (length before) work) before after (Planned (length b.pages))
+      → after ≡ map page_row ps ++ drop (length b.pages) before → PagesPlanned (plan_call text (length before) work) before after (Ok (length b.pages))
   unfolding call pages_after
   pages_laned b ps e lanes written =
       let same : plan_call text (length before) work ≡ lanes_for b ps = sym told ∙ e in

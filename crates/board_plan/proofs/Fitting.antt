@@ -1,12 +1,11 @@
 -- Room for a plan: what the test of the lent lengths says.
-use Prim.Native.Nat.{ℕ, suc, ◌+◌, ◌*◌, ◌≤◌, ◌<◌, min}
+use Prim.Native.Nat.{ℕ, ◌+◌, ◌*◌, ◌≤◌, ◌<◌, min}
 use native.Mathlib.Omega.{arith}
-use mathlib.Core.Path.{◌≡◌, refl, sym}
+use mathlib.Core.Path.{◌≡◌, refl}
 use mathlib.Core.Bool.{true, false}
 use mathlib.Core.List.{List, [], ◌∷◌}
 use lib.Dec.{leb}
-use lib.ListN.{length, get_or, drop, length-drop, drop_of_length-le}
-use lib.Seq.{drop-cons}
+use lib.ListN.{length, get_or}
 use borrow.Author.Tests.{le-leb, lt-leb, leb-true}
 use Rattle.board.specs.Board.{Board}
 use Rattle.board.specs.Planning.{records}
@@ -71,16 +70,16 @@ module _ (lent : Lent) (w p r : ℕ) where
           unfolding has_room
           enough_but_work h = rw (le-leb (5 * w) lent.rerouters one, le-leb (6 * w) lent.bus_wires two, le-leb w lent.ports three, le-leb p lent.answers four, le-leb (LINE_MOST * (p + 12 * w + 1)) lent.out h) refl
 
--- The shortest slice.
-pub shortest_front : (n : ℕ) (l : List ℕ) → 0 < length l → shortest (n ∷ l) ≡ min n (shortest l)
+-- The shortest of seven slices.
+pub shortest_seven : (l : List ℕ) → length l ≡ 7
+    → min (get_or l 0 0) (min (get_or l 1 0) (min (get_or l 2 0) (min (get_or l 3 0) (min (get_or l 4 0) (min (get_or l 5 0) (get_or l 6 0)))))) ≡ shortest l
 unfolding shortest
-shortest_front n [] h = absurd (omega arith)
-shortest_front n (m ∷ l) h = refl
-
-pub shortest_turn : (l : List ℕ) (k least : ℕ) → suc k < length l → least ≡ shortest (drop (suc k) l) → min (get_or l k 0) least ≡ shortest (drop k l)
-shortest_turn l k least h e =
-    rw (e, drop-cons l k 0 (omega arith)) (sym (shortest_front (get_or l k 0) (drop (suc k) l) (let d = length-drop (suc k) l in omega arith)))
-
-pub shortest_last : (l : List ℕ) → length l ≡ 7 → get_or l 6 0 ≡ shortest (drop 6 l)
-unfolding shortest
-shortest_last l h = rw (drop-cons l 6 0 (omega arith), drop_of_length-le l (let seven : length l ≤ 7 = omega arith in seven)) refl
+shortest_seven [] h = absurd (omega arith)
+shortest_seven (a ∷ []) h = absurd (omega arith)
+shortest_seven (a ∷ b ∷ []) h = absurd (omega arith)
+shortest_seven (a ∷ b ∷ c ∷ []) h = absurd (omega arith)
+shortest_seven (a ∷ b ∷ c ∷ d ∷ []) h = absurd (omega arith)
+shortest_seven (a ∷ b ∷ c ∷ d ∷ e ∷ []) h = absurd (omega arith)
+shortest_seven (a ∷ b ∷ c ∷ d ∷ e ∷ f ∷ []) h = absurd (omega arith)
+shortest_seven (a ∷ b ∷ c ∷ d ∷ e ∷ f ∷ g ∷ []) h = refl
+shortest_seven (a ∷ b ∷ c ∷ d ∷ e ∷ f ∷ g ∷ k ∷ l) h = absurd (omega arith)

@@ -7,7 +7,10 @@ use mathlib.Core.List.{List, [], ◌++◌}
 use lib.ListN.{length, take, drop, take-append-drop}
 use lib.Seq.{length-take-le, get_or-take, ext_get_or}
 use Rattle.sheet.specs.declared.Counts.{Counts}
-use Rattle.sheet.specs.declared.Checked.TheVariants.{Refused as NotTaken, Fine as Taken}
+use Rattle.std.proofs.Common.{Ok, Err}
+use Rattle.base.specs.declared.refusal.Reason.TheVariants.{NoRoom}
+use Rattle.base.specs.declared.refusal.Refusal.{Refusal}
+use Rattle.base.specs.Refusal.{refusal}
 use Rattle.sheet.specs.Table.{library_most}
 use Rattle.sheet.specs.Reading.{rows_from}
 use Rattle.sheet.specs.Answer.{RowsHeld}
@@ -41,15 +44,15 @@ fits_counted lent b c t e f = ap (fits_counts lent) (sym e) ∙ f
 
 module _ (most : Counts) (text : List ℕ) (fits : Board → Bool) where
   -- Refusals 1 to 7.
-  pub fitting_refused : (n l : ℕ) → judged most text ≡ Refusals.turned_away n l → fitting most fits text ≡ Refusals.turned_away n l
+  pub fitting_refused : (r : Refusal) → judged most text ≡ Refusals.turned_away r → fitting most fits text ≡ Refusals.turned_away r
   unfolding fitting
-  fitting_refused n l e = ap (lent_for fits) e
+  fitting_refused r e = ap (lent_for fits) e
 
-  fitting_fine : (b : Board) → judged most text ≡ board b → (t : Bool) → fits b ≡ t → fitting most fits text ≡ elim t as (λ _. Judged) [ true ↦ board b | false ↦ Refusals.turned_away 7 0 ]
+  fitting_fine : (b : Board) → judged most text ≡ board b → (t : Bool) → fits b ≡ t → fitting most fits text ≡ elim t as (λ _. Judged) [ true ↦ board b | false ↦ Refusals.turned_away (refusal NoRoom 0) ]
   unfolding fitting
-  fitting_fine b e t f = ap (lent_for fits) e ∙ ap (λ (v : Bool). elim v as (λ _. Judged) [ true ↦ board b | false ↦ Refusals.turned_away 7 0 ]) f
+  fitting_fine b e t f = ap (lent_for fits) e ∙ ap (λ (v : Bool). elim v as (λ _. Judged) [ true ↦ board b | false ↦ Refusals.turned_away (refusal NoRoom 0) ]) f
 
-  pub fitting_unfit : (b : Board) → judged most text ≡ board b → fits b ≡ false → fitting most fits text ≡ Refusals.turned_away 7 0
+  pub fitting_unfit : (b : Board) → judged most text ≡ board b → fits b ≡ false → fitting most fits text ≡ Refusals.turned_away (refusal NoRoom 0)
   fitting_unfit b e f = fitting_fine b e false f
 
   pub fitting_fits : (b : Board) → judged most text ≡ board b → fits b ≡ true → fitting most fits text ≡ board b
@@ -59,7 +62,7 @@ module _ (most : Counts) (text : List ℕ) (fits : Board → Bool) where
   fitting_from b e = go (judged most text) refl
     where
       go : (j : Judged) → judged most text ≡ j → (judged most text ≡ board b) × (fits b ≡ true)
-      go (Refusals.turned_away n l) is = let d = sym (fitting_refused n l is) ∙ e in never cc
+      go (Refusals.turned_away r) is = let d = sym (fitting_refused r is) ∙ e in never cc
       go (board c) is = fit (fits c) refl
         where
           fit : (t : Bool) → fits c ≡ t → (judged most text ≡ board b) × (fits b ≡ true)
@@ -71,11 +74,11 @@ pub planning_then : (most : Counts) (text : List ℕ) (whole first then : Board 
 planning_then most text whole first then both = go (judged most text) refl
   where
     go : (j : Judged) → judged most text ≡ j → planning most whole text ≡ judged_for then (fitting most first text)
-    go (Refusals.turned_away n l) e = planning_refused most text whole n l e ∙ ap (judged_for then) (sym (fitting_refused most text first n l e))
+    go (Refusals.turned_away r) e = planning_refused most text whole r e ∙ ap (judged_for then) (sym (fitting_refused most text first r e))
     go (board b) e = fit (first b) refl
       where
-        tried : (t : Bool) → first b ≡ t → planning most whole text ≡ elim (t && then b) as (λ _. Planning) [ true ↦ crowding b (plan_lanes b) | false ↦ refused 7 0 ]
-        tried t f = planning_fine most text whole b e ∙ ap (λ (v : Bool). elim v as (λ _. Planning) [ true ↦ crowding b (plan_lanes b) | false ↦ refused 7 0 ]) (both b ∙ ap (λ v. v && then b) f)
+        tried : (t : Bool) → first b ≡ t → planning most whole text ≡ elim (t && then b) as (λ _. Planning) [ true ↦ crowding b (plan_lanes b) | false ↦ refused (refusal NoRoom 0) ]
+        tried t f = planning_fine most text whole b e ∙ ap (λ (v : Bool). elim v as (λ _. Planning) [ true ↦ crowding b (plan_lanes b) | false ↦ refused (refusal NoRoom 0) ]) (both b ∙ ap (λ v. v && then b) f)
 
         fit : (t : Bool) → first b ≡ t → planning most whole text ≡ judged_for then (fitting most first text)
         fit true f = tried true f ∙ ap (judged_for then) (sym (fitting_fits most text first b e f))
@@ -83,11 +86,11 @@ planning_then most text whole first then both = go (judged most text) refl
 
 -- 7 of a board.
 module _ (fits : Board → Bool) (b : Board) where
-  pub lent_unfit : fits b ≡ false → lent_for fits (board b) ≡ Refusals.turned_away 7 0
-  lent_unfit f = ap (λ (v : Bool). elim v as (λ _. Judged) [ true ↦ board b | false ↦ Refusals.turned_away 7 0 ]) f
+  pub lent_unfit : fits b ≡ false → lent_for fits (board b) ≡ Refusals.turned_away (refusal NoRoom 0)
+  lent_unfit f = ap (λ (v : Bool). elim v as (λ _. Judged) [ true ↦ board b | false ↦ Refusals.turned_away (refusal NoRoom 0) ]) f
 
   pub lent_fits : fits b ≡ true → lent_for fits (board b) ≡ board b
-  lent_fits f = ap (λ (v : Bool). elim v as (λ _. Judged) [ true ↦ board b | false ↦ Refusals.turned_away 7 0 ]) f
+  lent_fits f = ap (λ (v : Bool). elim v as (λ _. Judged) [ true ↦ board b | false ↦ Refusals.turned_away (refusal NoRoom 0) ]) f
 
 -- A board in rows, once there is a row for each record.
 module _ {b : Board} {rows : List (List ℕ)} {counts : Counts} {bodyIds innerIds : List (List ℕ)} (checked : BoardChecked b rows counts bodyIds innerIds)
@@ -131,11 +134,11 @@ rows_front text rows held h =
 
 -- What `check_board` answers.
 module _ (most : Counts) (text : List ℕ) where
-  pub board_refused : (n l : ℕ) → NotTaken n l ≡ board_checked (judged most text) → judged most text ≡ Refusals.turned_away n l
-  board_refused n l e = go (judged most text) e
+  pub board_refused : (r : Refusal) → Err r ≡ board_checked (judged most text) → judged most text ≡ Refusals.turned_away r
+  board_refused r e = go (judged most text) e
     where
-      go : (j : Judged) → NotTaken n l ≡ board_checked j → j ≡ Refusals.turned_away n l
-      go (Refusals.turned_away n' l') q = cc
+      go : (j : Judged) → Err r ≡ board_checked j → j ≡ Refusals.turned_away r
+      go (Refusals.turned_away d) q = cc
       go (board b) q = never cc
 
   sections_held : (b : Board) (rows : List (List ℕ)) → judged most text ≡ board b → RowsIf most text rows → records b ≤ length rows → SectionsIn b rows
@@ -145,14 +148,14 @@ module _ (most : Counts) (text : List ℕ) where
       subst (λ (l : List (List ℕ)). SectionsIn b l) (rows_front text rows (held (rows_from text) k.read) (omega arith))
       (sections_in b (rows_from text) (drop (length (rows_from text)) rows) k.known)
 
-  pub board_fine : (rows bodyIds chipIds innerIds : List (List ℕ)) (c : Counts) → WithinLibrary most → Taken c ≡ board_checked (judged most text)
+  pub board_fine : (rows bodyIds chipIds innerIds : List (List ℕ)) (c : Counts) → WithinLibrary most → Ok c ≡ board_checked (judged most text)
       → IndexedIf (judged most text) bodyIds chipIds innerIds → RowsIf most text rows
       → (b : Board) × (judged most text ≡ board b) × BoardChecked b rows c bodyIds innerIds
   board_fine rows bodyIds chipIds innerIds c low t x held = go (judged most text) refl t x
     where
-      go : (j : Judged) → judged most text ≡ j → Taken c ≡ board_checked j → IndexedIf j bodyIds chipIds innerIds
+      go : (j : Judged) → judged most text ≡ j → Ok c ≡ board_checked j → IndexedIf j bodyIds chipIds innerIds
           → (b : Board) × (judged most text ≡ board b) × BoardChecked b rows c bodyIds innerIds
-      go (Refusals.turned_away n l) is q y = never cc
+      go (Refusals.turned_away r) is q y = never cc
       go (board b) is q y =
           let same : c ≡ counts_in b = cc in
           let f = sheet_accepted most text b low is in (

@@ -3,6 +3,10 @@ use Prim.Native.Nat.{ℕ, suc}
 use mathlib.Core.Path.{◌≡◌, refl, sym, ap, ◌∙◌, subst}
 use mathlib.Core.Bool.{Bool, true, false, ◌&&◌}
 use mathlib.Core.List.{List}
+use Rattle.std.proofs.Common.{Result, Ok, Err}
+use Rattle.base.specs.declared.refusal.Reason.TheVariants.{NoLane}
+use Rattle.base.specs.declared.refusal.Refusal.{Refusal}
+use Rattle.base.specs.Refusal.{refusal}
 use Rattle.sheet.specs.declared.Counts.{Counts}
 use Rattle.board.specs.Board.{Board}
 use Rattle.board.specs.Refusals.{Judged, turned_away, board}
@@ -11,7 +15,6 @@ use Rattle.board.specs.Planning.{Planning, refused, lanes_for, planning, crowdin
 use Rattle.board.specs.Walk.{counts_in}
 use Rattle.base.proofs.Bools.{never}
 use Rattle.board_plan.specs.declared.TextPlan.{TextPlan}
-use Rattle.board_plan.specs.declared.TextPlan.TheVariants.{Refused, Crowded, Laned}
 use Rattle.board_plan.specs.TextPlan.{fitting, FactsHold, TablesHold, LanesPlanned, TextPlanned}
 use Rattle.board_plan.proofs.Reading.{planning_then}
 
@@ -32,13 +35,9 @@ pub record LanesTold (rows facts taps groups : List (List ℕ)) (p : Planning) (
 
 module _ (rows table taps groups : List (List ℕ)) where
   -- What an answer says of the sheet.
-  pub survey_refusal : (j : Judged) (r : TextPlan) (n l : ℕ) → TextPlanned j rows table taps groups r → r ≡ Refused n l → j ≡ turned_away n l
-  survey_refusal (turned_away n' l') r n l e d = cc
-  survey_refusal (board b) r n l h d = go (plan_lanes b) h
-    where
-      go : (q : Planned) → LanesPlanned b q rows table taps groups r → board b ≡ turned_away n l
-      go (crowded p) (e, f) = never cc
-      go (planned ps) (m, e, t) = never cc
+  pub survey_refusal : (j : Judged) (r : Result TextPlan Refusal) (e : Refusal) → TextPlanned j rows table taps groups r → r ≡ Err e → j ≡ turned_away e
+  survey_refusal (turned_away d) r e h is = cc
+  survey_refusal (board b) r e (t, fine, h) is = never cc
 
   pub record BoardTold (j : Judged) (c : Counts) (q : Planned) : Type 0 where
     pub on_board : Board
@@ -47,47 +46,55 @@ module _ (rows table taps groups : List (List ℕ)) where
     pub lanes : plan_lanes on_board ≡ q
     pub facts : FactsHold on_board rows table
 
-  pub survey_crowd : (j : Judged) (r : TextPlan) (c : Counts) (l : ℕ) → TextPlanned j rows table taps groups r → r ≡ Crowded c l
-      → (p : ℕ) × (l ≡ suc p) × BoardTold j c (crowded p)
-  survey_crowd (turned_away n' l') r c l e d = never cc
-  survey_crowd (board b) r c l h d = go (plan_lanes b) refl h
-    where
-      go : (q : Planned) → plan_lanes b ≡ q → LanesPlanned b q rows table taps groups r → (p : ℕ) × (l ≡ suc p) × BoardTold (board b) c (crowded p)
-      go (crowded p) is (e, f) = let same : c ≡ counts_in b = cc in let line : l ≡ suc p = cc in (p, line, record { on_board = b; is = refl; counted = same; lanes = is; facts = f })
-      go (planned ps) is (m, e, t) = never cc
+  -- What a fine answer says of the board.
+  planned_as : (b : Board) (r : Result TextPlan Refusal) (t : TextPlan) → TextPlanned (board b) rows table taps groups r → r ≡ Ok t → LanesPlanned b (plan_lanes b) rows table taps groups t
+  planned_as b r t (u, fine, h) is = let same : u ≡ t = cc in subst (LanesPlanned b (plan_lanes b) rows table taps groups) same h
 
-  pub survey_lanes : (j : Judged) (r : TextPlan) (c : Counts) (m : ℕ) → TextPlanned j rows table taps groups r → r ≡ Laned c m
-      → (ps : List PageLanes) × BoardTold j c (planned ps)
-  survey_lanes (turned_away n' l') r c m e d = never cc
-  survey_lanes (board b) r c m h d = go (plan_lanes b) refl h
+  pub survey_crowd : (j : Judged) (r : Result TextPlan Refusal) (t : TextPlan) (e : Refusal) → TextPlanned j rows table taps groups r → r ≡ Ok t → t.taps ≡ Err e
+      → (p : ℕ) × (e ≡ refusal NoLane (suc p)) × BoardTold j t.counts (crowded p)
+  survey_crowd (turned_away d) r t e h is crowds = never cc
+  survey_crowd (board b) r t e h is crowds = go (plan_lanes b) refl (planned_as b r t h is)
     where
-      go : (q : Planned) → plan_lanes b ≡ q → LanesPlanned b q rows table taps groups r → (ps : List PageLanes) × BoardTold (board b) c (planned ps)
-      go (crowded p) is (e, f) = never cc
-      go (planned ps) is (k, e, t) = let same : c ≡ counts_in b = cc in (ps, record { on_board = b; is = refl; counted = same; lanes = is; facts = facts_in t })
+      go : (q : Planned) → plan_lanes b ≡ q → LanesPlanned b q rows table taps groups t → (p : ℕ) × (e ≡ refusal NoLane (suc p)) × BoardTold (board b) t.counts (crowded p)
+      go (crowded p) lanes (whole, f) =
+          let both : Err e ≡ Err (refusal NoLane (suc p)) = sym crowds ∙ ap (λ (x : TextPlan). x.taps) whole in
+          let same : e ≡ refusal NoLane (suc p) = cc in
+          (p, same, record { on_board = b; is = refl; counted = ap (λ (x : TextPlan). x.counts) whole; lanes = lanes; facts = f })
+      go (planned ps) lanes (m, whole, k) = let both : Err e ≡ Ok m = sym crowds ∙ ap (λ (x : TextPlan). x.taps) whole in never cc
+
+  pub survey_lanes : (j : Judged) (r : Result TextPlan Refusal) (t : TextPlan) (m : ℕ) → TextPlanned j rows table taps groups r → r ≡ Ok t → t.taps ≡ Ok m
+      → (ps : List PageLanes) × BoardTold j t.counts (planned ps)
+  survey_lanes (turned_away d) r t m h is taps-are = never cc
+  survey_lanes (board b) r t m h is taps-are = go (plan_lanes b) refl (planned_as b r t h is)
+    where
+      go : (q : Planned) → plan_lanes b ≡ q → LanesPlanned b q rows table taps groups t → (ps : List PageLanes) × BoardTold (board b) t.counts (planned ps)
+      go (crowded p) lanes (whole, f) = let both : Ok m ≡ Err (refusal NoLane (suc p)) = sym taps-are ∙ ap (λ (x : TextPlan). x.taps) whole in never cc
+      go (planned ps) lanes (k, whole, held) =
+          (ps, record { on_board = b; is = refl; counted = ap (λ (x : TextPlan). x.counts) whole; lanes = lanes; facts = facts_in held })
 
   -- What an answer says of the planning.
-  module _ (most : Counts) (fits : Board → Bool) (text : List ℕ) (r : TextPlan) (h : TextPlanned (fitting most fits text) rows table taps groups r) where
+  module _ (most : Counts) (fits : Board → Bool) (text : List ℕ) (r : Result TextPlan Refusal) (h : TextPlanned (fitting most fits text) rows table taps groups r) where
     then : planning most fits text ≡ judged_for (λ b. true) (fitting most fits text)
     then = planning_then most text fits fits (λ b. true) (λ b. always (fits b))
 
-    pub text_refusal : (n l : ℕ) → r ≡ Refused n l → planning most fits text ≡ refused n l
-    text_refusal n l e = then ∙ ap (judged_for (λ b. true)) (survey_refusal (fitting most fits text) r n l h e)
+    pub text_refusal : (e : Refusal) → r ≡ Err e → planning most fits text ≡ refused e
+    text_refusal e is = then ∙ ap (judged_for (λ b. true)) (survey_refusal (fitting most fits text) r e h is)
 
-    pub text_crowded : (c : Counts) (l : ℕ) → r ≡ Crowded c l → planning most fits text ≡ refused 8 l
-    text_crowded c l e =
-        let t = survey_crowd (fitting most fits text) r c l h e in
-        then ∙ ap (judged_for (λ b. true)) t.2.is ∙ ap (crowding t.2.on_board) t.2.lanes ∙ ap (refused 8) (sym t.1)
+    pub text_crowded : (t : TextPlan) (e : Refusal) → r ≡ Ok t → t.taps ≡ Err e → planning most fits text ≡ refused e
+    text_crowded t e is crowds =
+        let k = survey_crowd (fitting most fits text) r t e h is crowds in
+        then ∙ ap (judged_for (λ b. true)) k.2.is ∙ ap (crowding k.2.on_board) k.2.lanes ∙ ap refused (sym k.1)
 
-    pub text_lanes : (c : Counts) (m : ℕ) → r ≡ Laned c m → LanesTold rows table taps groups (planning most fits text) c m
-    text_lanes c m d = subst (λ (p : Planning). LanesTold rows table taps groups p c m) (sym then) (told (fitting most fits text) h)
+    pub text_lanes : (t : TextPlan) (m : ℕ) → r ≡ Ok t → t.taps ≡ Ok m → LanesTold rows table taps groups (planning most fits text) t.counts m
+    text_lanes t m is taps-are = subst (λ (p : Planning). LanesTold rows table taps groups p t.counts m) (sym then) (told (fitting most fits text) h)
       where
-        laned : (b : Board) (q : Planned) → LanesPlanned b q rows table taps groups r → LanesTold rows table taps groups (crowding b q) c m
-        laned b (crowded p) (e, f) = never cc
-        laned b (planned ps) (k, e, t) =
-            let same : c ≡ counts_in b = cc in
-            let taps-same : k ≡ m = cc in
-            record { on_board = b; lanes = ps; is = refl; counted = same; tables = subst (λ (j : ℕ). TablesHold b ps rows table taps groups j) taps-same t }
+        laned : (b : Board) (q : Planned) → LanesPlanned b q rows table taps groups t → LanesTold rows table taps groups (crowding b q) t.counts m
+        laned b (crowded p) (whole, f) = let both : Ok m ≡ Err (refusal NoLane (suc p)) = sym taps-are ∙ ap (λ (x : TextPlan). x.taps) whole in never cc
+        laned b (planned ps) (k, whole, held) =
+            let both : Ok k ≡ Ok m = sym (ap (λ (x : TextPlan). x.taps) whole) ∙ taps-are in
+            let same : k ≡ m = cc in
+            record { on_board = b; lanes = ps; is = refl; counted = ap (λ (x : TextPlan). x.counts) whole; tables = subst (λ (j : ℕ). TablesHold b ps rows table taps groups j) same held }
 
-        told : (j : Judged) → TextPlanned j rows table taps groups r → LanesTold rows table taps groups (judged_for (λ b. true) j) c m
-        told (turned_away n l) e = never cc
-        told (board b) k = laned b (plan_lanes b) k
+        told : (j : Judged) → TextPlanned j rows table taps groups r → LanesTold rows table taps groups (judged_for (λ b. true) j) t.counts m
+        told (turned_away d) e = never cc
+        told (board b) k = laned b (plan_lanes b) (planned_as b r t k is)

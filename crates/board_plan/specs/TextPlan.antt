@@ -1,5 +1,8 @@
 -- What is lent, and what planning a sheet's text leaves in the tables.
-use Rattle.std.specs.Prelude.{ℕ, suc, ◌+◌, ◌*◌, ◌/◌, ◌≤◌, min, ◌≡◌, Bool, true, false, ◌&&◌, List, [], ◌∷◌, leb, length, get_or, take, drop}
+use Rattle.std.specs.Prelude.{ℕ, suc, ◌+◌, ◌*◌, ◌/◌, ◌≤◌, min, ◌≡◌, Bool, true, false, ◌&&◌, List, [], ◌∷◌, leb, length, get_or, take, drop, Result, Ok, Err}
+use Rattle.base.specs.declared.refusal.Reason.TheVariants.{NoRoom, NoLane}
+use Rattle.base.specs.declared.refusal.Refusal.{Refusal}
+use Rattle.base.specs.Refusal.{refusal}
 use Rattle.sheet.specs.declared.Counts.{Counts}
 use Rattle.sheet.specs.Table.{library_most}
 use Rattle.board.specs.Board.{Board}
@@ -16,7 +19,6 @@ use Rattle.board_lanes.specs.PagePlan.{Room}
 use Rattle.board_plan.specs.declared.Lent.{Lent}
 use Rattle.board_plan.specs.declared.Asked.{Asked}
 use Rattle.board_plan.specs.declared.TextPlan.{TextPlan}
-use Rattle.board_plan.specs.declared.TextPlan.TheVariants.{Refused, Crowded, Laned}
 
 -- S16: no line of a plan sheet is longer; a plan has at most P + 12W + 1 lines.
 abbrev pub LINE_MOST : ℕ
@@ -79,6 +81,15 @@ pub record SectionsIn (b : Board) (rows : List (List ℕ)) : Type 0 where
   pub execs : take (length b.execs) (drop (length b.pages + length b.nodes + length b.chips + length b.inner) rows) ≡ b.execs
   pub wires : take (length b.wires) (drop (length b.pages + length b.nodes + length b.chips + length b.inner + length b.execs) rows) ≡ b.wires
 
+-- These are the sections of a board.
+pub record SectionsCut (b : Board) (pages nodes chips inner execs wires : List (List ℕ)) : Type 0 where
+  pub pages_cut : pages ≡ b.pages
+  pub nodes_cut : nodes ≡ b.nodes
+  pub chips_cut : chips ≡ b.chips
+  pub inner_cut : inner ≡ b.inner
+  pub execs_cut : execs ≡ b.execs
+  pub wires_cut : wires ≡ b.wires
+
 -- A board that is read into rows, with its ids indexed, and room for its plan in the tables.
 pub record BoardRead (b : Board) (rows : List (List ℕ)) (counts : Counts) (bodyIds innerIds facts taps groups demands keys spare : List (List ℕ)) : Type 0 where
   pub sections : SectionsIn b rows
@@ -96,8 +107,8 @@ pub record BoardChecked (b : Board) (rows : List (List ℕ)) (counts : Counts) (
 
 -- 7 of a sheet that is judged.
 abbrev pub lent_for : (Board → Bool) → Judged → Judged
-lent_for fits (turned_away n l) = turned_away n l
-lent_for fits (board b) = elim (fits b) [ true ↦ board b | false ↦ turned_away 7 0 ]
+lent_for fits (turned_away e) = turned_away e
+lent_for fits (board b) = elim (fits b) [ true ↦ board b | false ↦ turned_away (refusal NoRoom 0) ]
 
 -- Refusals 1 to 7 of a sheet.
 unfoldable pub fitting : Counts → (Board → Bool) → List ℕ → Judged
@@ -120,12 +131,13 @@ pub record TablesHold (b : Board) (ps : List PageLanes) (rows facts taps groups 
   pub groups_known : GroupFacts b ps groups
   pub pages_known : PageFacts ps facts
 
--- What `plan_text` answers and leaves: where a page is crowded, its line and the facts that do not wait for lanes.
+-- What `plan_text` answers and leaves: where a page is crowded, 8 at its line and the facts that do not wait for lanes.
 abbrev pub LanesPlanned : Board → Planned → (rows facts taps groups : List (List ℕ)) → TextPlan → Type 0
-LanesPlanned b (crowded p) rows facts taps groups r = (r ≡ Crowded (counts_in b) (suc p)) × FactsHold b rows facts
+LanesPlanned b (crowded p) rows facts taps groups r =
+    (r ≡ record { counts = counts_in b; taps = Err (refusal NoLane (suc p)) }) × FactsHold b rows facts
 LanesPlanned b (planned ps) rows facts taps groups r =
-    (m : ℕ) × (r ≡ Laned (counts_in b) m) × TablesHold b ps rows facts taps groups m
+    (m : ℕ) × (r ≡ record { counts = counts_in b; taps = Ok m }) × TablesHold b ps rows facts taps groups m
 
-abbrev pub TextPlanned : Judged → (rows facts taps groups : List (List ℕ)) → TextPlan → Type 0
-TextPlanned (turned_away n l) rows facts taps groups r = r ≡ Refused n l
-TextPlanned (board b) rows facts taps groups r = LanesPlanned b (plan_lanes b) rows facts taps groups r
+abbrev pub TextPlanned : Judged → (rows facts taps groups : List (List ℕ)) → Result TextPlan Refusal → Type 0
+TextPlanned (turned_away e) rows facts taps groups r = r ≡ Err e
+TextPlanned (board b) rows facts taps groups r = (t : TextPlan) × (r ≡ Ok t) × LanesPlanned b (plan_lanes b) rows facts taps groups t

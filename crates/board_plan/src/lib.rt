@@ -1,7 +1,7 @@
 // `plan_bus`: from a sheet's text to the lanes of every page, with every refusal in its order. Each call of the router starts with `plan_text`.
 #![tactic(auto)]
 
-ghost use Rattle.std.specs.Prelude.{◌≡◌, true, List, ◌++◌, map, ℕ, ◌+◌, ◌≤◌, ◌<◌, min, length, drop};
+ghost use Rattle.std.specs.Prelude.{◌≡◌, true, List, ◌++◌, map, ℕ, ◌+◌, ◌≤◌, ◌<◌, length, drop};
 ghost use Rattle.sheet.specs.Table.{library_most};
 ghost use Rattle.lanes.specs.Lanes.{lane_most};
 ghost use Rattle.board.specs.Board.{Board, field};
@@ -14,11 +14,15 @@ ghost use Rattle.board.specs.Walk.{WithinLibrary};
 ghost use Rattle.board_plan.specs.TextPlan.{fits_lent, shortest, work_rows, asked_for, has_room, fits_counts, WorkLent, BoardRead, BoardChecked, lent_for, fitting, LanesPlanned, TextPlanned};
 ghost use Rattle.board_plan.specs.PagesPlan.{plan_call, PagesPlanned};
 
+pub mod sections;
+
 use base::numbers::{BUS_BAND_GUTTER, LANE_PITCH};
+use base::refusal::{Reason, Refusal};
 use base::rows::{IdRow, PageRow, Record, WorkRow};
 use board::refusals::check_board;
-use board_lanes::demands::{Plan, plan_board};
-use sheet::{Checked, Counts, library_most};
+use board_lanes::demands::plan_board;
+use sections::cut_sections;
+use sheet::{Counts, library_most};
 
 // The lengths of what is lent: rerouters, bus wires, suppressed ports, page answers, the rows of the shortest slice of work space, and bytes for the plan sheet's
 // text. A call that is not lent one of them says as much as the largest board asks for.
@@ -39,20 +43,12 @@ pub struct Asked {
     pub lent: Lent,
 }
 
-// What planning a sheet's text answers: a refusal and its place, the line of the first crowded page, or that the tables hold the board and its lanes. A crowded
-// page is not refused here: what a call asks for beyond the lent lengths is a 7, and goes before the 8.
+// A board that 1 to 7 leave: how many records it has; and how many taps, with its lanes in the tables, or 8 at the line of its first crowded page. A call gives
+// that refusal itself: what it asks for beyond the lent lengths is a 7, and goes before the 8.
 #[derive(Clone, Copy)]
-pub enum TextPlan {
-    Refused { number: usize, place: usize },
-    Crowded { counts: Counts, place: usize },
-    Laned { counts: Counts, taps: usize },
-}
-
-// What `plan_bus` answers: a refusal and its place, or how many pages have their answer.
-#[derive(Clone, Copy)]
-pub enum PagesPlan {
-    Refused { number: usize, place: usize },
-    Planned(usize),
+pub struct TextPlan {
+    pub counts: Counts,
+    pub taps: Result<usize, Refusal>,
 }
 
 // What the largest board asks for.
@@ -69,23 +65,13 @@ pub const OUT_MOST: usize = 12_591_232;
 // S16: so many rows of marks are lent for a record.
 pub const MARK_ROWS: usize = 5;
 
-pub fn lesser(a: usize, b: usize) -> usize
-    ensures { result ≡ min a b }
-{
-    if a < b { a } else { b }
-}
-
 // The rows of the shortest of seven slices.
 pub fn shortest_of(lengths: [usize; 7]) -> usize
     ensures { result ≡ shortest lengths }
 {
-    let mut least = lengths[6];
-    let mut k: usize = 6;
-    while 0 < k {
-        k -= 1;
-        least = lesser(lengths[k], least);
-    }
-    least
+    let last = lengths[5].min(lengths[6]);
+    let middle = lengths[3].min(lengths[4].min(last));
+    lengths[0].min(lengths[1].min(lengths[2].min(middle)))
 }
 
 // What a call asks that writes no text: by the lengths of its rerouters, bus wires, suppressed ports and page answers, and the records for which there is room in
@@ -172,39 +158,25 @@ fn plan_rows(
         facts.old taps.old groups.old demands.old keys.old spare.old
         → LanesPlanned b (plan_lanes b) records.now facts.new taps.new groups.new result }
 {
-    let nodes = counts.pages;
-    let chips = nodes + counts.nodes;
-    let inner = chips + counts.chips;
-    let execs = inner + counts.inner;
-    let wires = execs + counts.execs;
-    let end = wires + counts.wires;
-    let planned = plan_board(
-        &records[..nodes],
-        &records[nodes..chips],
-        &records[chips..inner],
-        &records[inner..execs],
-        &records[execs..wires],
-        &records[wires..end],
-        body_index,
-        inner_index,
-        facts,
-        taps,
-        groups,
-        demands,
-        keys,
-        spare,
-    );
-    let plan = planned.plan;
-    let found = planned.taps;
-    match plan {
-        Plan::Crowded(p) => TextPlan::Crowded {
-            counts,
-            place: p + 1,
-        },
-        Plan::Laned => TextPlan::Laned {
-            counts,
-            taps: found,
-        },
+    let s = cut_sections(records, counts);
+    TextPlan {
+        counts,
+        taps: plan_board(
+            s.pages,
+            s.nodes,
+            s.chips,
+            s.inner,
+            s.execs,
+            s.wires,
+            body_index,
+            inner_index,
+            facts,
+            taps,
+            groups,
+            demands,
+            keys,
+            spare,
+        ),
     }
 }
 
@@ -221,19 +193,19 @@ fn plan_fitting(
     demands: &mut [WorkRow],
     keys: &mut [WorkRow],
     spare: &mut [WorkRow],
-) -> TextPlan
+) -> Result<TextPlan, Refusal>
     requires work_lent { WorkLent lent.work (length records.now) facts.old taps.old groups.old demands.old keys.old spare.old }
     requires board_checked { (b : Board) × BoardChecked b records.now counts body_index.now inner_index.now }
     ensures { (b : Board) → BoardChecked b records.now counts body_index.now inner_index.now
         → TextPlanned (lent_for (fits_lent lent) (Refusals.board b)) records.now facts.new taps.new groups.new result }
 {
     if !fits(lent, counts) {
-        return TextPlan::Refused {
-            number: 7,
+        return Err(Refusal {
+            reason: Reason::NoRoom,
             place: 0,
-        };
+        });
     }
-    plan_rows(
+    Ok(plan_rows(
         records,
         counts,
         body_index,
@@ -244,7 +216,7 @@ fn plan_fitting(
         demands,
         keys,
         spare,
-    )
+    ))
 }
 
 // Refusals 1 to 7 of a sheet in their order, or its board in the tables, with the first crowded page or the lanes of all. `asked.lent.work` rows at
@@ -259,7 +231,7 @@ pub fn plan_text(
     demands: &mut [WorkRow],
     keys: &mut [WorkRow],
     spare: &mut [WorkRow],
-) -> TextPlan
+) -> Result<TextPlan, Refusal>
     requires work_lent { WorkLent asked.lent.work (length records.old) facts.old taps.old groups.old demands.old keys.old spare.old }
     requires within_library { WithinLibrary asked.most }
     ensures { TextPlanned (fitting asked.most (fits_lent asked.lent) text.now) records.new facts.new taps.new groups.new result }
@@ -267,17 +239,10 @@ pub fn plan_text(
     let mut body = [[0u32; 3]; 4096];
     let mut chips = [[0u32; 3]; 4096];
     let mut inner = [[0u32; 3]; 4096];
-    let most = asked.most;
-    let lent = asked.lent;
-    match check_board(text, most, records, &mut body, &mut chips, &mut inner) {
-        Checked::Refused { number, line } => TextPlan::Refused {
-            number,
-            place: line,
-        },
-        Checked::Fine(counts) => plan_fitting(
-            lent, records, counts, &body, &inner, facts, taps, groups, demands, keys, spare,
-        ),
-    }
+    let counts = check_board(text, asked.most, records, &mut body, &mut chips, &mut inner)?;
+    plan_fitting(
+        asked.lent, records, counts, &body, &inner, facts, taps, groups, demands, keys, spare,
+    )
 }
 
 // D4: a page's band, by its count of lanes.
@@ -298,15 +263,13 @@ pub fn write_pages(facts: &[WorkRow], n: usize, answers: &mut [PageRow])
     requires by_index { (p : ℕ) → p < n → field facts.now p 6 ≤ lane_most }
     ensures { (ps : List PageLanes) → length ps ≡ n → PageFacts ps facts.now → answers.new ≡ map page_row ps ++ drop n answers.old }
 {
-    let mut p: usize = 0;
-    while p < n {
+    for p in 0..n {
         let lanes = facts[p][6];
         answers[p] = [lanes, band(lanes)];
-        p += 1;
     }
 }
 
-// The lanes and the band of every page of a sheet's board. Each slice of work space has a row for each record, the marks five.
+// The lanes and the band of every page of a sheet's board; how many pages there are comes back. Each slice of work space has a row for each record, the marks five.
 pub fn plan_bus(
     text: &[u8],
     answers: &mut [PageRow],
@@ -317,7 +280,7 @@ pub fn plan_bus(
     demands: &mut [WorkRow],
     keys: &mut [WorkRow],
     marks: &mut [WorkRow],
-) -> PagesPlan
+) -> Result<usize, Refusal>
     ensures { PagesPlanned (plan_call text.now (length answers.old) (work_rows records.old facts.old taps.old groups.old demands.old keys.old marks.old))
         answers.old answers.new result }
 {
@@ -333,15 +296,11 @@ pub fn plan_bus(
             marks.len() / MARK_ROWS,
         ],
     );
-    match plan_text(
+    let planned = plan_text(
         text, asked, records, facts, taps, groups, demands, keys, marks,
-    ) {
-        TextPlan::Refused { number, place } => PagesPlan::Refused { number, place },
-        TextPlan::Crowded { counts: _, place } => PagesPlan::Refused { number: 8, place },
-        TextPlan::Laned { counts, taps: _ } => {
-            let pages = counts.pages;
-            write_pages(facts, pages, answers);
-            PagesPlan::Planned(pages)
-        }
-    }
+    )?;
+    planned.taps?;
+    let pages = planned.counts.pages;
+    write_pages(facts, pages, answers);
+    Ok(pages)
 }

@@ -1,17 +1,17 @@
 -- Laws of the lane table: a lane is found, and gets its tenant.
-use mathlib.Core.Path.{◌≡◌, refl, sym, ap, ◌∙◌}
-use mathlib.Core.Bool.{Bool, true, false, ◌||◌}
+use mathlib.Core.Path.{◌≡◌, refl, sym, ap, subst, ◌∙◌}
+use mathlib.Core.Bool.{Bool, true, false}
 use mathlib.Core.List.{List, [], ◌∷◌, ◌++◌}
-use Prim.Native.Nat.{ℕ, zero, suc, ◌+◌, ◌≤◌, ◌<◌}
+use Prim.Native.Nat.{ℕ, zero, suc, ◌+◌, ◌-◌, ◌≤◌, ◌<◌, max}
 use native.Mathlib.Numerals.{add-one}
 use native.Mathlib.Omega.{arith}
-use lib.ListN.{length, get_or, take, set}
+use lib.ListN.{length, get_or, take, drop, set, length-drop}
 use lib.Seq.{take-set-lt, take-suc-set, length-take-le}
+use Rattle.std.proofs.lemmas.List.{get_or-take, get_or-drop}
+use Rattle.lanes.specs.Table.{NoneBefore}
 use lib.Dec.{ltb}
 use borrow.Author.Tests.{lt-ltb, le-ltb, ltb-true, ltb-false}
 use Rattle.lanes.specs.Lanes.{lane_for, with_tenant}
-use Rattle.lanes.specs.Table.{NoneBefore, opened_to}
-use Rattle.base.proofs.Bools.{or_left, or_right}
 use Rattle.lanes.proofs.FindLaws.{Passed, passed_more, passed_found, passed_all}
 
 -- in an open lane the last row is replaced, and a new lane comes behind the open ones
@@ -36,38 +36,44 @@ module _ (ends : List ℕ) (count l last : ℕ) where
   table_new h k = rw (h, add-one count) (take-suc-set ends count last k ∙ sym (tenant_new count last (take count ends) (length-take-le count ends (omega arith))))
 
   -- in either case
-  pub table_after : l ≤ count → count ≤ length ends → l < length ends → take (opened_to count l) (set ends l last) ≡ with_tenant l last (take count ends)
+  pub table_after : l ≤ count → count ≤ length ends → l < length ends → take (max count (l + 1)) (set ends l last) ≡ with_tenant l last (take count ends)
   table_after h k m = go (ltb l count) refl
     where
-      go : (b : Bool) → ltb l count ≡ b → take (opened_to count l) (set ends l last) ≡ with_tenant l last (take count ends)
-      go true t = rw t (table_set (ltb-true l count t) k)
-      go false t = let e : l ≡ count = omega (arith, h, ltb-false l count t) in rw t (table_new e (omega arith))
+      go : (b : Bool) → ltb l count ≡ b → take (max count (l + 1)) (set ends l last) ≡ with_tenant l last (take count ends)
+      go true t = let still : max count (l + 1) ≡ count = omega (arith, ltb-true l count t) in rw still (table_set (ltb-true l count t) k)
+      go false t =
+          let e : l ≡ count = omega (arith, h, ltb-false l count t) in
+          let opened : max count (l + 1) ≡ l + 1 = omega (arith, e) in
+          rw opened (table_new e (omega arith))
 
 -- the search for a lane over the open ones
 abbrev pub ends_before : ℕ → ℕ → Bool
 ends_before first end = ltb end first
-
--- one more asked
-pub none_more : (first l i : ℕ) (ends : List ℕ) (some : Bool) → (some ≡ false → NoneBefore first ends l i) → (some || ltb (get_or ends (l + i) 0) first) ≡ false → NoneBefore first ends l (i + 1)
-none_more first l i ends some so_far none j h = go (ltb j i) refl
-  where
-    go : (b : Bool) → ltb j i ≡ b → first ≤ get_or ends (l + j) 0
-    go true t = so_far (or_left some (ltb (get_or ends (l + i) 0) first) none) j (ltb-true j i t)
-    go false t =
-        let e : j ≡ i = omega (arith, h, ltb-false j i t) in
-        rw e (ltb-false (get_or ends (l + i) 0) first (or_right some (ltb (get_or ends (l + i) 0) first) none))
 
 module _ (ends : List ℕ) (first l : ℕ) (so_far : Passed (ends_before first) ends l) where
   pub lane_passed : l < length ends → first ≤ get_or ends l 0 → Passed (ends_before first) ends (l + 1)
   lane_passed h k = passed_more (ends_before first) ends l so_far 0 h (le-ltb _ _ k)
 
   -- several at once
-  pub lanes_passed : (n : ℕ) → l + n ≤ length ends → NoneBefore first ends l n → Passed (ends_before first) ends (l + n)
+  pub lanes_passed : (n : ℕ) → l + n ≤ length ends → ((j : ℕ) → j < n → first ≤ get_or ends (l + j) 0) → Passed (ends_before first) ends (l + n)
   lanes_passed zero h none = let e : l + 0 ≡ l = omega arith in rw e so_far
   lanes_passed (suc n) h none =
       let e : l + suc n ≡ l + n + 1 = omega arith in
       let p : Passed (ends_before first) ends (l + n) = lanes_passed n (omega arith) (λ j k. none j (omega (arith, k))) in
       rw e (passed_more (ends_before first) ends (l + n) p 0 (omega arith) (le-ltb _ _ (none n (omega arith))))
+
+  -- eight, asked in a slice
+  pub eight_passed : l + 8 ≤ length ends → NoneBefore first (take (l + 8 - l) (drop l ends)) → Passed (ends_before first) ends (l + 8)
+  eight_passed h none = lanes_passed 8 h (λ j k. subst (λ (end : ℕ). first ≤ end) (at j k) (none j (rw (long) k)))
+    where
+      eight : l + 8 - l ≡ 8
+      eight = omega arith
+
+      long : length (take (l + 8 - l) (drop l ends)) ≡ 8
+      long = length-take-le (l + 8 - l) (drop l ends) (omega (arith, length-drop l ends)) ∙ eight
+
+      at : (j : ℕ) → j < 8 → get_or (take (l + 8 - l) (drop l ends)) j 0 ≡ get_or ends (l + j) 0
+      at j k = get_or-take (l + 8 - l) (drop l ends) j 0 (omega arith) ∙ get_or-drop l ends j 0
 
   pub lane_found : l < length ends → get_or ends l 0 < first → l ≡ lane_for first ends
   unfolding lane_for

@@ -1,34 +1,26 @@
--- Laws of a list of numbers, four a demand.
-use mathlib.Core.Path.{◌≡◌, refl}
-use mathlib.Core.List.{List, [], ◌∷◌}
-use Prim.Native.Nat.{ℕ, zero, suc, ◌+◌, ◌*◌, ◌/◌, ◌<◌}
+-- Laws of rows of numbers whose first four are a demand, and of a list of numbers that is cut into them.
+use mathlib.Core.Path.{◌≡◌, refl, sym, ap, ◌∙◌}
+use mathlib.Core.List.{List, [], ◌∷◌, map}
+use Prim.Native.Nat.{ℕ, suc, ◌/◌, ◌<◌}
 use native.Mathlib.Omega.{arith}
-use lib.ListN.{length, get_or}
-use Rattle.lanes.specs.Lanes.{Demand}
+use lib.ListN.{length, get_or, get_or-map}
+use Rattle.std.proofs.lemmas.List.{get_or_read_under}
+use Rattle.std.specs.Simd.{first_chunks}
+use Rattle.lanes.specs.Lanes.{Demand, no_demand}
 use Rattle.lanes.specs.LaneCall.{demands_of}
+use Rattle.lanes.specs.Keys.{demand_of}
 
-pub length-demands : (ns : List ℕ) → length (demands_of ns) ≡ length ns / 4
-unfolding demands_of
-length-demands [] = refl
-length-demands (a ∷ []) = refl
-length-demands (a ∷ b ∷ []) = refl
-length-demands (a ∷ b ∷ c ∷ []) = refl
-length-demands (a ∷ b ∷ c ∷ d ∷ ns) = let e : length (demands_of ns) ≡ length ns / 4 = length-demands ns in omega arith
+-- the demand in a row that is read
+pub demand_read : (rows : List (List ℕ)) (i : ℕ) (row : List ℕ) → row ≡ get_or rows i row → i < length rows → demand_of row ≡ get_or (map demand_of rows) i no_demand
+unfolding demand_of
+demand_read rows i row is h = ap demand_of (get_or_read_under rows i (length rows) row [] is h refl) ∙ sym (get_or-map demand_of rows i [])
 
--- the demand at an index, where it is whole
-abbrev pub demand_at : List ℕ → ℕ → Demand
-demand_at ns at = record { first = get_or ns at 0; last = get_or ns (at + 1) 0; consumers = get_or ns (at + 2) 0; order = get_or ns (at + 3) 0 }
-
-pub demand_at_lem : (o : Demand) (ns : List ℕ) (i : ℕ) → 4 * i + 3 < length ns → get_or (demands_of ns) i o ≡ demand_at ns (4 * i)
-unfolding demands_of
-demand_at_lem o [] i h = absurd (omega arith)
-demand_at_lem o (a ∷ []) i h = absurd (omega arith)
-demand_at_lem o (a ∷ b ∷ []) i h = absurd (omega arith)
-demand_at_lem o (a ∷ b ∷ c ∷ []) i h = absurd (omega arith)
-demand_at_lem o (a ∷ b ∷ c ∷ d ∷ ns) zero h = refl
-demand_at_lem o (a ∷ b ∷ c ∷ d ∷ ns) (suc i) h =
-    let e₀ : 4 * suc i ≡ suc (suc (suc (suc (4 * i)))) = omega arith in
-    let e₁ : 4 * suc i + 1 ≡ suc (suc (suc (suc (4 * i + 1)))) = omega arith in
-    let e₂ : 4 * suc i + 2 ≡ suc (suc (suc (suc (4 * i + 2)))) = omega arith in
-    let e₃ : 4 * suc i + 3 ≡ suc (suc (suc (suc (4 * i + 3)))) = omega arith in
-    rw (e₁, e₂, e₃, e₀) (demand_at_lem o ns i (omega arith))
+pub demands_in_rows : (ns : List ℕ) → map demand_of (first_chunks 4 (length ns / 4) ns) ≡ demands_of ns
+unfolding demands_of demand_of
+demands_in_rows [] = refl
+demands_in_rows (a ∷ []) = refl
+demands_in_rows (a ∷ b ∷ []) = refl
+demands_in_rows (a ∷ b ∷ c ∷ []) = refl
+demands_in_rows (a ∷ b ∷ c ∷ d ∷ ns) =
+    let one_more : length (a ∷ b ∷ c ∷ d ∷ ns) / 4 ≡ suc (length ns / 4) = omega arith in
+    rw one_more (ap {B = List Demand} (λ ds. record { first = a; last = b; consumers = c; order = d } ∷ ds) (demands_in_rows ns))

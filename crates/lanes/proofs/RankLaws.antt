@@ -14,7 +14,8 @@ use Rattle.lanes.specs.LaneCall.{row_most, count_most, faulty, Sound}
 use Rattle.lanes.specs.Keys.{rank_of, key_of, entry_of, Fitting, lanes_in, result_of, Seated}
 use Rattle.base.proofs.Bools.{clash}
 use Rattle.base.proofs.SortLaws.{lex_lt, lex_eq, lex_gt, Compared, below, same, above, compared, inserted_past, inserted_here}
-use Rattle.lanes.specs.declared.pack.Packing.{Packing}
+use Rattle.std.specs.Prelude.{Result}
+use Rattle.lanes.specs.declared.pack.LanesFull.{LanesFull}
 use Rattle.lanes.proofs.SpreadLaws.{Covers}
 use Rattle.base.proofs.Every.{All, Any, all_of, all_inserted, all_sorted, any_sorted, all_at, all_mapped, any_mapped, any-map, inserted_keys, Agrees}
 
@@ -193,7 +194,7 @@ unfolding ranked
 ranked_distinct ds = distinct_sorted 0 ds
 
 -- key rows of the demands, sorted and seated
-module _ (ds : List Demand) (sound : Sound ds) (seated : List (List ℕ)) (r : Packing) (s : Seated (sorted_rows (map key_of (entries 0 ds))) seated r) where
+module _ (ds : List Demand) (sound : Sound ds) (seated : List (List ℕ)) (r : Result ℕ LanesFull) (s : Seated (sorted_rows (map key_of (entries 0 ds))) seated r) where
   rank_keys : map entry_of (sorted_rows (map key_of (entries 0 ds))) ≡ ranked ds
   unfolding sorted_rows ranked
   rank_keys = ap (map entry_of) (sorted_keys_lem 0 ds (all_of Allowed no_demand ds (λ i h. allowed (get_or ds i no_demand) (sound i h)))) ∙ entries_of_keys (sorted ahead (entries 0 ds))

@@ -1,10 +1,9 @@
 -- How the code holds demands in rows of eight numbers.
-use Rattle.std.specs.Prelude.{◌≡◌, ℕ, ◌+◌, ◌-◌, ◌*◌, ◌≤◌, ◌<◌, List, [], ◌∷◌, map, length, get_or, set, take}
-use Rattle.lanes.specs.Lanes.{Demand, Entry, span, entries, Packed, full, laned, pack_in, packed}
+use Rattle.std.specs.Prelude.{◌≡◌, ℕ, ◌+◌, ◌-◌, ◌*◌, ◌≤◌, ◌<◌, List, [], ◌∷◌, map, length, get_or, set, take, Result, Ok, Err}
+use Rattle.lanes.specs.Lanes.{Demand, Entry, span, Packed, full, laned, pack_in, packed}
 use Rattle.lanes.specs.LaneCall.{row_most, count_most, answer_to, answered}
 use Rattle.lanes.specs.declared.pack.BusDemand.{BusDemand}
-use Rattle.lanes.specs.declared.pack.Packing.{Packing}
-use Rattle.lanes.specs.declared.pack.Packing.TheVariants.{Lanes, Full}
+use Rattle.lanes.specs.declared.pack.LanesFull.{LanesFull}
 
 -- a demand of the code
 abbrev pub demand_in : BusDemand → Demand
@@ -62,19 +61,14 @@ each_with put (x ∷ xs) [] = x ∷ xs
 each_with put (x ∷ xs) (l ∷ lanes) = put x l ∷ each_with put xs lanes
 
 -- what a packing says of the definition's answer, with the lanes that it left
-abbrev pub result_of : Packing → List ℕ → Packed
-result_of (Lanes count) lanes = laned lanes count
-result_of (Full i) lanes = full i
+abbrev pub result_of : Result ℕ LanesFull → List ℕ → Packed
+result_of (Ok count) lanes = laned lanes count
+result_of (Err e) lanes = full e.index
 
 -- key rows in rank order, each with its lane: they hold the entries that they held, and their lanes are those of the definition
-pub record Seated (keys seated : List (List ℕ)) (r : Packing) : Type 0 where
+pub record Seated (keys seated : List (List ℕ)) (r : Result ℕ LanesFull) : Type 0 where
   pub same : map entry_of seated ≡ map entry_of keys
   pub result : (lanes : List ℕ) → pack_in (map entry_of keys) [] lanes ≡ result_of r (lanes_in seated lanes)
-
--- the key rows of a table's rows, each of which has eight numbers
-pub record KeyRows (rows keys : List (List ℕ)) : Type 0 where
-  pub made : keys ≡ map key_of (entries 0 (map demand_of rows))
-  pub wide : (i : ℕ) → i < length rows → length (get_or rows i []) ≡ 8
 
 -- a table's rows once they are packed: as they were where there is no lane for one, else each with its lane
 unfoldable pub rows_after : Packed → List (List ℕ) → List (List ℕ)
@@ -82,11 +76,11 @@ rows_after (full i) rows = rows
 rows_after (laned lanes count) rows = each_with with_lane rows lanes
 
 -- what `pack_rows` promises: its answer, with the lanes in the fifth column, is the definition's, and nothing else of a row is altered
-pub record PackedRows (rows left : List (List ℕ)) (r : Packing) : Type 0 where
+pub record PackedRows (rows left : List (List ℕ)) (r : Result ℕ LanesFull) : Type 0 where
   pub result : packed (map demand_of rows) ≡ result_of r (map lane_column left)
   pub after : left ≡ rows_after (packed (map demand_of rows)) rows
 
 -- the same of the lane answers of the lane call
-pub record PackedNumbers (ds : List Demand) (old left : List ℕ) (r : Packing) : Type 0 where
+pub record PackedNumbers (ds : List Demand) (old left : List ℕ) (r : Result ℕ LanesFull) : Type 0 where
   pub result : packed ds ≡ result_of r (take (length ds) left)
   pub after : left ≡ answered (answer_to (packed ds)) old

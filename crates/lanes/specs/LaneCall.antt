@@ -1,9 +1,9 @@
 -- E, what turns a board away, of the lane call: what it takes, what it answers, and what it leaves in the lane answers.
-use Rattle.std.specs.Prelude.{◌≡◌, ℕ, ◌<◌, ◌/◌, ◌%◌, Bool, false, cond, ◌||◌, List, [], ◌∷◌, ◌++◌, ltb, length, drop, get_or}
+use Rattle.std.specs.Prelude.{◌≡◌, ℕ, ◌<◌, ◌/◌, ◌%◌, Bool, false, cond, ◌||◌, List, [], ◌∷◌, ◌++◌, ltb, length, drop, get_or, Result, Ok, Err}
 use Rattle.lanes.specs.Lanes.{Demand, no_demand, Packed, full, laned, packed, first_that}
 use Rattle.lanes.specs.declared.LaneReport.{LaneReport}
-use Rattle.lanes.specs.declared.Allocation.{Allocation}
-use Rattle.lanes.specs.declared.Allocation.TheVariants.{Incomplete, TooMany, OutOfRange, NoRoom, NoLane, Lanes}
+use Rattle.lanes.specs.declared.LaneError.{LaneError}
+use Rattle.lanes.specs.declared.LaneError.TheVariants.{Incomplete, TooMany, OutOfRange, NoRoom, NoLane}
 
 -- E15: the most demands
 abbrev pub demand_most : ℕ
@@ -65,14 +65,14 @@ unfoldable pub answered : LaneAnswer → List ℕ → List ℕ
 answered (refused number place) old = old
 answered (allocated lanes count) old = lanes ++ drop (length lanes) old
 
--- E15: the numbers of each case of the call's enum
-unfoldable pub report_of : Allocation → LaneReport
-report_of (Incomplete i) = record { refusal = 1; place = i; count = 0 }
-report_of TooMany = record { refusal = 2; place = demand_most; count = 0 }
-report_of (OutOfRange i) = record { refusal = 3; place = i; count = 0 }
-report_of NoRoom = record { refusal = 7; place = 0; count = 0 }
-report_of (NoLane i) = record { refusal = 8; place = i; count = 0 }
-report_of (Lanes count) = record { refusal = 0; place = 0; count = count }
+-- E15: the numbers of each answer of the call
+abbrev pub report_of : Result ℕ LaneError → LaneReport
+report_of (Err (Incomplete i)) = record { refusal = 1; place = i; count = 0 }
+report_of (Err TooMany) = record { refusal = 2; place = demand_most; count = 0 }
+report_of (Err (OutOfRange i)) = record { refusal = 3; place = i; count = 0 }
+report_of (Err NoRoom) = record { refusal = 7; place = 0; count = 0 }
+report_of (Err (NoLane i)) = record { refusal = 8; place = i; count = 0 }
+report_of (Ok count) = record { refusal = 0; place = 0; count = count }
 
 -- what the lane call promises: its answer as numbers, and the lane answers that it leaves
 pub record Answered (numbers old left : List ℕ) (work spare : ℕ) (r : LaneReport) : Type 0 where

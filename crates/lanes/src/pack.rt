@@ -1,10 +1,11 @@
 // Packing demands into lanes over key rows: rank by span and consumers, order, 0, index, first row, last row, consumers, lane.
-ghost use Rattle.std.specs.Prelude.{◌≡◌, false, ◌≤◌, length, set};
-ghost use Rattle.lanes.specs.LaneCall.{faulty};
+ghost use Rattle.std.specs.Prelude.{◌≡◌, false, ℕ, ◌≤◌, ◌<◌, [], map, length, get_or, set};
 ghost use Rattle.base.specs.Sort.{sorted_rows};
-ghost use Rattle.lanes.specs.Keys.{key_of, demand_in, index_in, lane_in, Fitting, Seated};
+ghost use Rattle.lanes.specs.Lanes.{entries};
+ghost use Rattle.lanes.specs.LaneCall.{demand_most, faulty, Sound};
+ghost use Rattle.lanes.specs.Keys.{demand_in, demand_of, key_of, index_in, spread, Fitting, Seated};
 
-use crate::table::{LANE_MOST, LaneTable, Seat, take_lane};
+use crate::table::{LANE_MOST, LaneTable};
 use base::rows::WorkRow;
 use base::sort::sort_rows;
 
@@ -13,11 +14,10 @@ pub(crate) const ROW_MOST: u32 = 4095;
 
 pub(crate) const COUNT_MOST: u32 = 8192;
 
-// The lanes in use, or the index of the demand that would open one too many.
-#[derive(Clone, Copy)]
-pub enum Packing {
-    Lanes(usize),
-    Full(usize),
+// The demand at the index would open one lane too many.
+#[derive(Clone, Copy, Debug, PartialEq, Eq)]
+pub struct LanesFull {
+    pub index: usize,
 }
 
 // What a group asks of the bus: its first and last row, its consumers, and its place in source order.
@@ -29,9 +29,23 @@ pub(crate) struct BusDemand {
     pub order: u32,
 }
 
+// The demand in the first four numbers of a row.
+#[tactic(auto, unfolding(crate::specs::Keys::demand_of))]
+pub(crate) fn demand_in<const N: usize>(row: &[u32; N]) -> BusDemand
+    requires { 4 ≤ N }
+    ensures { demand_in result ≡ demand_of row.now }
+{
+    BusDemand {
+        first: row[0],
+        last: row[1],
+        consumers: row[2],
+        order: row[3],
+    }
+}
+
 // L2: a demand's key row. Its rank counts down from the most, span before consumers, so that rows in rising order are demands as
 // they are packed.
-pub(crate) fn key_row(d: BusDemand, index: u32) -> [u32; 8]
+fn key_row(d: BusDemand, index: u32) -> WorkRow
     requires { faulty (demand_in d) ≡ false }
     ensures { result ≡ key_of (record { index = index; demand = demand_in d }) }
 {
@@ -47,24 +61,19 @@ pub(crate) fn key_row(d: BusDemand, index: u32) -> [u32; 8]
     ]
 }
 
-// The index of a key row's demand.
-pub(crate) fn index_in(key: [u32; 8]) -> usize
-    ensures { result ≡ index_in key }
+// Writes each demand's key row.
+fn write_keys<const N: usize>(demands: &[[u32; N]], keys: &mut [WorkRow])
+    requires four { 4 ≤ N }
+    requires keys_len { (length keys.old ≡ length demands.now) × (length keys.old ≤ demand_most) × Sound (map demand_of demands.now) }
+    ensures { keys.new ≡ map key_of (entries 0 (map demand_of demands.now)) }
 {
-    key[3] as usize
-}
-
-// The key row with its lane.
-fn with_lane(key: [u32; 8], lane: u32) -> [u32; 8]
-    ensures { (result ≡ set key 7 lane) × (lane_in result ≡ lane) }
-{
-    let mut next = key;
-    next[7] = lane;
-    next
+    for (i, demand) in demands.iter().enumerate() {
+        keys[i] = key_row(demand_in(demand), i as u32);
+    }
 }
 
 // Gives each key row in turn its lane, in its last column.
-fn seat_keys(keys: &mut [WorkRow]) -> Packing
+fn seat_keys(keys: &mut [WorkRow]) -> Result<usize, LanesFull>
     requires { Fitting keys.old }
     ensures { Seated keys.old keys.new result }
 {
@@ -72,26 +81,61 @@ fn seat_keys(keys: &mut [WorkRow]) -> Packing
         ends: [0; LANE_MOST],
         count: 0,
     };
-    let mut k: usize = 0;
-    while k < keys.len() {
-        let row = keys[k];
-        let taken = take_lane(table, row[4] as u16, row[5] as u16);
-        let seat = taken.seat;
-        let Seat::Lane(lane) = seat else {
-            return Packing::Full(index_in(row));
-        };
-        keys[k] = with_lane(row, lane);
+    for key in keys.iter_mut() {
+        let index = key[3] as usize;
+        let taken = table.take_lane(key[4] as u16, key[5] as u16);
         table = taken.table;
-        k += 1;
+        key[7] = taken.seat.ok_or(LanesFull { index })?;
     }
-    Packing::Lanes(table.count)
+    Ok(table.count)
 }
 
-// Sorts the key rows and gives each its lane.
-pub(crate) fn pack_keys(keys: &mut [WorkRow], spare: &mut [WorkRow]) -> Packing
-    requires { (length keys.old ≤ length spare.old) × Fitting keys.old }
-    ensures { Seated (sorted_rows keys.old) keys.new result }
+// Packs demands that are not faulty, by way of their key rows: where each has a lane, its key row holds it.
+pub(crate) fn pack_demands<const N: usize>(
+    demands: &[[u32; N]],
+    keys: &mut [WorkRow],
+    spare: &mut [WorkRow],
+) -> Result<usize, LanesFull>
+    requires four { 4 ≤ N }
+    requires keys_len { (length keys.old ≡ length demands.now) × (length keys.old ≤ demand_most) × Sound (map demand_of demands.now) }
+    requires spare_len { length keys.old ≤ length spare.old }
+    ensures { Seated (sorted_rows (map key_of (entries 0 (map demand_of demands.now)))) keys.new result }
 {
+    write_keys(demands, keys);
     sort_rows(keys, spare);
     seat_keys(keys)
+}
+
+// Where a demand's lane goes.
+pub(crate) trait Place {
+    ghost with_lane: { Self → ℕ → Self };
+
+    fn put_lane(&mut self, lane: u32)
+        ensures { self.new ≡ with_lane self.old lane };
+}
+
+impl Place for u32 {
+    ghost with_lane = { λ place lane. lane };
+
+    fn put_lane(&mut self, lane: u32) {
+        *self = lane;
+    }
+}
+
+impl Place for WorkRow {
+    ghost with_lane = { λ row lane. set row 4 lane };
+
+    fn put_lane(&mut self, lane: u32) {
+        self[4] = lane;
+    }
+}
+
+// Puts each key row's lane to the place at its index.
+pub(crate) fn put_lanes<P: Place>(keys: &[WorkRow], places: &mut [P])
+    requires { (k : ℕ) → k < length keys.now → index_in (get_or keys.now k []) < length places.old }
+    ensures { (none : P) → places.new ≡ spread P.with_lane none keys.now places.old }
+{
+    for key in keys {
+        places[key[3] as usize].put_lane(key[7]);
+    }
 }

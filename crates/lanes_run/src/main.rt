@@ -2,19 +2,14 @@
 // first four lane answers, which hold 9 before the first call.
 #![tactic(auto)]
 
+use lanes::LaneReport;
 use std::io;
 use std::io::Print;
 
 // The first four lane answers.
 fn show_lanes<P: Print>(rt: &P, lanes: &[u32]) -> io::Result<()> {
-    let mut i: usize = 0;
-    while i < 4 {
-        if lanes.len() <= i {
-            return Ok(());
-        }
-        let lane = lanes[i];
+    for lane in lanes.iter().take(4) {
         print!(rt; " {lane}")?;
-        i += 1;
     }
     Ok(())
 }
@@ -23,7 +18,7 @@ fn show_lanes<P: Print>(rt: &P, lanes: &[u32]) -> io::Result<()> {
 fn run<P: Print>(rt: &P, demands: &[u32], lanes: &mut [u32]) -> io::Result<()> {
     let mut work = [[0u32; 8]; 600];
     let mut spare = [[0u32; 8]; 600];
-    let r = lanes::report(lanes::allocate_lanes(demands, lanes, &mut work, &mut spare));
+    let r = LaneReport::from(lanes::allocate_lanes(demands, lanes, &mut work, &mut spare));
     print!(rt; "{} {} {}:", r.refusal, r.place, r.count)?;
     show_lanes(rt, lanes)?;
     println!(rt; "")

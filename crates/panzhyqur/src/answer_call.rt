@@ -1,5 +1,5 @@
 // The call for C and Rust: the answer as a number.
-ghost use Rattle.std.specs.Prelude.{◌≡◌, length};
+ghost use Rattle.std.specs.Prelude.{length};
 ghost use Rattle.board_plan.specs.TextPlan.{work_rows};
 ghost use Rattle.sheet.specs.Table.{library_most};
 ghost use Rattle.program_answer.specs.Answering.{Answered, answer_lent, answer_call};
@@ -7,19 +7,9 @@ ghost use Rattle.panzhyqur.specs.AnswerCall.{answer_number};
 ghost use Rattle.panzhyqur.specs.InNumbers.{InNumbers};
 
 use base::rows::{BusWireRow, PageRow, PortRow, Record, RerouterRow, WorkRow};
-use program_answer::Answer;
 use program_answer::calls::answer;
 
 // How many bytes were written, 0 for none: every plan sheet and every E line has some.
-fn bytes_written(answer: Answer) -> usize
-    ensures { result ≡ answer_number answer }
-{
-    match answer {
-        Answer::Short => 0,
-        Answer::Written(n) => n,
-    }
-}
-
 #[unsafe(no_mangle)]
 pub extern "C" fn pz_answer(
     text: &[u8],
@@ -39,8 +29,9 @@ pub extern "C" fn pz_answer(
     ensures { InNumbers answer_number (Answered (answer_call library_most text.now (answer_lent (length rerouters.old) (length bus_wires.old) (length ports.old) (length answers.old) (length out.old) (work_rows records.old facts.old taps.old groups.old demands.old keys.old marks.old)))
         out.old rerouters.old bus_wires.old ports.old answers.old out.new rerouters.new bus_wires.new ports.new answers.new) result }
 {
-    bytes_written(answer(
+    answer(
         text, out, rerouters, bus_wires, ports, answers, records, facts, taps, groups, demands,
         keys, marks,
-    ))
+    )
+    .unwrap_or(0)
 }

@@ -6,9 +6,11 @@ ghost use Rattle.panzhyqur.specs.BusCalls.{plan_numbers};
 ghost use Rattle.panzhyqur.specs.InNumbers.{InNumbers};
 ghost use Rattle.routes_calls.specs.Route.{plan_fits, route_call, PlanCalled};
 
+use base::refusal::Refusal;
 use base::rows::{BusWireRow, PageRow, PortRow, Record, RerouterRow, WorkRow};
 use routes_calls::route::route;
-use routes_gutter::bus::{BusPlan, lay_bus};
+use routes_gutter::bus::lay_bus;
+use routes_gutter::laying::BusLaid;
 
 // A refusal and its place, 0 for none; and how many rerouters, bus wires and suppressed ports stand in the buffers, and how many groups were laid.
 #[repr(C)]
@@ -22,30 +24,25 @@ pub struct PlanNumbers {
     pub groups: usize,
 }
 
-fn in_numbers(plan: BusPlan) -> PlanNumbers
+fn in_numbers(plan: Result<BusLaid, Refusal>) -> PlanNumbers
     ensures { result ≡ plan_numbers plan }
 {
     match plan {
-        BusPlan::Refused { number, place } => PlanNumbers {
-            refusal: number,
-            place,
+        Err(e) => PlanNumbers {
+            refusal: e.reason.number(),
+            place: e.place,
             rerouters: 0,
             bus_wires: 0,
             ports: 0,
             groups: 0,
         },
-        BusPlan::Laid {
-            rerouters,
-            bus_wires,
-            ports,
-            groups,
-        } => PlanNumbers {
+        Ok(laid) => PlanNumbers {
             refusal: 0,
             place: 0,
-            rerouters,
-            bus_wires,
-            ports,
-            groups,
+            rerouters: laid.bus.rerouters,
+            bus_wires: laid.bus.bus_wires,
+            ports: laid.bus.ports,
+            groups: laid.groups,
         },
     }
 }

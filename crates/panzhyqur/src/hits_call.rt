@@ -5,6 +5,7 @@ ghost use Rattle.routes_hits.specs.Finding.{hits_fit, hits_call, HitsCalled};
 ghost use Rattle.panzhyqur.specs.HitsCall.{hits_numbers};
 ghost use Rattle.panzhyqur.specs.InNumbers.{InNumbers};
 
+use base::refusal::Refusal;
 use base::rows::{BusWireRow, PageRow, PortRow, Record, RerouterRow, WorkRow};
 use routes_hits::boxes::PageBox;
 use routes_hits::find::{HitsFound, find_hits};
@@ -23,13 +24,13 @@ pub struct HitsNumbers {
     pub groups: usize,
 }
 
-fn hits_in_numbers(found: HitsFound) -> HitsNumbers
+fn hits_in_numbers(found: Result<HitsFound, Refusal>) -> HitsNumbers
     ensures { result ≡ hits_numbers found }
 {
     match found {
-        HitsFound::Refused { number, place } => HitsNumbers {
-            refusal: number,
-            place,
+        Err(e) => HitsNumbers {
+            refusal: e.reason.number(),
+            place: e.place,
             hit_rerouters: 0,
             hit_wires: 0,
             rerouters: 0,
@@ -37,15 +38,15 @@ fn hits_in_numbers(found: HitsFound) -> HitsNumbers
             ports: 0,
             groups: 0,
         },
-        HitsFound::Found { hits, bus, groups } => HitsNumbers {
+        Ok(found) => HitsNumbers {
             refusal: 0,
             place: 0,
-            hit_rerouters: hits.rerouters,
-            hit_wires: hits.wires,
-            rerouters: bus.rerouters,
-            bus_wires: bus.bus_wires,
-            ports: bus.ports,
-            groups,
+            hit_rerouters: found.hits.rerouters,
+            hit_wires: found.hits.wires,
+            rerouters: found.laid.bus.rerouters,
+            bus_wires: found.laid.bus.bus_wires,
+            ports: found.laid.bus.ports,
+            groups: found.laid.groups,
         },
     }
 }

@@ -3,7 +3,7 @@ ghost use Rattle.std.specs.Prelude.{length};
 ghost use Rattle.lanes.specs.LaneCall.{Answered};
 
 use base::rows::WorkRow;
-use lanes::{LaneReport, allocate_lanes, report};
+use lanes::{LaneReport, allocate_lanes};
 
 #[unsafe(no_mangle)]
 pub extern "C" fn pz_allocate_lanes(
@@ -14,5 +14,5 @@ pub extern "C" fn pz_allocate_lanes(
 ) -> LaneReport
     ensures { Answered demands.now lanes.old lanes.new (length work.old) (length spare.old) result }
 {
-    report(allocate_lanes(demands, lanes, work, spare))
+    LaneReport::from(allocate_lanes(demands, lanes, work, spare))
 }

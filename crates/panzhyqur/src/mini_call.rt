@@ -6,10 +6,11 @@ ghost use Rattle.routes_calls.specs.Mini.{mini_call};
 ghost use Rattle.panzhyqur.specs.MiniCall.{mini_numbers};
 ghost use Rattle.panzhyqur.specs.InNumbers.{InNumbers};
 
+use base::refusal::Refusal;
 use base::rows::{BusWireRow, PortRow, Record, RerouterRow, WorkRow};
 use routes::bus::BusCounts;
 use routes_calls::mini::lay_mini_bus;
-use routes_gutter::bus::BusPlan;
+use routes_gutter::laying::BusLaid;
 
 // A refusal and its place, 0 for none; and how many rerouters, bus wires and suppressed ports stand in the buffers.
 #[repr(C)]
@@ -22,28 +23,23 @@ pub struct MiniNumbers {
     pub ports: usize,
 }
 
-fn counts_in_numbers(plan: BusPlan) -> MiniNumbers
+fn counts_in_numbers(plan: Result<BusLaid, Refusal>) -> MiniNumbers
     ensures { result ≡ mini_numbers plan }
 {
     match plan {
-        BusPlan::Refused { number, place } => MiniNumbers {
-            refusal: number,
-            place,
+        Err(e) => MiniNumbers {
+            refusal: e.reason.number(),
+            place: e.place,
             rerouters: 0,
             bus_wires: 0,
             ports: 0,
         },
-        BusPlan::Laid {
-            rerouters,
-            bus_wires,
-            ports,
-            groups: _,
-        } => MiniNumbers {
+        Ok(laid) => MiniNumbers {
             refusal: 0,
             place: 0,
-            rerouters,
-            bus_wires,
-            ports,
+            rerouters: laid.bus.rerouters,
+            bus_wires: laid.bus.bus_wires,
+            ports: laid.bus.ports,
         },
     }
 }

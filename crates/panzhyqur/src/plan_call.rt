@@ -7,8 +7,9 @@ ghost use Rattle.board_plan.specs.PagesPlan.{plan_call, PagesPlanned};
 ghost use Rattle.panzhyqur.specs.PlanCall.{pages_numbers};
 ghost use Rattle.panzhyqur.specs.InNumbers.{InNumbers};
 
+use base::refusal::Refusal;
 use base::rows::{PageRow, Record, WorkRow};
-use board_plan::{PagesPlan, plan_bus};
+use board_plan::plan_bus;
 
 // A refusal and its place, 0 for none; and how many pages have their answer.
 #[repr(C)]
@@ -19,16 +20,16 @@ pub struct PagesNumbers {
     pub pages: usize,
 }
 
-fn pages_in_numbers(plan: PagesPlan) -> PagesNumbers
+fn pages_in_numbers(plan: Result<usize, Refusal>) -> PagesNumbers
     ensures { result ≡ pages_numbers plan }
 {
     match plan {
-        PagesPlan::Refused { number, place } => PagesNumbers {
-            refusal: number,
-            place,
+        Err(e) => PagesNumbers {
+            refusal: e.reason.number(),
+            place: e.place,
             pages: 0,
         },
-        PagesPlan::Planned(pages) => PagesNumbers {
+        Ok(pages) => PagesNumbers {
             refusal: 0,
             place: 0,
             pages,

@@ -2,10 +2,11 @@
 ghost use Rattle.std.specs.Prelude.{◌≡◌, length};
 ghost use Rattle.sheet.specs.Reading.{reading};
 ghost use Rattle.sheet.specs.Answer.{checked_of, read_of, rows_after};
-ghost use Rattle.panzhyqur.specs.SheetCalls.{refused_numbers, fine_numbers, checked_numbers, read_numbers};
+ghost use Rattle.panzhyqur.specs.SheetCalls.{sheet_numbers};
 
+use base::refusal::Refusal;
 use base::rows::Record;
-use sheet::{Checked, Counts, ReadAnswer, check_sheet, read_sheet};
+use sheet::{Counts, check_sheet, read_sheet};
 
 // A refusal and its line, 0 for none; and how many records of each section.
 #[repr(C)]
@@ -21,53 +22,43 @@ pub struct SheetNumbers {
     pub wires: usize,
 }
 
-fn refused(refusal: usize, line: usize) -> SheetNumbers
-    ensures { result ≡ refused_numbers refusal line }
+fn in_numbers(answer: Result<Counts, Refusal>) -> SheetNumbers
+    ensures { result ≡ sheet_numbers answer }
 {
-    SheetNumbers {
-        refusal,
-        line,
-        pages: 0,
-        nodes: 0,
-        chips: 0,
-        inner: 0,
-        execs: 0,
-        wires: 0,
-    }
-}
-
-fn fine(c: Counts) -> SheetNumbers
-    ensures { result ≡ fine_numbers c }
-{
-    SheetNumbers {
-        refusal: 0,
-        line: 0,
-        pages: c.pages,
-        nodes: c.nodes,
-        chips: c.chips,
-        inner: c.inner,
-        execs: c.execs,
-        wires: c.wires,
+    match answer {
+        Err(e) => SheetNumbers {
+            refusal: e.reason.number(),
+            line: e.place,
+            pages: 0,
+            nodes: 0,
+            chips: 0,
+            inner: 0,
+            execs: 0,
+            wires: 0,
+        },
+        Ok(c) => SheetNumbers {
+            refusal: 0,
+            line: 0,
+            pages: c.pages,
+            nodes: c.nodes,
+            chips: c.chips,
+            inner: c.inner,
+            execs: c.execs,
+            wires: c.wires,
+        },
     }
 }
 
 #[unsafe(no_mangle)]
 pub extern "C" fn pz_check_sheet(text: &[u8], most: Counts) -> SheetNumbers
-    ensures { result ≡ checked_numbers (checked_of (reading most text.now)) }
+    ensures { result ≡ sheet_numbers (checked_of (reading most text.now)) }
 {
-    match check_sheet(text, most) {
-        Checked::Refused { number, line } => refused(number, line),
-        Checked::Fine(c) => fine(c),
-    }
+    in_numbers(check_sheet(text, most))
 }
 
 #[unsafe(no_mangle)]
 pub extern "C" fn pz_read_sheet(text: &[u8], most: Counts, rows: &mut [Record]) -> SheetNumbers
-    ensures { (result ≡ read_numbers (read_of (length rows.old) (reading most text.now))) × (rows.new ≡ rows_after rows.old (reading most text.now)) }
+    ensures { (result ≡ sheet_numbers (read_of (length rows.old) (reading most text.now))) × (rows.new ≡ rows_after rows.old (reading most text.now)) }
 {
-    match read_sheet(text, most, rows) {
-        ReadAnswer::Refused { number, line } => refused(number, line),
-        ReadAnswer::Short => refused(7, 0),
-        ReadAnswer::Read(c) => fine(c),
-    }
+    in_numbers(read_sheet(text, most, rows))
 }

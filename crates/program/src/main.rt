@@ -1,7 +1,6 @@
 // Reads a board sheet from standard input and prints its plan sheet, or the E line that turns it away.
 #![tactic(auto)]
 
-use program_answer::Answer;
 use program_answer::calls::{INPUT_MOST, PLAN_MOST, respond};
 use program_input::read_full;
 use std::io;
@@ -11,8 +10,8 @@ use std::io::Write;
 fn print_answer<W: Write>(output: &mut W, text: &[u8]) -> io::Result<()> {
     let mut out = [0u8; PLAN_MOST];
     match respond(text, &mut out) {
-        Answer::Short => Ok(()),
-        Answer::Written(n) => output.write_all(&out[..n]),
+        None => Ok(()),
+        Some(n) => output.write_all(&out[..n]),
     }
 }
 

@@ -7,6 +7,11 @@ use mathlib.Core.List.{List, ◌++◌, map}
 use lib.Dec.{leb}
 use lib.ListN.{length, drop}
 use borrow.Author.Tests.{le-leb, lt-leb}
+use Rattle.std.proofs.Common.{Option, Some, None, Result, Ok, Err}
+use Rattle.base.specs.declared.refusal.Reason.{Reason}
+use Rattle.base.specs.declared.refusal.Reason.TheVariants.{Unread, TooMany, OutOfRange, IdTaken, NotThere, Unplaced, NoRoom, NoLane, BadBox}
+use Rattle.base.specs.declared.refusal.Refusal.{Refusal}
+use Rattle.base.specs.Refusal.{number_of}
 use Rattle.sheet.specs.declared.Counts.{Counts}
 use Rattle.sheet.specs.Written.{Wrote, written}
 use Rattle.board.specs.Board.{Board}
@@ -28,14 +33,11 @@ use Rattle.routes_plan_sheet.specs.Held.{PlanHeld}
 use Rattle.routes_gutter.specs.Bus.{BusStands}
 use Rattle.routes_calls.specs.Finish.{PlanTexted}
 use Rattle.routes.specs.declared.bus.BusCounts.{BusCounts}
-use Rattle.routes_calls.specs.declared.route.BusText.{BusText}
-use Rattle.routes_calls.specs.declared.route.BusText.TheVariants as texts
+use Rattle.routes_calls.specs.declared.route.PlanLaid.{PlanLaid}
 use Rattle.program_answer.specs.Answering.{TOLD_MOST, is_told, answer_of, text_after, Told, Answered, answer_call}
-use Rattle.program_answer.specs.declared.Answer.{Answer}
-use Rattle.program_answer.specs.declared.Answer.TheVariants.{Short, Written}
 
 -- An answer that is told or not.
-pub told-not : (call : Routed) (before : List ℕ) → is_told (length before) call ≡ false → Told call before before Short
+pub told-not : (call : Routed) (before : List ℕ) → is_told (length before) call ≡ false → Told call before before None
 told-not call before e =
     record { answer = sym (ap (λ (t : Bool). answer_of t (sheet_of call)) e); text_is = sym (ap (λ (t : Bool). text_after t (sheet_of call) before) e) }
 
@@ -44,28 +46,37 @@ written_front : (before bytes after : List ℕ) → after ≡ written before 0 b
 unfolding written
 written_front before bytes after e = e ∙ ap (λ (k : ℕ). bytes ++ drop k before) (let none : 0 + length bytes ≡ length bytes = omega arith in none)
 
-pub told_all : (call : Routed) (before after : List ℕ) (n : ℕ) → is_told (length before) call ≡ true → Wrote before 0 (sheet_of call) after n → Told call before after (Written n)
+pub told_all : (call : Routed) (before after : List ℕ) (n : ℕ) → is_told (length before) call ≡ true → Wrote before 0 (sheet_of call) after n → Told call before after (Some n)
 told_all call before after n e w =
     record {
-      answer = ap Written (let place = w.place in let same : n ≡ length (sheet_of call) = omega arith in same) ∙ sym (ap (λ (t : Bool). answer_of t (sheet_of call)) e);
+      answer = ap Some (let place = w.place in let same : n ≡ length (sheet_of call) = omega arith in same) ∙ sym (ap (λ (t : Bool). answer_of t (sheet_of call)) e);
       text_is = written_front before (sheet_of call) after w.buffer ∙ sym (ap (λ (t : Bool). text_after t (sheet_of call) before) e);
     }
 
+-- A refusal's number has one digit.
+pub number_few : (r : Reason) → number_of r ≤ 9
+number_few Unread = omega arith
+number_few TooMany = omega arith
+number_few OutOfRange = omega arith
+number_few IdTaken = omega arith
+number_few NotThere = omega arith
+number_few Unplaced = omega arith
+number_few NoRoom = omega arith
+number_few NoLane = omega arith
+number_few BadBox = omega arith
+
 -- The tests of `tell_refusal`, one after the other.
-module _ (number place : ℕ) (before : List ℕ) where
-  pub no_room : length before < LINE_MOST → Told (turned_away number place) before before Short
-  no_room h = told-not (turned_away number place) before (rw (lt-leb LINE_MOST (length before) h) refl)
+module _ (e : Refusal) (before : List ℕ) where
+  pub no_room : length before < LINE_MOST → Told (turned_away e) before before None
+  no_room h = told-not (turned_away e) before (rw (lt-leb LINE_MOST (length before) h) refl)
 
-  pub number_high : TOLD_MOST < number → Told (turned_away number place) before before Short
-  number_high h = told-not (turned_away number place) before (rw (lt-leb number TOLD_MOST h) (and_false (leb LINE_MOST (length before))))
+  pub place_high : TOLD_MOST < e.place → Told (turned_away e) before before None
+  place_high h = told-not (turned_away e) before (rw (lt-leb e.place TOLD_MOST h) (and_false (leb LINE_MOST (length before))))
 
-  pub place_high : number ≤ TOLD_MOST → TOLD_MOST < place → Told (turned_away number place) before before Short
-  place_high h k = told-not (turned_away number place) before (rw (le-leb number TOLD_MOST h, lt-leb place TOLD_MOST k) (and_false (leb LINE_MOST (length before))))
-
-  pub refusal_told : LINE_MOST ≤ length before → number ≤ TOLD_MOST → place ≤ TOLD_MOST → (after : List ℕ) (n : ℕ) → Wrote before 0 (refusal_sheet number place) after n → Told (turned_away number place) before after (Written n)
+  pub refusal_told : LINE_MOST ≤ length before → e.place ≤ TOLD_MOST → (after : List ℕ) (n : ℕ) → Wrote before 0 (refusal_sheet (number_of e.reason) e.place) after n → Told (turned_away e) before after (Some n)
   unfolding sheet_of
-  refusal_told room h k after n w =
-      told_all (turned_away number place) before after n (rw (le-leb LINE_MOST (length before) room, le-leb number TOLD_MOST h, le-leb place TOLD_MOST k) refl) w
+  refusal_told room h after n w =
+      told_all (turned_away e) before after n (rw (le-leb LINE_MOST (length before) room, le-leb e.place TOLD_MOST h) refl) w
 
 -- What an answer of `route_within` says of the planning.
 pub record PlanTold (p : Planning) (old old_wires oldPorts oldAnswers rerouters bus_wires ports answers : List (List ℕ)) (c : Counts) (held : BusCounts) (g : ℕ) : Type 0 where
@@ -78,42 +89,42 @@ pub record PlanTold (p : Planning) (old old_wires oldPorts oldAnswers rerouters 
   pub answers_are : answers ≡ map page_row lanes ++ drop (length lanes) oldAnswers
 
 module _ (old old_wires oldPorts oldAnswers rerouters bus_wires ports answers : List (List ℕ)) where
-  pub plan_refusal : (p : Planning) (r : BusText) (n l : ℕ) → PlanTexted p old old_wires oldPorts oldAnswers rerouters bus_wires ports answers r → r ≡ texts.Refused n l → p ≡ refused n l
-  plan_refusal (refused n' l') r n l (e, a, b, c, f) d = cc
-  plan_refusal (lanes_for b ps) r n l (held, e, s, w) d = never cc
+  pub plan_refusal : (p : Planning) (r : Result PlanLaid Refusal) (e : Refusal) → PlanTexted p old old_wires oldPorts oldAnswers rerouters bus_wires ports answers r → r ≡ Err e → p ≡ refused e
+  plan_refusal (refused d) r e (is, a, b, c, f) err = cc
+  plan_refusal (lanes_for b ps) r e (held, is, s, w) err = never cc
 
-  pub plan_told_by : (p : Planning) (r : BusText) (c : Counts) (held : BusCounts) (g : ℕ) → PlanTexted p old old_wires oldPorts oldAnswers rerouters bus_wires ports answers r → r ≡ texts.Laid c held g
-      → PlanTold p old old_wires oldPorts oldAnswers rerouters bus_wires ports answers c held g
-  plan_told_by (refused n' l') r c held g (e, a, b, f, q) d = never cc
-  plan_told_by (lanes_for b ps) r c held g (held', e, s, w) d =
-      let same : texts.Laid c held g ≡ texts.Laid (counts_in b) held' (laid_groups b ps) = sym d ∙ e in
-      let one : held' ≡ held = cc in
+  pub plan_told_by : (p : Planning) (r : Result PlanLaid Refusal) (q : PlanLaid) → PlanTexted p old old_wires oldPorts oldAnswers rerouters bus_wires ports answers r → r ≡ Ok q
+      → PlanTold p old old_wires oldPorts oldAnswers rerouters bus_wires ports answers q.counts q.laid.bus q.laid.groups
+  plan_told_by (refused d) r q (e, a, b, f, k) is = never cc
+  plan_told_by (lanes_for b ps) r q (held, e, s, w) is =
+      let both : Ok q ≡ Ok (record { counts = counts_in b; laid = record { bus = held; groups = laid_groups b ps } }) = sym is ∙ e in
+      let whole : q ≡ record { counts = counts_in b; laid = record { bus = held; groups = laid_groups b ps } } = cc in
       record {
         on_board = b;
         lanes = ps;
         is = refl;
-        counted = cc;
-        laid = cc;
-        stands = subst (λ (h : BusCounts). BusStands (finished b ps) old old_wires oldPorts rerouters bus_wires ports h) one s;
+        counted = ap (λ (z : PlanLaid). z.counts) whole;
+        laid = ap (λ (z : PlanLaid). z.laid.groups) whole;
+        stands = subst (λ (h : BusCounts). BusStands (finished b ps) old old_wires oldPorts rerouters bus_wires ports h) (sym (ap (λ (z : PlanLaid). z.laid.bus) whole)) s;
         answers_are = w;
       }
 
   -- The buffers hold what the call leaves, whatever is told of it.
-  pub answered_by : (p : Planning) (r : BusText) → PlanTexted p old old_wires oldPorts oldAnswers rerouters bus_wires ports answers r
-      → (before after : List ℕ) (told : Answer) → Told (routed_by finished p) before after told → Answered (routed_by finished p) before old old_wires oldPorts oldAnswers after rerouters bus_wires ports answers told
-  answered_by (refused n l) r (e, a, b, c, d) before after told t = record { told = t; rerouters_are = a; wires_are = b; ports_are = c; answers_are = d }
+  pub answered_by : (p : Planning) (r : Result PlanLaid Refusal) → PlanTexted p old old_wires oldPorts oldAnswers rerouters bus_wires ports answers r
+      → (before after : List ℕ) (told : Option ℕ) → Told (routed_by finished p) before after told → Answered (routed_by finished p) before old old_wires oldPorts oldAnswers after rerouters bus_wires ports answers told
+  answered_by (refused q) r (e, a, b, c, d) before after told t = record { told = t; rerouters_are = a; wires_are = b; ports_are = c; answers_are = d }
   answered_by (lanes_for b ps) r (held, e, s, w) before after told t =
       record { told = t; rerouters_are = s.rerouters_are; wires_are = s.wires_are; ports_are = s.ports_are; answers_are = w }
 
 -- A refusal.
-pub answered_refused : (most : Counts) (text : List ℕ) (lent : Lent) (old old_wires oldPorts oldAnswers rerouters bus_wires ports answers : List (List ℕ)) (q : BusText)
-    → PlanTexted (planning most (fits_lent lent) text) old old_wires oldPorts oldAnswers rerouters bus_wires ports answers q → (n l : ℕ) → q ≡ texts.Refused n l
-    → (before after : List ℕ) (r : Answer) → Told (turned_away n l) before after r → Answered (answer_call most text lent) before old old_wires oldPorts oldAnswers after rerouters bus_wires ports answers r
+pub answered_refused : (most : Counts) (text : List ℕ) (lent : Lent) (old old_wires oldPorts oldAnswers rerouters bus_wires ports answers : List (List ℕ)) (q : Result PlanLaid Refusal)
+    → PlanTexted (planning most (fits_lent lent) text) old old_wires oldPorts oldAnswers rerouters bus_wires ports answers q → (d : Refusal) → q ≡ Err d
+    → (before after : List ℕ) (r : Option ℕ) → Told (turned_away d) before after r → Answered (answer_call most text lent) before old old_wires oldPorts oldAnswers after rerouters bus_wires ports answers r
 unfolding answer_call routed
-answered_refused most text lent old old_wires oldPorts oldAnswers rerouters bus_wires ports answers q h n l e before after r told =
+answered_refused most text lent old old_wires oldPorts oldAnswers rerouters bus_wires ports answers q h d e before after r told =
     let p = planning most (fits_lent lent) text in
     answered_by old old_wires oldPorts oldAnswers rerouters bus_wires ports answers p q h before after r
-    (subst (λ (k : Planning). Told (routed_by finished k) before after r) (sym (plan_refusal old old_wires oldPorts oldAnswers rerouters bus_wires ports answers p q n l h e)) told)
+    (subst (λ (k : Planning). Told (routed_by finished k) before after r) (sym (plan_refusal old old_wires oldPorts oldAnswers rerouters bus_wires ports answers p q d h e)) told)
 
 -- The finished plan as its text is written from the buffers.
 module _ (most : Counts) (text : List ℕ) (lent : Lent) (low : WithinLibrary most) (old old_wires oldPorts oldAnswers rerouters bus_wires ports answers : List (List ℕ)) (c : Counts) (held : BusCounts) (g : ℕ)
@@ -156,16 +167,16 @@ module _ (most : Counts) (text : List ℕ) (lent : Lent) (low : WithinLibrary mo
       (omega arith, omega arith, omega arith)
 
   -- The plan sheet is told.
-  pub answered_plan : (q : BusText) → PlanTexted (planning most (fits_lent lent) text) old old_wires oldPorts oldAnswers rerouters bus_wires ports answers q
+  pub answered_plan : (q : Result PlanLaid Refusal) → PlanTexted (planning most (fits_lent lent) text) old old_wires oldPorts oldAnswers rerouters bus_wires ports answers q
       → (before after : List ℕ) (r : ℕ) → lent.out ≡ length before → Wrote before 0 (plan_sheet t.on_board t.lanes (finished t.on_board t.lanes) (laid_groups t.on_board t.lanes)) after r
-      → Answered (answer_call most text lent) before old old_wires oldPorts oldAnswers after rerouters bus_wires ports answers (Written r)
+      → Answered (answer_call most text lent) before old old_wires oldPorts oldAnswers after rerouters bus_wires ports answers (Some r)
   unfolding answer_call routed sheet_of
   answered_plan q h before after r e w =
       let b = t.on_board in
       let ps = t.lanes in
       let room = plan_room.2 in
-      let told : Told (plan b ps (finished b ps) (laid_groups b ps)) before after (Written r) =
+      let told : Told (plan b ps (finished b ps) (laid_groups b ps)) before after (Some r) =
       told_all (plan b ps (finished b ps) (laid_groups b ps)) before after r (rw (le-leb LINE_MOST (length before) (omega arith)) refl) w
       in
-      answered_by old old_wires oldPorts oldAnswers rerouters bus_wires ports answers (planning most (fits_lent lent) text) q h before after (Written r)
-      (subst (λ (p : Planning). Told (routed_by finished p) before after (Written r)) (sym t.is) told)
+      answered_by old old_wires oldPorts oldAnswers rerouters bus_wires ports answers (planning most (fits_lent lent) text) q h before after (Some r)
+      (subst (λ (p : Planning). Told (routed_by finished p) before after (Some r)) (sym t.is) told)

@@ -18,11 +18,13 @@ use Rattle.routes_promise.proofs.ThreeCalls.{planning_all}
 use Rattle.routes.specs.Plan.{finished}
 use Rattle.routes.specs.Route.{turned_away, routed_by, routed}
 use Rattle.board_plan.specs.declared.Lent.{Lent}
-use Rattle.program_answer.specs.declared.Answer.{Answer}
+use Rattle.std.proofs.Common.{Option}
+use Rattle.base.specs.declared.refusal.Reason.TheVariants.{TooMany}
+use Rattle.base.specs.Refusal.{refusal}
 use Rattle.program_answer.specs.Answering.{Told, Answered, INPUT_MOST, input_call, answer_call, program_call, program_routed, program_lent}
 
 -- An input that is too long, and one that is not.
-pub too_long : (text : List ℕ) (lent : Lent) → INPUT_MOST < length text → (before after : List ℕ) (r : Answer) → Told (turned_away 2 0) before after r
+pub too_long : (text : List ℕ) (lent : Lent) → INPUT_MOST < length text → (before after : List ℕ) (r : Option ℕ) → Told (turned_away (refusal TooMany 0)) before after r
     → (old old_wires oldPorts oldAnswers : List (List ℕ)) → Answered (program_call text lent) before old old_wires oldPorts oldAnswers after old old_wires oldPorts oldAnswers r
 unfolding program_call
 too_long text lent h before after r told old old_wires oldPorts oldAnswers =
@@ -30,7 +32,7 @@ too_long text lent h before after r told old old_wires oldPorts oldAnswers =
     (record { told = told; rerouters_are = refl; wires_are = refl; ports_are = refl; answers_are = refl })
 
 pub not_long : (text : List ℕ) (lent : Lent) → length text ≤ INPUT_MOST → (most : Counts) → most ≡ program_most
-    → {before after : List ℕ} {old old_wires oldPorts oldAnswers rerouters bus_wires ports answers : List (List ℕ)} {r : Answer}
+    → {before after : List ℕ} {old old_wires oldPorts oldAnswers rerouters bus_wires ports answers : List (List ℕ)} {r : Option ℕ}
     → Answered (answer_call most text lent) before old old_wires oldPorts oldAnswers after rerouters bus_wires ports answers r → Answered (program_call text lent) before old old_wires oldPorts oldAnswers after rerouters bus_wires ports answers r
 unfolding program_call
 not_long text lent h most e {before} {after} {old} {old_wires} {oldPorts} {oldAnswers} {rerouters} {bus_wires} {ports} {answers} {r} a =

@@ -33,11 +33,10 @@ use Rattle.routes_promise.specs.Promise.{Promised}
 use Rattle.routes_promise.proofs.ReadBack.{done_back, done_promised}
 use Rattle.program_answer.specs.Promise.{SheetPromised, AnswerPromised}
 use Rattle.program_answer.specs.Answering.{is_told, answer_of, text_after, Told, Answered, answer_call, program_call, input_call, INPUT_MOST}
-use Rattle.program_answer.specs.declared.Answer.{Answer}
-use Rattle.program_answer.specs.declared.Answer.TheVariants.{Written}
+use Rattle.std.proofs.Common.{Option, Some}
 
 -- The bytes that an answer counts are there, and are the sheet's.
-module _ {call : Routed} {before after : List ℕ} {r : Answer} (told : Told call before after r) {n : ℕ} (is : r ≡ Written n) where
+module _ {call : Routed} {before after : List ℕ} {r : Option ℕ} (told : Told call before after r) {n : ℕ} (is : r ≡ Some n) where
   told_by : (t : Bool) → r ≡ answer_of t (sheet_of call) → after ≡ text_after t (sheet_of call) before → (n ≡ length (sheet_of call)) × (after ≡ sheet_of call ++ drop (length (sheet_of call)) before)
   told_by true e f = (cc, f)
   told_by false e f = never cc
@@ -62,7 +61,7 @@ unfolding answer_call routed
 plan_made most text lent b ps bus laid e = go (planning most (fits_lent lent) text) refl e
   where
     go : (p : Planning) → planning most (fits_lent lent) text ≡ p → routed_by finished p ≡ plan b ps bus laid → PlanMade most text lent b ps bus
-    go (refused n l) is d = never cc
+    go (refused q) is d = never cc
     go (lanes_for c qs) is d =
         let board-same : c ≡ b = cc in
         let lanes-same : qs ≡ ps = cc in
@@ -72,7 +71,7 @@ plan_made most text lent b ps bus laid e = go (planning most (fits_lent lent) te
           bus_is = sym bus-same ∙ (λ i. finished (board-same i) (lanes-same i));
         }
 
-module _ (most : Counts) (low : WithinLibrary most) (text : List ℕ) (lent : Lent) (before after : List ℕ) (r : Answer) (room : lent.out ≡ length before)
+module _ (most : Counts) (low : WithinLibrary most) (text : List ℕ) (lent : Lent) (before after : List ℕ) (r : Option ℕ) (room : lent.out ≡ length before)
     (b : Board) (ps : List PageLanes) (bus : Bus) (laid : ℕ) (e : answer_call most text lent ≡ plan b ps bus laid) where
   made : PlanMade most text lent b ps bus
   made = plan_made most text lent b ps bus laid e
@@ -149,7 +148,7 @@ input_plan : (t : Bool) (call : Routed) (b : Board) (ps : List PageLanes) (bus :
 input_plan true call b ps bus laid e = never cc
 input_plan false call b ps bus laid e = e
 
-pub program_demand3 : (text : List ℕ) (lent : Lent) (before after : List ℕ) (r : Answer) → lent.out ≡ length before → Told (program_call text lent) before after r
+pub program_demand3 : (text : List ℕ) (lent : Lent) (before after : List ℕ) (r : Option ℕ) → lent.out ≡ length before → Told (program_call text lent) before after r
     → (b : Board) (ps : List PageLanes) (bus : Bus) (laid : ℕ) → program_call text lent ≡ plan b ps bus laid → SheetPromised b ps bus laid before after r
 unfolding program_call
 program_demand3 text lent before after r room told b ps bus laid e =

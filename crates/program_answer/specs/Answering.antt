@@ -1,20 +1,20 @@
 -- `answer`: sheet bytes in, the plan sheet's bytes or the E line out, and the plan in the buffers.
-use Rattle.std.specs.Prelude.{ℕ, ◌≡◌, Bool, true, false, ◌&&◌, List, ◌++◌, leb, ltb, length, drop}
+use Rattle.std.specs.Prelude.{ℕ, ◌≡◌, Bool, true, false, ◌&&◌, List, ◌++◌, leb, ltb, length, drop, Option, Some, None}
+use Rattle.base.specs.declared.refusal.Reason.TheVariants.{TooMany}
+use Rattle.base.specs.Refusal.{refusal}
 use Rattle.sheet.specs.declared.Counts.{Counts}
 use Rattle.sheet.specs.Table.{program_most}
 use Rattle.board_plan.specs.declared.Lent.{Lent}
 use Rattle.board_plan.specs.TextPlan.{fits_lent, shortest, LINE_MOST}
 use Rattle.routes.specs.Route.{Routed, turned_away, plan, routed, sheet_of}
 use Rattle.routes_gutter.specs.Calls.{rerouters_after, bus_wires_after, ports_after, answers_after}
-use Rattle.program_answer.specs.declared.Answer.{Answer}
-use Rattle.program_answer.specs.declared.Answer.TheVariants.{Short, Written}
 
--- S16: an E line's numbers have 32 bits.
+-- S16: an E line's place has 32 bits. So has its number, which is at most 9.
 abbrev pub TOLD_MOST : ℕ
 TOLD_MOST = 4294967294
 
 abbrev pub sayable : Routed → Bool
-sayable (turned_away n l) = leb n TOLD_MOST && leb l TOLD_MOST
+sayable (turned_away e) = leb e.place TOLD_MOST
 sayable (plan b ps bus laid) = true
 
 -- S16: whether an answer is written into so many bytes: where they hold a line. (A plan is made only where they hold all of its lines.)
@@ -22,20 +22,20 @@ abbrev pub is_told : ℕ → Routed → Bool
 is_told room call = leb LINE_MOST room && sayable call
 
 -- E12, P8: the answer, and the text buffer behind it: the plan sheet or the E line in front and the old rest, or all as it was.
-abbrev pub answer_of : Bool → List ℕ → Answer
-answer_of true bytes = Written (length bytes)
-answer_of false bytes = Short
+abbrev pub answer_of : Bool → List ℕ → Option ℕ
+answer_of true bytes = Some (length bytes)
+answer_of false bytes = None
 
 abbrev pub text_after : Bool → List ℕ → List ℕ → List ℕ
 text_after true bytes before = bytes ++ drop (length bytes) before
 text_after false bytes before = before
 
-pub record Told (call : Routed) (before after : List ℕ) (r : Answer) : Type 0 where
+pub record Told (call : Routed) (before after : List ℕ) (r : Option ℕ) : Type 0 where
   pub answer : r ≡ answer_of (is_told (length before) call) (sheet_of call)
   pub text_is : after ≡ text_after (is_told (length before) call) (sheet_of call) before
 
 -- The answer and every buffer.
-pub record Answered (call : Routed) (before : List ℕ) (old old_wires oldPorts oldAnswers : List (List ℕ)) (after : List ℕ) (rerouters bus_wires ports answers : List (List ℕ)) (r : Answer) : Type 0 where
+pub record Answered (call : Routed) (before : List ℕ) (old old_wires oldPorts oldAnswers : List (List ℕ)) (after : List ℕ) (rerouters bus_wires ports answers : List (List ℕ)) (r : Option ℕ) : Type 0 where
   pub told : Told call before after r
   pub rerouters_are : rerouters ≡ rerouters_after call old
   pub wires_are : bus_wires ≡ bus_wires_after call old_wires
@@ -56,7 +56,7 @@ INPUT_MOST = 65536
 
 -- E13: a longer one is refused before any other test.
 abbrev pub input_call : Bool → Routed → Routed
-input_call true call = turned_away 2 0
+input_call true call = turned_away (refusal TooMany 0)
 input_call false call = call
 
 -- E13: the program's answer.

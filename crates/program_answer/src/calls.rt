@@ -4,7 +4,8 @@ ghost use Rattle.sheet.specs.Table.{library_most};
 ghost use Rattle.board_plan.specs.TextPlan.{work_rows};
 ghost use Rattle.program_answer.specs.Answering.{Told, Answered, answer_lent, answer_call, program_call, program_lent};
 
-use crate::{Answer, answer_within, tell_refusal};
+use crate::{answer_within, tell_refusal};
+use base::refusal::{Reason, Refusal};
 use base::rows::{BusWireRow, PageRow, PortRow, Record, RerouterRow, WorkRow};
 use sheet::{library_most, program_most};
 
@@ -29,7 +30,7 @@ pub fn answer(
     demands: &mut [WorkRow],
     keys: &mut [WorkRow],
     marks: &mut [WorkRow],
-) -> Answer
+) -> Option<usize>
     ensures { Answered (answer_call library_most text.now (answer_lent (length rerouters.old) (length bus_wires.old) (length ports.old) (length answers.old) (length out.old) (work_rows records.old facts.old taps.old groups.old demands.old keys.old marks.old)))
         out.old rerouters.old bus_wires.old ports.old answers.old out.new rerouters.new bus_wires.new ports.new answers.new result }
 {
@@ -66,12 +67,18 @@ pub fn answer_for_program(
     demands: &mut [WorkRow],
     keys: &mut [WorkRow],
     marks: &mut [WorkRow],
-) -> Answer
+) -> Option<usize>
     ensures { Answered (program_call text.now (answer_lent (length rerouters.old) (length bus_wires.old) (length ports.old) (length answers.old) (length out.old) (work_rows records.old facts.old taps.old groups.old demands.old keys.old marks.old)))
         out.old rerouters.old bus_wires.old ports.old answers.old out.new rerouters.new bus_wires.new ports.new answers.new result }
 {
     if INPUT_MOST < text.len() {
-        return tell_refusal(out, 2, 0);
+        return tell_refusal(
+            out,
+            Refusal {
+                reason: Reason::TooMany,
+                place: 0,
+            },
+        );
     }
     answer_within(
         text,
@@ -92,7 +99,7 @@ pub fn answer_for_program(
 }
 
 // The same with as much of all else as the largest board that the program takes asks for: given PLAN_MOST bytes it never answers 7 (`program_fits`).
-pub fn respond(text: &[u8], out: &mut [u8]) -> Answer
+pub fn respond(text: &[u8], out: &mut [u8]) -> Option<usize>
     ensures { Told (program_call text.now (program_lent (length out.old))) out.old out.new result }
 {
     let mut rerouters = [[0u32; 11]; 280];

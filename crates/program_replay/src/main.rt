@@ -2,31 +2,28 @@
 // `%%plan`, its answer and a line `%%`; after `%%plan!` the byte 10 before that line is not part of the sheet.
 #![tactic(auto)]
 
-ghost use Rattle.std.specs.Prelude.{◌≡◌, true, ◌+◌, ◌≤◌, ◌<◌, length};
+ghost use Rattle.std.specs.Prelude.{◌≡◌, true, ◌≤◌, ◌<◌, length, IfSome};
 ghost use Rattle.routes.specs.Route.{sheet_of};
 ghost use Rattle.program_answer.specs.Answering.{program_routed};
 
 use base::numbers::NEWLINE;
-use program_answer::Answer;
 use program_answer::calls::{PLAN_MOST, respond};
 use program_input::read_full;
 use sheet::walk::{behind_part, part_from};
 use std::io::{Print, Write};
 use std::{fs, io};
 
-const PERCENT: u8 = b'%';
-
 const CUT: u8 = b'!';
 
 // The most bytes of a file of records.
 const FILE_MOST: usize = 1_048_576;
 
-// How many cases there are, how many of them agree, and where the first that does not begins; the text's length where all agree.
+// How many cases there are, how many of them agree, and where the first that does not begins.
 #[derive(Clone, Copy)]
 struct Tally {
     cases: usize,
     agreed: usize,
-    first: usize,
+    first: Option<usize>,
 }
 
 // Whether the answer to a sheet is this text, byte for byte.
@@ -35,8 +32,8 @@ fn agrees(sheet: &[u8], answer: &[u8]) -> bool
 {
     let mut out = [0u8; PLAN_MOST];
     match respond(sheet, &mut out) {
-        Answer::Short => false,
-        Answer::Written(n) => &out[..n] == answer,
+        None => false,
+        Some(n) => &out[..n] == answer,
     }
 }
 
@@ -52,13 +49,7 @@ fn next_line(text: &[u8], from: usize) -> usize
 fn is_marker(text: &[u8], at: usize) -> bool
     requires { at < length text.now }
 {
-    if text.len() - at < 2 {
-        return false;
-    }
-    if text[at] != PERCENT {
-        return false;
-    }
-    text[at + 1] == PERCENT
+    text[at..].starts_with(b"%%")
 }
 
 // The first marker line from a line's start on, or the end of the text.
@@ -90,43 +81,15 @@ fn sheet_end(text: &[u8], at: usize, marker: usize, after: usize) -> usize
     marker
 }
 
-// One case more, which begins here, in a text of so many bytes.
-fn with_case(tally: Tally, agrees: bool, at: usize, length: usize) -> Tally
-    requires { (tally.agreed ≤ tally.cases) × (tally.cases ≤ at) × (tally.first ≤ length) × (at < length) }
-    ensures { (result.agreed ≤ result.cases) × (result.cases ≡ tally.cases + 1) × (result.first ≤ length) }
-{
-    let cases = tally.cases + 1;
-    let agreed = tally.agreed;
-    let first = tally.first;
-    if agrees {
-        return Tally {
-            cases,
-            agreed: agreed + 1,
-            first,
-        };
-    }
-    if first < length {
-        return Tally {
-            cases,
-            agreed,
-            first,
-        };
-    }
-    Tally {
-        cases,
-        agreed,
-        first: at,
-    }
-}
-
 // All cases of a file, one after the other. What stands behind the last marker is no case.
 fn replay(text: &[u8]) -> Tally
-    ensures { (result.agreed ≤ result.cases) × (result.cases ≤ length text.now) × (result.first ≤ length text.now) }
+    ensures counts { (result.agreed ≤ result.cases) × (result.cases ≤ length text.now) }
+    ensures first { IfSome result.first (λ i. i < length text.now) }
 {
     let mut tally = Tally {
         cases: 0,
         agreed: 0,
-        first: text.len(),
+        first: None,
     };
     let mut at: usize = 0;
     while at < text.len() {
@@ -140,8 +103,12 @@ fn replay(text: &[u8]) -> Tally
             return tally;
         }
         let end = sheet_end(text, at, marker, after);
-        let agree = agrees(&text[at..end], &text[after..answer_end]);
-        tally = with_case(tally, agree, at, text.len());
+        tally.cases += 1;
+        if agrees(&text[at..end], &text[after..answer_end]) {
+            tally.agreed += 1;
+        } else {
+            tally.first = tally.first.or(Some(at));
+        }
         at = next_line(text, answer_end);
     }
     tally
@@ -152,24 +119,14 @@ fn line_number(text: &[u8], at: usize) -> usize
     requires { at < length text.now }
     ensures { result ≤ length text.now }
 {
-    let mut lines: usize = 1;
-    let mut i: usize = 0;
-    while i < at {
-        let byte = text[i];
-        i += 1;
-        if byte == NEWLINE {
-            lines += 1;
-        }
-    }
-    lines
+    1 + text[..at].iter().filter(|byte| **byte == NEWLINE).count()
 }
 
 // What came of a file: how many cases agree of how many, and the first line of the first that does not.
 fn report<P: Print>(rt: &P, name: &str, text: &[u8]) -> io::Result<()> {
     let tally = replay(text);
     println!(rt; "{name}: {} of {} agree", tally.agreed, tally.cases)?;
-    let first = tally.first;
-    if first < text.len() {
+    if let Some(first) = tally.first {
         let line = line_number(text, first);
         print!(rt; "the first that does not is on line {line}: ")?;
         io::writer(rt).write_all(part_from(text, first, NEWLINE))?;

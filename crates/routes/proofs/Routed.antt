@@ -21,7 +21,7 @@ unfolding routed
 routed_demand3 most low fits text b ps bus laid = go (planning most fits text) refl
   where
     go : (p : Planning) → planning most fits text ≡ p → routed_by finished p ≡ plan b ps bus laid → Demand3 b bus
-    go (Planning.refused n l) e d = never cc
+    go (Planning.refused r) e d = never cc
     go (lanes_for c qs) e d =
         let same : c ≡ b = cc in
         let plan-is : finished c qs ≡ bus = cc in

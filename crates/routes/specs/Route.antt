@@ -1,5 +1,7 @@
--- The calls over a sheet: `lay_bus`, `lay_mini_bus` and the three in order, each a refusal with its number and place, or what it leaves in the buffers.
+-- The calls over a sheet: `lay_bus`, `lay_mini_bus` and the three in order, each a refusal with its place, or what it leaves in the buffers.
 use Rattle.std.specs.Prelude.{ℕ, ◌+◌, ◌*◌, ◌≤◌, Bool, true, ◌&&◌, List, length, nat_le}
+use Rattle.base.specs.declared.refusal.Refusal.{Refusal}
+use Rattle.base.specs.Refusal.{number_of}
 use Rattle.sheet.specs.declared.Counts.{Counts}
 use Rattle.board.specs.Board.{Board}
 use Rattle.board.specs.Demands.{PageLanes}
@@ -35,14 +37,14 @@ pub record Room (b : Board) (bus : Bus) (u : ℕ) : Type 0 where
   pub wires : length bus.wires + 2 * u ≤ bus_wires_for b
   pub ports : length bus.ports + u ≤ ports_for b
 
--- A refusal's number and place; or a plan: the board, the lanes of its pages, the bus, and how many groups were laid.
+-- A refusal with its place; or a plan: the board, the lanes of its pages, the bus, and how many groups were laid.
 pub data Routed : Type 0 where
-  turned_away : ℕ → ℕ → Routed
+  turned_away : Refusal → Routed
   plan : Board → List PageLanes → Bus → ℕ → Routed
 
 -- The plan that a call makes of the lanes: `bus_of` for `lay_bus`, `finished` for the three calls.
 abbrev pub routed_by : (Board → List PageLanes → Bus) → Planning → Routed
-routed_by make (refused n l) = turned_away n l
+routed_by make (refused e) = turned_away e
 routed_by make (lanes_for b ps) = plan b ps (make b ps) (laid_groups b ps)
 
 unfoldable pub laid : Counts → (Board → Bool) → List ℕ → Routed
@@ -54,7 +56,7 @@ routed most fits text = routed_by finished (planning most fits text)
 
 -- P1, E12: the text that answers a sheet.
 unfoldable pub sheet_of : Routed → List ℕ
-sheet_of (turned_away n l) = refusal_sheet n l
+sheet_of (turned_away e) = refusal_sheet (number_of e.reason) e.place
 sheet_of (plan b ps bus laid) = plan_sheet b ps bus laid
 
 unfoldable pub answer_to : Counts → List ℕ → List ℕ

@@ -1,5 +1,5 @@
 // The bus: rerouters and bus wires, and the two operations that each of them comes from (`push_bus_node`).
-ghost use Rattle.std.specs.Prelude.{◌≡◌, ◌+◌, ◌<◌, length};
+ghost use Rattle.std.specs.Prelude.{◌≡◌, ◌+◌, ◌<◌, [], ◌∷◌, length};
 ghost use Rattle.routes.specs.Buffers.{outward as outwardOf};
 ghost use Rattle.routes.specs.Holding.{end_node, end_port, RoomForRerouter, RoomForWire, Placing, Delivering};
 
@@ -63,25 +63,18 @@ pub struct Placed {
 fn outward(c: u32) -> u32
     ensures { result ≡ outwardOf c }
 {
-    std::num::wrapping_sub_u32(c, ORIGIN)
+    c.wrapping_sub(ORIGIN)
 }
 
 // The two numbers that an end is written as.
-fn end_node(end: End) -> u32
-    ensures { result ≡ end_node end }
-{
-    match end {
-        End::Port { node, port: _ } => node.0,
-        End::Rerouter(rerouter) => rerouter.0,
-    }
-}
-
-fn end_port(end: End) -> u32
-    ensures { result ≡ end_port end }
-{
-    match end {
-        End::Port { node: _, port } => port,
-        End::Rerouter(_) => MISSING,
+impl From<End> for [u32; 2] {
+    fn from(end: End) -> [u32; 2]
+        ensures { result ≡ end_node end ∷ end_port end ∷ [] }
+    {
+        match end {
+            End::Port { node, port } => [node.0, port],
+            End::Rerouter(rerouter) => [rerouter.0, MISSING],
+        }
     }
 }
 
@@ -99,9 +92,8 @@ pub fn push_bus_node(
     let n = count.rerouters;
     let w = count.wires;
     let number = n as u32;
-    let end = feed.end;
+    let [node, port] = <[u32; 2]>::from(feed.end);
     let depth = feed.depth + 1;
-    let colour = new.colour;
     rerouters[n] = [
         outward(new.x),
         outward(new.y),
@@ -109,20 +101,13 @@ pub fn push_bus_node(
         new.rotation,
         new.role,
         new.part,
-        colour.0,
+        new.colour.0,
         new.page,
         new.lane,
         new.row,
         depth,
     ];
-    bus_wires[w] = [
-        end_node(end),
-        end_port(end),
-        number,
-        MISSING,
-        MISSING,
-        MISSING,
-    ];
+    bus_wires[w] = [node, port, number, MISSING, MISSING, MISSING];
     Placed {
         count: BusCount {
             rerouters: n + 1,
@@ -148,10 +133,10 @@ pub fn push_delivery(
     ensures { Delivering bus_wires.old count feed node.0 port wire result bus_wires.new }
 {
     let w = count.wires;
-    let end = feed.end;
-    bus_wires[w] = [end_node(end), end_port(end), node.0, port, wire, feed.depth];
+    let [from, from_port] = <[u32; 2]>::from(feed.end);
+    bus_wires[w] = [from, from_port, node.0, port, wire, feed.depth];
     BusCount {
-        rerouters: count.rerouters,
         wires: w + 1,
+        ..count
     }
 }

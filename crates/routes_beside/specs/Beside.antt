@@ -88,9 +88,9 @@ pub record TapsAskable (nodes laid asked : List (List ℕ)) (n : ℕ) : Type 0 w
   pub each : (k : ℕ) → k < n → TapAskable nodes laid asked k
 
 -- What is asked of rows can be answered: the numbers are in range, there is room for the items and their flags, and no flag of theirs is set.
-pub record RowsAskable (nodes facts laid : List (List ℕ)) (n : ℕ) (asked items : List (List ℕ)) (flags : List ℕ) : Type 0 where
+pub record RowsAskable (nodes facts laid asked items : List (List ℕ)) (flags : List ℕ) : Type 0 where
   pub bricks : BricksAskable nodes facts
-  pub taps : TapsAskable nodes laid asked n
-  pub on_items : length nodes + 2 * n ≤ length items
-  pub on_flags : length nodes + 2 * n ≤ length flags
-  pub no_flag : (i : ℕ) → i < length nodes + 2 * n → get_or flags i 0 ≡ 0
+  pub taps : TapsAskable nodes laid asked (length laid)
+  pub on_items : length nodes + 2 * length laid ≤ length items
+  pub on_flags : length nodes + 2 * length laid ≤ length flags
+  pub no_flag : (i : ℕ) → i < length nodes + 2 * length laid → get_or flags i 0 ≡ 0

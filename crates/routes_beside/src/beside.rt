@@ -15,16 +15,15 @@ pub fn answer_rows(
     nodes: &[Record],
     facts: &[WorkRow],
     laid: &[WorkRow],
-    n: usize,
     asked: &[WorkRow],
     items: &mut [WorkRow],
     flags: &mut [u8],
 )
-    requires { RowsAskable nodes.now facts.now laid.now n asked.now items.old flags.old }
-    ensures { (b : Board) → b.nodes ≡ nodes.now → NodeFacts b facts.now → (k : ℕ) → k < n → RowsTold b laid.now asked.now (length nodes.now) flags.new k }
+    requires { RowsAskable nodes.now facts.now laid.now asked.now items.old flags.old }
+    ensures { (b : Board) → b.nodes ≡ nodes.now → NodeFacts b facts.now → (k : ℕ) → k < length laid.now → RowsTold b laid.now asked.now (length nodes.now) flags.new k }
 {
     let bricks = nodes.len();
-    fill_items(nodes, facts, laid, n, asked, items);
-    let m = order_by_key(items, bricks + 2 * n, bricks);
+    fill_items(nodes, facts, laid, asked, items);
+    let m = order_by_key(items, bricks + 2 * laid.len(), bricks);
     book_rows(items, m, bricks, flags);
 }

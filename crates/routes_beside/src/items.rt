@@ -11,8 +11,8 @@ use base::runs::sum_up;
 use routes_taps::taps::TAP_RESERVE;
 
 // One more node on a page, where it has one.
-fn count_page(counts: &mut [u32], page: u32)
-    requires { (length counts.old ≡ 64) × ((p : ℕ) → p < 64 → get_or counts.old p 0 < 4096) }
+fn count_page(counts: &mut [u32; 64], page: u32)
+    requires { (p : ℕ) → p < 64 → get_or counts.old p 0 < 4096 }
     ensures { (p : ℕ) → p < 64 → get_or counts.new p 0 ≡ flag (eqb page p) + get_or counts.old p 0 }
 {
     let p = page as usize;
@@ -22,24 +22,25 @@ fn count_page(counts: &mut [u32], page: u32)
 }
 
 // How many nodes have a row on each page.
-pub fn count_pages(nodes: &[Record], counts: &mut [u32])
-    requires { (length nodes.now ≤ 4096) × (length counts.old ≡ 64) × ((p : ℕ) → p < 64 → get_or counts.old p 0 ≡ 0) }
-    ensures { (p : ℕ) → p < 64 → get_or counts.new p 0 ≡ count_on nodes.now p }
+pub fn count_pages(nodes: &[Record]) -> [u32; 64]
+    requires { length nodes.now ≤ 4096 }
+    ensures { (p : ℕ) → p < 64 → get_or result p 0 ≡ count_on nodes.now p }
 {
-    let mut i: usize = 0;
-    while i < nodes.len() {
-        count_page(counts, nodes[i][10]);
-        i += 1;
+    let mut counts = [0; 64];
+    for node in nodes {
+        count_page(&mut counts, node[10]);
     }
+    counts
 }
 
 // The first key of each page: how many nodes have a row on the pages before it.
-pub fn page_bases(nodes: &[Record], bases: &mut [u32])
-    requires { (length nodes.now ≤ 4096) × (length bases.old ≡ 64) × ((p : ℕ) → p < 64 → get_or bases.old p 0 ≡ 0) }
-    ensures { Bases nodes.now bases.new }
+pub fn page_bases(nodes: &[Record]) -> [u32; 64]
+    requires { length nodes.now ≤ 4096 }
+    ensures { Bases nodes.now result }
 {
-    count_pages(nodes, bases);
-    sum_up(bases, 64);
+    let mut bases = count_pages(nodes);
+    sum_up(&mut bases, 64);
+    bases
 }
 
 // The item of a cell at x and y, so many halves wide and high, on a row of a page.
@@ -99,10 +100,8 @@ pub fn fill_bricks(nodes: &[Record], facts: &[WorkRow], bases: &[u32], items: &m
     requires bases { Bases nodes.now bases.now × (length nodes.now ≤ length items.old) }
     ensures { (i : ℕ) → i < length nodes.now → BrickItem nodes.now facts.now items.new i }
 {
-    let mut i: usize = 0;
-    while i < nodes.len() {
+    for i in 0..nodes.len() {
         items[i] = brick_item(nodes, facts, bases, i);
-        i += 1;
     }
 }
 
@@ -145,20 +144,17 @@ fn fill_tap(
 fn fill_taps(
     nodes: &[Record],
     laid: &[WorkRow],
-    n: usize,
     asked: &[WorkRow],
     bases: &[u32],
     items: &mut [WorkRow],
 )
-    requires taps_askable { TapsAskable nodes.now laid.now asked.now n }
-    requires bases { Bases nodes.now bases.now × (length nodes.now ≤ 4096) × (length nodes.now + 2 * n ≤ length items.old) }
-    ensures by_index { (k : ℕ) → k < n → TapItems nodes.now laid.now asked.now items.new k }
+    requires taps_askable { TapsAskable nodes.now laid.now asked.now (length laid.now) }
+    requires bases { Bases nodes.now bases.now × (length nodes.now ≤ 4096) × (length nodes.now + 2 * length laid.now ≤ length items.old) }
+    ensures by_index { (k : ℕ) → k < length laid.now → TapItems nodes.now laid.now asked.now items.new k }
     ensures by_index_2 { (j : ℕ) → j < length nodes.now → get_or items.new j [] ≡ get_or items.old j [] }
 {
-    let mut k: usize = 0;
-    while k < n {
+    for k in 0..laid.len() {
         fill_tap(nodes, laid, asked, bases, k, items);
-        k += 1;
     }
 }
 
@@ -167,16 +163,14 @@ pub fn fill_items(
     nodes: &[Record],
     facts: &[WorkRow],
     laid: &[WorkRow],
-    n: usize,
     asked: &[WorkRow],
     items: &mut [WorkRow],
 )
     requires bricks_askable { BricksAskable nodes.now facts.now }
-    requires taps_askable { TapsAskable nodes.now laid.now asked.now n × (length nodes.now + 2 * n ≤ length items.old) }
-    ensures { Items nodes.now facts.now laid.now asked.now n items.new }
+    requires taps_askable { TapsAskable nodes.now laid.now asked.now (length laid.now) × (length nodes.now + 2 * length laid.now ≤ length items.old) }
+    ensures { Items nodes.now facts.now laid.now asked.now (length laid.now) items.new }
 {
-    let mut bases = [0u32; 64];
-    page_bases(nodes, &mut bases);
+    let bases = page_bases(nodes);
     fill_bricks(nodes, facts, &bases, items);
-    fill_taps(nodes, laid, n, asked, &bases, items);
+    fill_taps(nodes, laid, asked, &bases, items);
 }

@@ -5,6 +5,8 @@ use mathlib.Core.Path.{◌≡◌, sym, ap, ◌∙◌, subst}
 use mathlib.Core.Bool.{true}
 use mathlib.Core.List.{List}
 use lib.ListN.{length}
+use Rattle.std.proofs.Common.{Result, Ok, Err}
+use Rattle.base.specs.declared.refusal.Refusal.{Refusal}
 use Rattle.sheet.specs.declared.Counts.{Counts}
 use Rattle.board.specs.Board.{Board}
 use Rattle.board.specs.Demands.{PageLanes}
@@ -18,8 +20,6 @@ use Rattle.routes.specs.declared.bus.BusCount.{BusCount}
 use Rattle.routes.specs.declared.bus.BusCounts.{BusCounts}
 use Rattle.routes_corners.specs.Handed.{Mutes, Handed}
 use Rattle.routes_corners.specs.Turning.{has_room, TurnedFrom}
-use Rattle.routes_corners.specs.declared.turn.Turned.{Turned}
-use Rattle.routes_corners.specs.declared.turn.Turned.TheVariants.{Short, Laid}
 use Rattle.routes_ports.specs.Ports.{ports_set}
 use Rattle.routes_ports.specs.Settling.{ports_over, settled, Settleable, Settled}
 use Rattle.routes_ports.proofs.Calling.{settled_corners, settleable_corners}
@@ -43,14 +43,14 @@ module _ {b : Board} {ps : List PageLanes} {old old_wires oldPorts rows : List (
   ready_room =
       rw (ready.stands.rerouter_count, ready.stands.wires, ready.stands.suppressed) (laid_room_lem b ready.accepted ps ready.plan)
 
-  pub turned_short : {A : Type 0} (rerouters' busWires' : List (List ℕ)) (r : Turned) → TurnedFrom b (bus_of b ps) old old_wires (length b.wires) held rerouters' busWires' r → r ≡ Short → A
-  turned_short rerouters' busWires' Short t e = clash ready_room t
-  turned_short rerouters' busWires' (Laid count) t e = never cc
+  pub turned_short : {A : Type 0} (rerouters' busWires' : List (List ℕ)) (r : Result BusCount Refusal) (e : Refusal) → TurnedFrom b (bus_of b ps) old old_wires (length b.wires) held rerouters' busWires' r → r ≡ Err e → A
+  turned_short rerouters' busWires' (Err d) e t is = clash ready_room t
+  turned_short rerouters' busWires' (Ok count) e t is = never cc
 
-  pub turned_laid : (rerouters' busWires' : List (List ℕ)) (r : Turned) (count : BusCount) → TurnedFrom b (bus_of b ps) old old_wires (length b.wires) held rerouters' busWires' r → r ≡ Laid count
+  pub turned_laid : (rerouters' busWires' : List (List ℕ)) (r : Result BusCount Refusal) (count : BusCount) → TurnedFrom b (bus_of b ps) old old_wires (length b.wires) held rerouters' busWires' r → r ≡ Ok count
       → BusHeld (corners b (bus_of b ps)) old old_wires rerouters' busWires' count
-  turned_laid rerouters' busWires' Short count t e = never cc
-  turned_laid rerouters' busWires' (Laid c) count t e = let same : c ≡ count = cc in subst (λ (d : BusCount). BusHeld (corners b (bus_of b ps)) old old_wires rerouters' busWires' d) same t
+  turned_laid rerouters' busWires' (Err d) count t e = never cc
+  turned_laid rerouters' busWires' (Ok c) count t e = let same : c ≡ count = cc in subst (λ (d : BusCount). BusHeld (corners b (bus_of b ps)) old old_wires rerouters' busWires' d) same t
 
   given : ports_set (ports_held ports held.ports) ≡ (bus_of b ps).ports
   given =

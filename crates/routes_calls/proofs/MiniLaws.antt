@@ -8,6 +8,10 @@ use lib.Dec.{leb}
 use lib.ListN.{length, get_or, take}
 use lib.Seq.{take-suc}
 use borrow.Author.Tests.{leb-true}
+use Rattle.std.proofs.Common.{Result, Ok, Err}
+use Rattle.base.specs.declared.refusal.Reason.TheVariants.{NoRoom, NoLane}
+use Rattle.base.specs.declared.refusal.Refusal.{Refusal}
+use Rattle.base.specs.Refusal.{refusal}
 use Rattle.sheet.specs.declared.Counts.{Counts}
 use Rattle.board.specs.Board.{Board}
 use Rattle.board.specs.Demands.{PageLanes, Planned, crowded, planned, plan_lanes}
@@ -32,16 +36,13 @@ use Rattle.routes.specs.declared.bus.BusCount.{BusCount}
 use Rattle.routes.proofs.Room.{corner_room}
 use Rattle.routes_corners.specs.Handed.{ports_in, bus_in}
 use Rattle.routes_corners.specs.Turning.{has_room, TurnedAs}
-use Rattle.routes_corners.specs.declared.turn.Turned.{Turned}
-use Rattle.routes_corners.specs.declared.turn.Turned.TheVariants as turnings
 use Rattle.routes_corners.proofs.TurnLaws.{room_found}
 use Rattle.routes_ports.specs.Ports.{ports_set}
 use Rattle.routes.specs.Buffers.{wire_in, port_in, ports_held}
 use Rattle.routes_ports.specs.Settling.{ports_over, settled, Settleable, Settled}
 use Rattle.routes_ports.proofs.SetLaws.{set_last}
 use Rattle.routes_ports.proofs.Calling.{settled_corners, settleable_corners}
-use Rattle.routes_gutter.specs.declared.bus.BusPlan.{BusPlan}
-use Rattle.routes_gutter.specs.declared.bus.BusPlan.TheVariants.{Refused, Laid}
+use Rattle.routes_gutter.specs.declared.laying.BusLaid.{BusLaid}
 use Rattle.routes.specs.declared.bus.BusCounts.{BusCounts}
 use Rattle.routes_gutter.specs.Bus.{BusLent}
 use Rattle.routes.specs.Route.{fits_bus}
@@ -74,15 +75,15 @@ unfolding has_room
 ports_room W held m e =
     leb-true (held.ports + m) W (and_right (leb (held.rerouters + m) (5 * W) && leb (held.bus_wires + 2 * m) (6 * W)) (leb (held.ports + m) W) e)
 
-pub called_same : {call same : Routed} {old old_wires oldPorts rerouters bus_wires ports : List (List ℕ)} {r : BusPlan} → call ≡ same
+pub called_same : {call same : Routed} {old old_wires oldPorts rerouters bus_wires ports : List (List ℕ)} {r : Result BusLaid Refusal} → call ≡ same
     → BusCalled call old old_wires oldPorts rerouters bus_wires ports r → BusCalled same old old_wires oldPorts rerouters bus_wires ports r
 called_same {call} {same} {old} {old_wires} {oldPorts} {rerouters} {bus_wires} {ports} {r} e h =
     subst (λ (d : Routed). BusCalled d old old_wires oldPorts rerouters bus_wires ports r) e h
 
 -- A call that turns a sheet away, and one that leaves a bus.
 module _ (call : Routed) (old old_wires oldPorts rerouters bus_wires ports : List (List ℕ)) where
-  pub called_away : (n l : ℕ) → call ≡ turned_away n l → rerouters ≡ old → bus_wires ≡ old_wires → ports ≡ oldPorts → BusCalled call old old_wires oldPorts rerouters bus_wires ports (Refused n l)
-  called_away n l e r w p =
+  pub called_away : (e : Refusal) → call ≡ turned_away e → rerouters ≡ old → bus_wires ≡ old_wires → ports ≡ oldPorts → BusCalled call old old_wires oldPorts rerouters bus_wires ports (Err e)
+  called_away d e r w p =
       record {
         answer = ap bus_answer (sym e);
         rerouters_are = r ∙ ap (λ d. rerouters_after d old) (sym e);
@@ -91,10 +92,10 @@ module _ (call : Routed) (old old_wires oldPorts rerouters bus_wires ports : Lis
       }
 
   pub called_plan : (b : Board) (ps : List PageLanes) (bus : Bus) (g : ℕ) → call ≡ plan b ps bus g → (count : BusCount) → BusHeld bus old old_wires rerouters bus_wires count
-      → (u : ℕ) → u ≡ length bus.ports → ports ≡ ports_over bus.ports oldPorts → BusCalled call old old_wires oldPorts rerouters bus_wires ports (Laid count.rerouters count.wires u g)
+      → (u : ℕ) → u ≡ length bus.ports → ports ≡ ports_over bus.ports oldPorts → BusCalled call old old_wires oldPorts rerouters bus_wires ports (Ok (record { bus = record { rerouters = count.rerouters; bus_wires = count.wires; ports = u }; groups = g }))
   called_plan b ps bus g e count held u many p =
       record {
-        answer = (λ i. Laid (held.rerouter_count i) (held.wire_count i) (many i) g) ∙ ap bus_answer (sym e);
+        answer = (λ i. Ok (record { bus = record { rerouters = held.rerouter_count i; bus_wires = held.wire_count i; ports = many i }; groups = g })) ∙ ap bus_answer (sym e);
         rerouters_are = held.rerouter_rows ∙ ap (λ d. rerouters_after d old) (sym e);
         wires_are = held.wire_rows ∙ ap (λ d. bus_wires_after d old_wires) (sym e);
         ports_are = p ∙ ap (λ d. ports_after d oldPorts) (sym e);
@@ -108,7 +109,7 @@ module _ (rerouters bus_wires ports : List (List ℕ)) (held : BusCounts) (b : B
   abbrev fits : Bool
   fits = has_room (length b.wires) held (turnable b start)
 
-  abbrev After : List (List ℕ) → List (List ℕ) → Turned → Type 0
+  abbrev After : List (List ℕ) → List (List ℕ) → Result BusCount Refusal → Type 0
   After = TurnedAs b start (length b.wires) rerouters bus_wires held
 
   abbrev Held : Type 0
@@ -121,39 +122,39 @@ module _ (rerouters bus_wires ports : List (List ℕ)) (held : BusCounts) (b : B
   held_fits_lem h = ap (λ t. t && fits) h
 
   mini_fits_lem : (t : Bool) → held_fits rerouters bus_wires ports held b ≡ t
-      → mini_on rerouters bus_wires ports held b ≡ mini_by rerouters bus_wires ports held (elim t as (λ _. Planning) [ true ↦ crowding b (plan_lanes b) | false ↦ refused 7 0 ])
-  mini_fits_lem t e = ap (λ (v : Bool). mini_by rerouters bus_wires ports held (elim v as (λ _. Planning) [ true ↦ crowding b (plan_lanes b) | false ↦ refused 7 0 ])) e
+      → mini_on rerouters bus_wires ports held b ≡ mini_by rerouters bus_wires ports held (elim t as (λ _. Planning) [ true ↦ crowding b (plan_lanes b) | false ↦ refused (refusal NoRoom 0) ])
+  mini_fits_lem t e = ap (λ (v : Bool). mini_by rerouters bus_wires ports held (elim v as (λ _. Planning) [ true ↦ crowding b (plan_lanes b) | false ↦ refused (refusal NoRoom 0) ])) e
 
   mini_lanes : held_fits rerouters bus_wires ports held b ≡ true → (q : Planned) → plan_lanes b ≡ q → mini_on rerouters bus_wires ports held b ≡ mini_by rerouters bus_wires ports held (crowding b q)
   mini_lanes e q l = mini_fits_lem true e ∙ ap (λ (v : Planned). mini_by rerouters bus_wires ports held (crowding b v)) l
 
-  pub mini_unfit : held_fits rerouters bus_wires ports held b ≡ false → BusCalled (mini_on rerouters bus_wires ports held b) rerouters bus_wires ports rerouters bus_wires ports (Refused 7 0)
-  mini_unfit e = called_away _ rerouters bus_wires ports rerouters bus_wires ports 7 0 (mini_fits_lem false e) refl refl refl
+  pub mini_unfit : held_fits rerouters bus_wires ports held b ≡ false → BusCalled (mini_on rerouters bus_wires ports held b) rerouters bus_wires ports rerouters bus_wires ports (Err (refusal NoRoom 0))
+  mini_unfit e = called_away _ rerouters bus_wires ports rerouters bus_wires ports (refusal NoRoom 0) (mini_fits_lem false e) refl refl refl
 
-  pub mini_crowded : (p line : ℕ) → plan_lanes b ≡ crowded p → line ≡ suc p → (t : Bool) → t ≡ held_fits rerouters bus_wires ports held b → (r : BusPlan) → r ≡ crowded_at t line
-      → BusCalled (mini_on rerouters bus_wires ports held b) rerouters bus_wires ports rerouters bus_wires ports r
-  mini_crowded p line l at t e r is = subst (λ (q : BusPlan). BusCalled (mini_on rerouters bus_wires ports held b) rerouters bus_wires ports rerouters bus_wires ports q) (sym is) (go t e)
+  pub mini_crowded : (p : ℕ) (crowds : Refusal) → plan_lanes b ≡ crowded p → crowds ≡ refusal NoLane (suc p) → (t : Bool) → t ≡ held_fits rerouters bus_wires ports held b → (e : Refusal) → e ≡ crowded_at t crowds
+      → BusCalled (mini_on rerouters bus_wires ports held b) rerouters bus_wires ports rerouters bus_wires ports (Err e)
+  mini_crowded p crowds l at t f e is = subst (λ (d : Refusal). BusCalled (mini_on rerouters bus_wires ports held b) rerouters bus_wires ports rerouters bus_wires ports (Err d)) (sym is) (go t f)
     where
-      go : (t : Bool) → t ≡ held_fits rerouters bus_wires ports held b → BusCalled (mini_on rerouters bus_wires ports held b) rerouters bus_wires ports rerouters bus_wires ports (crowded_at t line)
-      go true f = called_away _ rerouters bus_wires ports rerouters bus_wires ports 8 line (mini_lanes (sym f) (crowded p) l ∙ ap (turned_away 8) (sym at)) refl refl refl
+      go : (t : Bool) → t ≡ held_fits rerouters bus_wires ports held b → BusCalled (mini_on rerouters bus_wires ports held b) rerouters bus_wires ports rerouters bus_wires ports (Err (crowded_at t crowds))
+      go true f = called_away _ rerouters bus_wires ports rerouters bus_wires ports crowds (mini_lanes (sym f) (crowded p) l ∙ ap turned_away (sym at)) refl refl refl
       go false f = mini_unfit (sym f)
 
-  pub mini_short : Held → (r' w' : List (List ℕ)) (r : Turned) → After r' w' r → r ≡ turnings.Short
-      → BusCalled (mini_on rerouters bus_wires ports held b) rerouters bus_wires ports r' w' ports (Refused 7 0)
-  mini_short h r' w' r t e =
-      let s = subst (After r' w') e t in
-      called_away _ rerouters bus_wires ports r' w' ports 7 0 (mini_fits_lem false (held_fits_lem h ∙ s.0)) s.1 s.2 refl
+  pub mini_short : Held → (r' w' : List (List ℕ)) (r : Result BusCount Refusal) (e : Refusal) → After r' w' r → r ≡ Err e
+      → BusCalled (mini_on rerouters bus_wires ports held b) rerouters bus_wires ports r' w' ports (Err e)
+  mini_short h r' w' r e t is =
+      let s = subst (After r' w') is t in
+      called_away _ rerouters bus_wires ports r' w' ports e (mini_fits_lem false (held_fits_lem h ∙ s.0) ∙ ap turned_away (sym s.1)) s.2 s.3 refl
 
   start_wires : length start.wires ≡ held.bus_wires
   unfolding bus_in
   start_wires = length-view wire_in bus_wires held.bus_wires
 
   module _ (few : Held) {rows : List (List ℕ)} {counts : Counts} {facts marks : List (List ℕ)} (ready : HeldReady b rows counts facts rerouters bus_wires ports marks)
-      (r' w' : List (List ℕ)) (r : Turned) (count : BusCount) (turned : After r' w' r) (is : r ≡ turnings.Laid count) where
+      (r' w' : List (List ℕ)) (r : Result BusCount Refusal) (count : BusCount) (turned : After r' w' r) (is : r ≡ Ok count) where
     within : (held.rerouters ≤ length rerouters) × (held.bus_wires ≤ length bus_wires) × (held.ports ≤ length ports)
     within = held_within held (length rerouters) (length bus_wires) (length ports) few
 
-    laid : After r' w' (turnings.Laid count)
+    laid : After r' w' (Ok count)
     laid = subst (After r' w') is turned
 
     start_ports : ports_set (ports_held ports held.ports) ≡ start.ports
@@ -183,7 +184,7 @@ module _ (rerouters bus_wires ports : List (List ℕ)) (held : BusCounts) (b : B
         ∙ settled_corners b ready.accepted start w' bus_wires laid.1.wire_rows room ports held.ports within.2 start_ports
 
     pub mini_laid : (ps : List PageLanes) → plan_lanes b ≡ planned ps → (p' : List (List ℕ)) (u : ℕ) → Settled w' held.bus_wires count.wires ports held.ports p' u
-        → BusCalled (mini_on rerouters bus_wires ports held b) rerouters bus_wires ports r' w' p' (Laid count.rerouters count.wires u 0)
+        → BusCalled (mini_on rerouters bus_wires ports held b) rerouters bus_wires ports r' w' p' (Ok (record { bus = record { rerouters = count.rerouters; bus_wires = count.wires; ports = u }; groups = 0 }))
     mini_laid ps l p' u s =
         called_plan _ rerouters bus_wires ports r' w' p' b ps (corners b start) 0 (mini_lanes (held_fits_lem few ∙ laid.0) (planned ps) l) count laid.1 u (s.count ∙ ap length settled_is)
         (s.rows ∙ ap (λ l. ports_over l ports) settled_is)
@@ -225,8 +226,8 @@ module _ (rerouters bus_wires ports : List (List ℕ)) (held : BusCounts) (most 
       ap (mini_by rerouters bus_wires ports held)
       (planning_then most text (mini_fits rerouters bus_wires ports held lentFits) lentFits (held_fits rerouters bus_wires ports held) (λ b. refl) ∙ ap (judged_for (held_fits rerouters bus_wires ports held)) e)
 
-  pub mini_refused : (n l : ℕ) → fitting most lentFits text ≡ Refusals.turned_away n l → mini_by rerouters bus_wires ports held (planning most (mini_fits rerouters bus_wires ports held lentFits) text) ≡ turned_away n l
-  mini_refused n l e = mini_by_lem (Refusals.turned_away n l) e
+  pub mini_refused : (e : Refusal) → fitting most lentFits text ≡ Refusals.turned_away e → mini_by rerouters bus_wires ports held (planning most (mini_fits rerouters bus_wires ports held lentFits) text) ≡ turned_away e
+  mini_refused r e = mini_by_lem (Refusals.turned_away r) e
 
   pub mini_tried : (b : Board) → fitting most lentFits text ≡ board b
       → mini_by rerouters bus_wires ports held (planning most (mini_fits rerouters bus_wires ports held lentFits) text) ≡ mini_on rerouters bus_wires ports held b

@@ -5,11 +5,13 @@ use mathlib.Core.Path.{◌≡◌, refl, sym, ap, ◌∙◌, subst}
 use mathlib.Core.List.{List, [], ◌∷◌, ◌++◌, map}
 use lib.ListN.{length, drop}
 use borrow.Author.Tests.{le-leb}
+use Rattle.std.proofs.Common.{Result, Ok, Err}
+use Rattle.base.specs.declared.refusal.Refusal.{Refusal}
 use Rattle.sheet.specs.declared.Counts.{Counts}
 use Rattle.board.specs.Board.{Board, field}
 use Rattle.board.specs.Demands.{PageLanes}
 use Rattle.board.specs.Planning.{Planning, refused, lanes_for, planning, records, page_row}
-use Rattle.board.specs.Walk.{WithinLibrary, counts_in}
+use Rattle.board.specs.Walk.{WithinLibrary}
 use Rattle.board_plan.specs.declared.Asked.{Asked}
 use Rattle.board_plan.specs.declared.Lent.{Lent}
 use Rattle.board_plan.specs.TextPlan.{LINE_MOST, has_room, fits_counts, fits_lent, shortest, lent_of, asked_for, WorkLent}
@@ -26,10 +28,9 @@ use Rattle.routes_gutter.specs.Bus.{BusLent, BusStands}
 use Rattle.routes_gutter.proofs.Planned.{rows_ready}
 use Rattle.routes.specs.declared.bus.BusCounts.{BusCounts}
 use Rattle.routes_calls.specs.Finish.{CornersReady, PlanReady, PlanTexted}
-use Rattle.routes_calls.specs.Route.{plan_fits, route_call, PlanCalled, without_counts}
-use Rattle.routes_calls.specs.declared.route.BusText.{BusText}
-use Rattle.routes_calls.specs.declared.route.BusText.TheVariants.{Refused, Laid}
-use Rattle.routes_gutter.specs.declared.bus.BusPlan.TheVariants as plans
+use Rattle.routes_calls.specs.Route.{plan_fits, route_call, PlanCalled}
+use Rattle.routes_gutter.specs.declared.laying.BusLaid.{BusLaid}
+use Rattle.routes_calls.specs.declared.route.PlanLaid.{PlanLaid}
 use Rattle.routes_calls.proofs.Turning.{board_fits}
 use Rattle.routes_calls.proofs.Finishing.{laid_few}
 
@@ -99,35 +100,40 @@ module _ (most : Counts) (text : List ℕ) (lent : Lent) (low : WithinLibrary mo
       record { laying = ready.0; mark_room = omega arith; port_room = ready.1; answer_room = omega arith }
 
   -- And its answer is the text's.
-  pub plan_told : (rerouters bus_wires ports answers : List (List ℕ)) (held : BusCounts) (g : ℕ)
-      → BusStands (finished told.on_board told.lanes) old old_wires oldPorts rerouters bus_wires ports held → g ≡ laid_groups told.on_board told.lanes
+  pub plan_told : (rerouters bus_wires ports answers : List (List ℕ)) (laid : BusLaid)
+      → BusStands (finished told.on_board told.lanes) old old_wires oldPorts rerouters bus_wires ports laid.bus → laid.groups ≡ laid_groups told.on_board told.lanes
       → answers ≡ map page_row told.lanes ++ drop (length told.lanes) oldAnswers
-      → PlanTexted (planning most (fits_lent lent) text) old old_wires oldPorts oldAnswers rerouters bus_wires ports answers (Laid c held g)
-  plan_told rerouters bus_wires ports answers held g stands laid written =
-      rw told.is (held, ap (λ (d : Counts). Laid d held g) told.counted ∙ ap (Laid (counts_in told.on_board) held) laid, stands, written)
+      → PlanTexted (planning most (fits_lent lent) text) old old_wires oldPorts oldAnswers rerouters bus_wires ports answers (Ok (record { counts = c; laid = laid }))
+  plan_told rerouters bus_wires ports answers laid stands groups written =
+      rw told.is (laid.bus, (λ i. Ok (record { counts = told.counted i; laid = record { bus = laid.bus; groups = groups i } })), stands, written)
 
 -- A refusal leaves all as it was.
-pub plan_refused : (p : Planning) (old old_wires oldPorts oldAnswers : List (List ℕ)) (n l : ℕ) → p ≡ refused n l
-    → PlanTexted p old old_wires oldPorts oldAnswers old old_wires oldPorts oldAnswers (Refused n l)
-plan_refused p old old_wires oldPorts oldAnswers n l e = rw e (refl, refl, refl, refl, refl)
+pub plan_refused : (p : Planning) (old old_wires oldPorts oldAnswers : List (List ℕ)) (e : Refusal) → p ≡ refused e
+    → PlanTexted p old old_wires oldPorts oldAnswers old old_wires oldPorts oldAnswers (Err e)
+plan_refused p old old_wires oldPorts oldAnswers e is = rw is (refl, refl, refl, refl, refl)
+
+-- The answer of a call that does not ask for the counts of records.
+abbrev pub laid_of : Result PlanLaid Refusal → Result BusLaid Refusal
+laid_of (Ok plan) = Ok plan.laid
+laid_of (Err e) = Err e
 
 -- `route` with what it finds lent.
 module _ (old old_wires oldPorts oldAnswers rerouters bus_wires ports answers : List (List ℕ)) where
-  plan_called : (p : Planning) (r : BusText) → PlanTexted p old old_wires oldPorts oldAnswers rerouters bus_wires ports answers r
-      → PlanCalled (routed_by finished p) old old_wires oldPorts oldAnswers rerouters bus_wires ports answers (without_counts r)
-  plan_called (refused n l) r (e, a, b, c, d) = record { answer = ap without_counts e; rerouters_are = a; wires_are = b; ports_are = c; answers_are = d }
+  plan_called : (p : Planning) (r : Result PlanLaid Refusal) → PlanTexted p old old_wires oldPorts oldAnswers rerouters bus_wires ports answers r
+      → PlanCalled (routed_by finished p) old old_wires oldPorts oldAnswers rerouters bus_wires ports answers (laid_of r)
+  plan_called (refused d') r (e, a, b, c, d) = record { answer = ap laid_of e; rerouters_are = a; wires_are = b; ports_are = c; answers_are = d }
   plan_called (lanes_for b ps) r (held, e, s, w) =
       record {
-        answer = ap without_counts e ∙ (λ i. plans.Laid (s.rerouter_count i) (s.wires i) (s.suppressed i) (laid_groups b ps));
+        answer = ap laid_of e ∙ (λ i. Ok (record { bus = record { rerouters = s.rerouter_count i; bus_wires = s.wires i; ports = s.suppressed i }; groups = laid_groups b ps }));
         rerouters_are = s.rerouters_are;
         wires_are = s.wires_are;
         ports_are = s.ports_are;
         answers_are = w;
       }
 
-  pub route_called : (text : List ℕ) (asked : Asked) (r w p a : ℕ) (lengths : List ℕ) → asked ≡ asked_for (r ∷ w ∷ p ∷ a ∷ []) lengths → (result : BusText)
+  pub route_called : (text : List ℕ) (asked : Asked) (r w p a : ℕ) (lengths : List ℕ) → asked ≡ asked_for (r ∷ w ∷ p ∷ a ∷ []) lengths → (result : Result PlanLaid Refusal)
       → PlanTexted (planning asked.most (fits_lent asked.lent) text) old old_wires oldPorts oldAnswers rerouters bus_wires ports answers result
-      → PlanCalled (route_call text (plan_fits r w p a lengths)) old old_wires oldPorts oldAnswers rerouters bus_wires ports answers (without_counts result)
+      → PlanCalled (route_call text (plan_fits r w p a lengths)) old old_wires oldPorts oldAnswers rerouters bus_wires ports answers (laid_of result)
   unfolding route_call routed
   route_called text asked r w p a lengths e result h =
       let is : planning asked.most (fits_lent asked.lent) text ≡ planning library_most (fits_plan r w p a (shortest lengths)) text =

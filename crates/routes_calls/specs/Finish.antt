@@ -1,5 +1,6 @@
 -- From the bus that `lay_bus` leaves to the finished plan. No rule stands here.
-use Rattle.std.specs.Prelude.{ℕ, ◌+◌, ◌*◌, ◌≤◌, ◌≡◌, List, ◌++◌, map, length, drop}
+use Rattle.std.specs.Prelude.{ℕ, ◌+◌, ◌*◌, ◌≤◌, ◌≡◌, List, ◌++◌, map, length, drop, Result, Ok, Err}
+use Rattle.base.specs.declared.refusal.Refusal.{Refusal}
 use Rattle.sheet.specs.declared.Counts.{Counts}
 use Rattle.board.specs.Board.{Board}
 use Rattle.board.specs.Accepted.{Accepted}
@@ -10,8 +11,7 @@ use Rattle.routes.specs.Plan.{bus_of, finished, laid_groups}
 use Rattle.routes.specs.declared.bus.BusCounts.{BusCounts}
 use Rattle.routes_gutter.specs.Bus.{RowsReady, BusStands}
 use Rattle.routes_calls.specs.Turn.{TurnReady}
-use Rattle.routes_calls.specs.declared.route.BusText.{BusText}
-use Rattle.routes_calls.specs.declared.route.BusText.TheVariants.{Refused, Laid}
+use Rattle.routes_calls.specs.declared.route.PlanLaid.{PlanLaid}
 
 -- The tables hold a planned board whose records stand in rows, and what is lent is as long as named: its plan can be laid, turned and answered.
 pub record PlanReady (b : Board) (ps : List PageLanes) (rows : List (List ℕ)) (counts : Counts) (m : ℕ) (facts taps groups demands keys marks rerouters bus_wires ports answers : List (List ℕ)) : Type 0 where
@@ -31,9 +31,9 @@ pub record CornersReady (b : Board) (ps : List PageLanes) (old old_wires oldPort
   pub ports_lent : length b.wires ≤ length oldPorts
 
 -- What the three calls in order answer and leave: on a refusal all buffers as they were, else the finished plan.
-abbrev pub PlanTexted : Planning → (old old_wires oldPorts oldAnswers rerouters bus_wires ports answers : List (List ℕ)) → BusText → Type 0
-PlanTexted (refused n l) old old_wires oldPorts oldAnswers rerouters bus_wires ports answers r =
-    (r ≡ Refused n l) × (rerouters ≡ old) × (bus_wires ≡ old_wires) × (ports ≡ oldPorts) × (answers ≡ oldAnswers)
+abbrev pub PlanTexted : Planning → (old old_wires oldPorts oldAnswers rerouters bus_wires ports answers : List (List ℕ)) → Result PlanLaid Refusal → Type 0
+PlanTexted (refused e) old old_wires oldPorts oldAnswers rerouters bus_wires ports answers r =
+    (r ≡ Err e) × (rerouters ≡ old) × (bus_wires ≡ old_wires) × (ports ≡ oldPorts) × (answers ≡ oldAnswers)
 PlanTexted (lanes_for b ps) old old_wires oldPorts oldAnswers rerouters bus_wires ports answers r =
-    (held : BusCounts) × (r ≡ Laid (counts_in b) held (laid_groups b ps)) × BusStands (finished b ps) old old_wires oldPorts rerouters bus_wires ports held
+    (held : BusCounts) × (r ≡ Ok (record { counts = counts_in b; laid = record { bus = held; groups = laid_groups b ps } })) × BusStands (finished b ps) old old_wires oldPorts rerouters bus_wires ports held
     × (answers ≡ map page_row ps ++ drop (length ps) oldAnswers)

@@ -1,5 +1,8 @@
 -- `lay_mini_bus`: what it answers and what it leaves in the buffers.
 use Rattle.std.specs.Prelude.{ℕ, ◌≤◌, Bool, true, false, ◌&&◌, List, leb, length}
+use Rattle.base.specs.declared.refusal.Reason.TheVariants.{NoRoom}
+use Rattle.base.specs.declared.refusal.Refusal.{Refusal}
+use Rattle.base.specs.Refusal.{refusal}
 use Rattle.sheet.specs.declared.Counts.{Counts}
 use Rattle.sheet.specs.Table.{library_most}
 use Rattle.board.specs.Board.{Board}
@@ -10,8 +13,6 @@ use Rattle.routes.specs.Corners.{corners, turnable}
 use Rattle.routes.specs.Route.{Routed, turned_away, plan}
 use Rattle.routes_corners.specs.Handed.{bus_in}
 use Rattle.routes_corners.specs.Turning.{has_room}
-use Rattle.routes_gutter.specs.declared.bus.BusPlan.{BusPlan}
-use Rattle.routes_gutter.specs.declared.bus.BusPlan.TheVariants.{Refused}
 use Rattle.routes.specs.declared.bus.BusCounts.{BusCounts}
 use Rattle.routes_calls.specs.Turn.{TurnReady}
 
@@ -32,7 +33,7 @@ module _ (rerouters bus_wires ports : List (List ℕ)) (held : BusCounts) where
 
   -- Its corners. No group is laid.
   abbrev pub mini_by : Planning → Routed
-  mini_by (refused n l) = turned_away n l
+  mini_by (refused e) = turned_away e
   mini_by (lanes_for b ps) = plan b ps (corners b bus_given) 0
 
   -- Of a board that what is lent fits: 7 where what is handed in does not, 8, or its corners.
@@ -47,9 +48,9 @@ unfoldable pub mini_call : List ℕ → (Board → Bool) → (rerouters bus_wire
 mini_call text fits rerouters bus_wires ports held = mini_by rerouters bus_wires ports held (planning library_most (mini_fits rerouters bus_wires ports held fits) text)
 
 -- How a crowded page is refused, by whether what is handed in fits.
-abbrev pub crowded_at : Bool → ℕ → BusPlan
-crowded_at true line = Refused 8 line
-crowded_at false line = Refused 7 0
+abbrev pub crowded_at : Bool → Refusal → Refusal
+crowded_at true crowded = crowded
+crowded_at false crowded = refusal NoRoom 0
 
 -- A board of an accepted sheet, ready for the corner pass whatever is handed in.
 pub record HeldReady (b : Board) (rows : List (List ℕ)) (counts : Counts) (facts rerouters bus_wires ports marks : List (List ℕ)) : Type 0 where

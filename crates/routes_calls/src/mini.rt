@@ -8,11 +8,11 @@ ghost use Rattle.routes_calls.specs.Mini.{holds as holdsCounts, held_fits, mini_
 ghost use Rattle.routes_calls.specs.Turn.{RowsKnown};
 
 use crate::turn::{rows_have_room, turn_rows};
+use base::refusal::{Reason, Refusal};
 use base::rows::{BusWireRow, PortRow, Record, RerouterRow, WorkRow};
-use board_plan::{ANSWERS_MOST, MARK_ROWS, TextPlan, ask, plan_text};
+use board_plan::{ANSWERS_MOST, MARK_ROWS, ask, plan_text};
 use routes::bus::BusCounts;
-use routes_corners::turn::Turned;
-use routes_gutter::bus::BusPlan;
+use routes_gutter::laying::BusLaid;
 use routes_ports::settle::settle_ports;
 use sheet::Counts;
 
@@ -42,18 +42,15 @@ fn held_fits(
     rows_have_room(records, counts, facts, ports, held)
 }
 
-// 8 at a crowded page's line, or 7 where what is handed in does not fit.
-fn refuse_crowded(fits: bool, line: usize) -> BusPlan
-    ensures { result ≡ crowded_at fits line }
+// The refusal of a crowded page, or 7 where what is handed in does not fit.
+fn refuse_crowded(fits: bool, crowded: Refusal) -> Refusal
+    ensures { result ≡ crowded_at fits crowded }
 {
     if fits {
-        BusPlan::Refused {
-            number: 8,
-            place: line,
-        }
+        crowded
     } else {
-        BusPlan::Refused {
-            number: 7,
+        Refusal {
+            reason: Reason::NoRoom,
             place: 0,
         }
     }
@@ -69,39 +66,34 @@ fn turn_held(
     bus_wires: &mut [BusWireRow],
     ports: &mut [PortRow],
     marks: &mut [WorkRow],
-) -> BusPlan
+) -> Result<BusLaid, Refusal>
     requires { (b : Board) × HeldReady b records.now counts facts.now rerouters.old bus_wires.old ports.old marks.old }
     ensures { (b : Board) (ps : List PageLanes) → HeldReady b records.now counts facts.now rerouters.old bus_wires.old ports.old marks.old
         → plan_lanes b ≡ planned ps → BusCalled (mini_on rerouters.old bus_wires.old ports.old held b) rerouters.old bus_wires.old ports.old rerouters.new bus_wires.new ports.new result }
 {
     if !holds(held, rerouters.len(), bus_wires.len(), ports.len()) {
-        return BusPlan::Refused {
-            number: 7,
+        return Err(Refusal {
+            reason: Reason::NoRoom,
             place: 0,
-        };
+        });
     }
-    match turn_rows(
+    let count = turn_rows(
         records, counts, facts, rerouters, bus_wires, ports, held, marks,
-    ) {
-        Turned::Short => BusPlan::Refused {
-            number: 7,
-            place: 0,
+    )?;
+    let n = count.rerouters;
+    let k = count.wires;
+    let u = settle_ports(bus_wires, held.bus_wires, k, ports, held.ports);
+    Ok(BusLaid {
+        bus: BusCounts {
+            rerouters: n,
+            bus_wires: k,
+            ports: u,
         },
-        Turned::Laid(count) => {
-            let n = count.rerouters;
-            let k = count.wires;
-            let u = settle_ports(bus_wires, held.bus_wires, k, ports, held.ports);
-            BusPlan::Laid {
-                rerouters: n,
-                bus_wires: k,
-                ports: u,
-                groups: 0,
-            }
-        }
-    }
+        groups: 0,
+    })
 }
 
-// The corners of a sheet's board, laid on the bus that the buffers hold. Each slice of work space has a row for each record, the marks five.
+// The corners of a sheet's board, laid on the bus that the buffers hold, or a refusal. Each slice of work space has a row for each record, the marks five.
 pub fn lay_mini_bus(
     text: &[u8],
     held: BusCounts,
@@ -115,7 +107,7 @@ pub fn lay_mini_bus(
     demands: &mut [WorkRow],
     keys: &mut [WorkRow],
     marks: &mut [WorkRow],
-) -> BusPlan
+) -> Result<BusLaid, Refusal>
     ensures { BusCalled (mini_call text.now (bus_fits (length rerouters.old) (length bus_wires.old) (length ports.old)
         (work_rows records.old facts.old taps.old groups.old demands.old keys.old marks.old))
         rerouters.old bus_wires.old ports.old held)
@@ -133,15 +125,16 @@ pub fn lay_mini_bus(
             marks.len() / MARK_ROWS,
         ],
     );
-    match plan_text(
+    let planned = plan_text(
         text, asked, records, facts, taps, groups, demands, keys, marks,
-    ) {
-        TextPlan::Refused { number, place } => BusPlan::Refused { number, place },
-        TextPlan::Crowded { counts, place } => {
+    )?;
+    let counts = planned.counts;
+    match planned.taps {
+        Err(crowded) => {
             let fits = held_fits(held, records, counts, facts, rerouters, bus_wires, ports);
-            refuse_crowded(fits, place)
+            Err(refuse_crowded(fits, crowded))
         }
-        TextPlan::Laned { counts, taps: _ } => turn_held(
+        Ok(_) => turn_held(
             held, records, counts, facts, rerouters, bus_wires, ports, marks,
         ),
     }

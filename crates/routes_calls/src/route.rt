@@ -8,30 +8,22 @@ ghost use Rattle.board_plan.specs.TextPlan.{fits_lent, work_rows, WorkLent};
 ghost use Rattle.routes.specs.Plan.{finished, laid_groups};
 ghost use Rattle.routes_gutter.specs.Bus.{BusLent, BusStands};
 ghost use Rattle.routes_calls.specs.Finish.{CornersReady, PlanReady, PlanTexted};
-ghost use Rattle.routes_calls.specs.Route.{plan_fits, route_call, PlanCalled, without_counts};
+ghost use Rattle.routes_calls.specs.Route.{plan_fits, route_call, PlanCalled};
 
 use crate::turn::turn_rows;
+use base::refusal::Refusal;
 use base::rows::{BusWireRow, PageRow, PortRow, Record, RerouterRow, WorkRow};
-use board_plan::{Asked, MARK_ROWS, TextPlan, ask, plan_text, write_pages};
+use board_plan::{Asked, MARK_ROWS, ask, plan_text, write_pages};
 use routes::bus::BusCounts;
-use routes_corners::turn::Turned;
-use routes_gutter::bus::BusPlan;
 use routes_gutter::laying::{BusLaid, lay_and_settle};
 use routes_ports::settle::settle_ports;
 use sheet::Counts;
 
-// A refusal and its place; or how many records of each section there are, what stands in the buffers, and how many groups were laid.
+// A finished plan: how many records of each section its board has, what stands in the buffers, and how many groups were laid.
 #[derive(Clone, Copy)]
-pub enum BusText {
-    Refused {
-        number: usize,
-        place: usize,
-    },
-    Laid {
-        counts: Counts,
-        bus: BusCounts,
-        groups: usize,
-    },
+pub struct PlanLaid {
+    pub counts: Counts,
+    pub laid: BusLaid,
 }
 
 // The corners on top of the lanes' bus, and the ports that their deliveries suppress. There is always room: a wire that may turn is not delivered yet.
@@ -52,8 +44,8 @@ fn turn_and_settle(
     match turn_rows(
         records, counts, facts, rerouters, bus_wires, ports, held, marks,
     ) {
-        Turned::Short => held,
-        Turned::Laid(count) => {
+        Err(_) => held,
+        Ok(count) => {
             let n = count.rerouters;
             let k = count.wires;
             let u = settle_ports(bus_wires, held.bus_wires, k, ports, held.ports);
@@ -116,48 +108,21 @@ pub fn route_within(
     demands: &mut [WorkRow],
     keys: &mut [WorkRow],
     marks: &mut [WorkRow],
-) -> BusText
+) -> Result<PlanLaid, Refusal>
     requires work_lent { WorkLent asked.lent.work (length records.old) facts.old taps.old groups.old demands.old keys.old marks.old }
     requires within_library { WithinLibrary asked.most × BusLent asked.lent marks.old rerouters.old bus_wires.old ports.old × (asked.lent.answers ≤ length answers.old) }
     ensures { PlanTexted (planning asked.most (fits_lent asked.lent) text.now) rerouters.old bus_wires.old ports.old answers.old rerouters.new bus_wires.new ports.new answers.new result }
 {
-    match plan_text(
+    let planned = plan_text(
         text, asked, records, facts, taps, groups, demands, keys, marks,
-    ) {
-        TextPlan::Refused { number, place } => BusText::Refused { number, place },
-        TextPlan::Crowded { counts: _, place } => BusText::Refused { number: 8, place },
-        TextPlan::Laned { counts, taps: m } => {
-            let laid = finish_plan(
-                records, counts, m, facts, taps, groups, demands, keys, marks, rerouters,
-                bus_wires, ports, answers,
-            );
-            let bus = laid.bus;
-            BusText::Laid {
-                counts,
-                bus,
-                groups: laid.groups,
-            }
-        }
-    }
-}
-
-// The answer of a call that does not ask for the counts of records.
-fn without_counts(text: BusText) -> BusPlan
-    ensures { result ≡ without_counts text }
-{
-    match text {
-        BusText::Refused { number, place } => BusPlan::Refused { number, place },
-        BusText::Laid {
-            counts: _,
-            bus,
-            groups,
-        } => BusPlan::Laid {
-            rerouters: bus.rerouters,
-            bus_wires: bus.bus_wires,
-            ports: bus.ports,
-            groups,
-        },
-    }
+    )?;
+    let counts = planned.counts;
+    let m = planned.taps?;
+    let laid = finish_plan(
+        records, counts, m, facts, taps, groups, demands, keys, marks, rerouters, bus_wires, ports,
+        answers,
+    );
+    Ok(PlanLaid { counts, laid })
 }
 
 // The finished plan of a sheet's board and its page answers, or a refusal. Each slice of work space has a row for each record, the marks five.
@@ -174,7 +139,7 @@ pub fn route(
     demands: &mut [WorkRow],
     keys: &mut [WorkRow],
     marks: &mut [WorkRow],
-) -> BusPlan
+) -> Result<BusLaid, Refusal>
     ensures { PlanCalled (route_call text.now (plan_fits (length rerouters.old) (length bus_wires.old) (length ports.old) (length answers.old)
         (work_rows records.old facts.old taps.old groups.old demands.old keys.old marks.old)))
         rerouters.old bus_wires.old ports.old answers.old rerouters.new bus_wires.new ports.new answers.new result }
@@ -191,8 +156,9 @@ pub fn route(
             marks.len() / MARK_ROWS,
         ],
     );
-    without_counts(route_within(
+    let plan = route_within(
         text, asked, rerouters, bus_wires, ports, answers, records, facts, taps, groups, demands,
         keys, marks,
-    ))
+    )?;
+    Ok(plan.laid)
 }

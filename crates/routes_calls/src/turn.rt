@@ -7,9 +7,11 @@ ghost use Rattle.routes_corners.specs.Handed.{bus_in, Mutes, Handed};
 ghost use Rattle.routes_corners.specs.Turning.{has_room, TurnedAs, TurnedFrom};
 ghost use Rattle.routes_calls.specs.Turn.{TurnReady, RowsKnown};
 
+use base::refusal::Refusal;
 use base::rows::{BusWireRow, PortRow, Record, RerouterRow, WorkRow};
-use routes::bus::BusCounts;
-use routes_corners::turn::{Turned, has_room_to_turn, turn_corners};
+use board_plan::sections::cut_sections;
+use routes::bus::{BusCount, BusCounts};
+use routes_corners::turn::{has_room_to_turn, turn_corners};
 use sheet::Counts;
 
 // The corners of a board on the bus that is held.
@@ -22,29 +24,16 @@ pub fn turn_rows(
     ports: &[PortRow],
     held: BusCounts,
     marks: &mut [WorkRow],
-) -> Turned
+) -> Result<BusCount, Refusal>
     requires { (b : Board) × TurnReady b records.now counts facts.now rerouters.old bus_wires.old ports.now held marks.old }
     ensures turned_as { (b : Board) → TurnReady b records.now counts facts.now rerouters.old bus_wires.old ports.now held marks.old
         → TurnedAs b (bus_in rerouters.old bus_wires.old ports.now held) (length b.wires) rerouters.old bus_wires.old held rerouters.new bus_wires.new result }
     ensures turned_from { (b : Board) (bus : Bus) (old old_wires : List (List ℕ)) → TurnReady b records.now counts facts.now rerouters.entry.now bus_wires.old ports.now held marks.old
         → Mutes b bus ports.now held.ports → Handed bus old old_wires rerouters.entry.now bus_wires.old (record { rerouters = held.rerouters; wires = held.bus_wires }) → TurnedFrom b bus old old_wires (length b.wires) held rerouters.exit.now bus_wires.new result }
 {
-    let nodes = counts.pages;
-    let chips = nodes + counts.nodes;
-    let inner = chips + counts.chips;
-    let execs = inner + counts.inner;
-    let wires = execs + counts.execs;
-    let end = wires + counts.wires;
+    let s = cut_sections(records, counts);
     turn_corners(
-        &records[..nodes],
-        &records[nodes..chips],
-        &records[wires..end],
-        facts,
-        rerouters,
-        bus_wires,
-        ports,
-        held,
-        marks,
+        s.pages, s.nodes, s.wires, facts, rerouters, bus_wires, ports, held, marks,
     )
 }
 
@@ -60,17 +49,6 @@ pub fn rows_have_room(
     requires ports_in_bounds { (held.ports ≤ length ports.now) × (held.rerouters < 9223372036854775808) × (held.bus_wires < 9223372036854775808) }
     ensures { (b : Board) (bus : Bus) → RowsKnown b records.now counts facts.now → Mutes b bus ports.now held.ports → result ≡ has_room (length b.wires) held (turnable b bus) }
 {
-    let nodes = counts.pages;
-    let chips = nodes + counts.nodes;
-    let inner = chips + counts.chips;
-    let execs = inner + counts.inner;
-    let wires = execs + counts.execs;
-    let end = wires + counts.wires;
-    has_room_to_turn(
-        &records[nodes..chips],
-        &records[wires..end],
-        facts,
-        ports,
-        held,
-    )
+    let s = cut_sections(records, counts);
+    has_room_to_turn(s.nodes, s.wires, facts, ports, held)
 }

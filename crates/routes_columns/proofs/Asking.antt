@@ -6,10 +6,9 @@ use mathlib.Core.List.{List, [], ◌∷◌}
 use native.Mathlib.Omega.{arith}
 use lib.Dec.{eqb}
 use lib.ListN.{length, get_or, set}
-use borrow.Author.Tests.{eq-eqb, ne_eqb, eqb-false}
+use borrow.Author.Tests.{eq-eqb, ne_eqb}
 use Rattle.sheet.specs.Table.{MISSING}
 use Rattle.base.specs.Lists.{Found, none, at, found}
-use Rattle.base.proofs.Bools.{and_right}
 use Rattle.board.specs.Board.{Board, placed}
 use Rattle.board.specs.Rows.{REROUTER_SIZE}
 use Rattle.board.specs.Groups
@@ -17,54 +16,23 @@ use Rattle.board.specs.Groups.{source_row}
 use Rattle.board.specs.Demands.{PageLanes}
 use Rattle.board.specs.Tables.{held, flag, tap_in}
 use Rattle.routes.specs.Stops.{new_group, new_row}
-use Rattle.routes.specs.Levels.{Level, dropped, shared, own, Stop, unclaimed, lane_for}
+use Rattle.routes.specs.Levels.{Level, Stop, unclaimed, lane_for}
 use Rattle.routes.specs.Rerouters.{TAP_RESERVE, source}
 use Rattle.routes_taps.specs.declared.taps.Lane.{Lane}
 use Rattle.routes_taps.specs.declared.taps.Tap.{Tap}
 use Rattle.routes_taps.specs.declared.taps.News.{News}
-use Rattle.routes_taps.specs.Taps.{tap_of, tap_read, lane_read, LaneOf, NewsOf, RowHeld, LowLevel}
+use Rattle.routes_taps.specs.Taps.{tap_of, tap_read, lane_read, LaneOf, NewsOf, RowHeld}
 use Rattle.routes_taps.specs.Asking
 use Rattle.routes_taps.specs.Asking.{served_at, is_own, is_kept, claim_if, head_here, link_here, headed, ask_tap, question_row, source_x}
 use Rattle.routes_columns.specs.declared.columns.Questions.{Questions}
 use Rattle.routes_columns.specs.Columns.{lane_key, claim_at, claimed_if, ClaimsHeld, ClaimRoom, Claiming, TwoMore, head_in, headed_in, link_in, linked_in, TapTold, TapAsked, row_in, NextAsked}
-use Rattle.routes_columns.proofs.Claiming.{not_true, claim_held, one_claim}
-
--- A level is low enough for a link above it.
-pub low_served : (v : Level) (x : ℕ) → LowLevel v → x ≡ served_at v → x < 4294967290
-low_served dropped x h e = omega arith
-low_served (shared y) x h e = omega arith
-low_served (own y) x h e = omega arith
-
--- A head is wanted only where its source is placed.
-pub head_there : (fresh : Bool) (x : ℕ) → fresh && not (eqb x MISSING) ≡ true → x ≡ MISSING → ⊥
-head_there fresh x e = eqb-false x MISSING (not_true (eqb x MISSING) (and_right fresh (not (eqb x MISSING)) e))
+use Rattle.routes_columns.proofs.Claiming.{claim_held, one_claim}
 
 -- The run of a tap's lane, by what the code read of the tap.
 pub lane_keyed : (pages nodes wires facts groups laid : List (List ℕ)) (k : ℕ) (t : Tap) (l : Lane) → t ≡ tap_read (get_or laid k []) → l ≡ lane_read pages nodes wires facts groups t.page t.group
     → (t.page ≡ get_or (get_or laid k []) 0 0) × (l.lane ≡ get_or (get_or groups (get_or (get_or laid k []) 1 0) []) 4 0)
 lane_keyed pages nodes wires facts groups laid k t l et el =
     (ap (λ (u : Tap). u.page) et, ap (λ (v : Lane). v.lane) el ∙ ap (λ (u : Tap). get_or (get_or groups u.group []) 4 0) et)
-
--- Room for one claim, and for the second behind the first.
-pub room_one : (starts nexts xs : List ℕ) (k q : ℕ) → k ≡ q → ClaimRoom 2 starts nexts xs q → ClaimRoom 1 starts nexts xs k
-room_one starts nexts xs k q e r =
-    rw e (record { start = r.start; next = r.next; begun = r.begun; room = let h = r.room in omega arith; inside = r.inside; small = r.small })
-
-pub room_left : {starts nexts xs nexts' xs' : List ℕ} {k q x : ℕ} {wanted t : Bool} → k ≡ q → ClaimRoom 2 starts nexts xs q → Claiming starts k x wanted nexts xs nexts' xs' t → length nexts' ≡ length nexts
-    → length xs' ≡ length xs → ClaimRoom 1 starts nexts' xs' k
-room_left {starts} {nexts} {xs} {nexts'} {xs'} {k} {q} {x} {wanted} {t} e r₀ c long wide =
-    let r : ClaimRoom 2 starts nexts xs k = subst (ClaimRoom 2 starts nexts xs) (sym e) r₀ in
-    let m = one_claim r.next c in
-    let a = m.0 in
-    let b = m.1 in
-    record {
-      start = r.start;
-      next = let h = r.next in omega arith;
-      begun = let h = r.begun in omega arith;
-      room = let h = r.room in omega arith;
-      inside = let h = r.inside in omega arith;
-      small = let h = r.small in omega arith;
-    }
 
 -- The head asked, then the link.
 module _ (t : Tap) (l : Lane) (news : News) (level : Level) {starts nexts xs nexts₁ xs₁ nexts₂ xs₂ : List ℕ} {k served : ℕ} {keeps head link : Bool} (few : l.lane < 512) (e : k ≡ lane_key t.page l.lane)
@@ -98,13 +66,6 @@ module _ (t : Tap) (l : Lane) (news : News) (level : Level) {starts nexts xs nex
 
   pub tap_asked : TapAsked t l news level starts nexts xs nexts₂ xs₂ (record { head = head; link = link })
   tap_asked = record { more = two_more; told = told }
-
--- The row of a tap's questions, number by number.
-pub row_is : (l : Lane) (news : News) (level : Level) (head link keeps : Bool) (a b c d s : ℕ) → keeps ≡ is_kept level → a ≡ flag head → b ≡ flag link → c ≡ flag (head && not (eqb l.source_row MISSING))
-    → d ≡ flag (news.column && keeps) → s ≡ served_at level
-    → ◌≡◌ {A = List ℕ} (a ∷ b ∷ c ∷ d ∷ l.source_row ∷ l.source_x ∷ (l.source_y - 5) ∷ s ∷ []) (row_in l news level head link)
-row_is l news level head link keeps a b c d s ek ea eb ec ed es =
-    λ i. ea i ∷ eb i ∷ ec i ∷ (ed ∙ ap (λ v. flag (news.column && v)) ek) i ∷ l.source_row ∷ l.source_x ∷ (l.source_y - 5) ∷ es i ∷ []
 
 -- A row that may not be known.
 row_known : (v : ℕ) (f : Found) → RowHeld v f → not (eqb v MISSING) ≡ found f

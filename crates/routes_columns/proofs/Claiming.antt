@@ -4,11 +4,11 @@ use mathlib.Core.Path.{◌≡◌, refl, ap, ap₂, sym, subst, ◌∙◌}
 use mathlib.Core.Bool.{Bool, true, false, not, ◌&&◌, ◌||◌}
 use mathlib.Core.List.{List, [], ◌∷◌}
 use native.Mathlib.Omega.{arith}
-use native.Mathlib.Decide.{dec_lt, ℕ_discrete}
+use native.Mathlib.Decide.{ℕ_discrete}
 use lib.Dec.{eqb, ltb}
-use lib.ListN.{length, get_or}
-use lib.Seq.{get_or-set_same, get_or-set_other}
-use borrow.Author.Tests.{eq-eqb, ne_eqb, lt-ltb, le-ltb, ltb-true, ltb-false}
+use lib.ListN.{length, get_or, take, drop, length-drop}
+use lib.Seq.{get_or-set_same, get_or-set_other, get_or-take, get_or-drop, length-take-le}
+use borrow.Author.Tests.{eq-eqb, ne_eqb, ltb-true, ltb-false}
 use Rattle.base.specs.Lists.{any}
 use Rattle.base.specs.Growing.{stretch, run_in, values_of, Put, Filled}
 use Rattle.base.specs.Views.{view}
@@ -20,21 +20,20 @@ use Rattle.routes.specs.Tables.{stop_in}
 use Rattle.routes_taps.specs.declared.taps.Tap.{Tap}
 use Rattle.routes_columns.specs.Columns.{lane_key, keys_of, stop_key, level_at, PutIf, Claiming, claim_at, claimed_if, with_own, own_levels, ClaimsHeld}
 
--- A test turned round.
-pub not_true : (t : Bool) → not t ≡ true → t ≡ false
-not_true true e = sym e
-not_true false e = refl
+-- A stretch is that of the slice that it is.
+pub stretch_slice : (xs : List ℕ) (a n c : ℕ) → c ≤ n → stretch (take n (drop a xs)) 0 c ≡ stretch xs a c
+stretch_slice xs a n zero h = refl
+stretch_slice xs a n (suc c) h =
+    let from : 0 + c ≡ c = omega arith in
+    let one : get_or (take n (drop a xs)) (0 + c) 0 ≡ get_or xs (a + c) 0 = ap (λ j. get_or (take n (drop a xs)) j 0) from ∙ get_or-take n (drop a xs) c 0 (omega arith) ∙ get_or-drop a xs c 0 in
+    let rest : stretch (take n (drop a xs)) 0 c ≡ stretch xs a c = stretch_slice xs a n c (omega arith) in
+    λ i. one i ∷ rest i
 
-pub not_false : (t : Bool) → not t ≡ false → t ≡ true
-not_false true e = refl
-not_false false e = sym e
-
--- What is not wanted, and what is.
-pub not_wanted : (wanted u : Bool) → not wanted ≡ true → false ≡ wanted && u
-not_wanted wanted u e = rw (not_true wanted e) refl
-
-pub wanted_so : (wanted t u : Bool) → not wanted ≡ false → t ≡ u → t ≡ wanted && u
-wanted_so wanted t u e h = rw (not_false wanted e) h
+pub slice_run : (xs : List ℕ) (a e : ℕ) → a ≤ e → e ≤ length xs → stretch (take (e - a) (drop a xs)) 0 (length (take (e - a) (drop a xs))) ≡ stretch xs a (e - a)
+slice_run xs a e h k =
+    let rest = length-drop a xs in
+    let long : length (take (e - a) (drop a xs)) ≡ e - a = length-take-le (e - a) (drop a xs) (omega arith) in
+    stretch_slice xs a (e - a) (length (take (e - a) (drop a xs))) (omega arith) ∙ ap (stretch xs a) long
 
 -- Two lanes have two runs.
 lanes_apart : (a b p lane : ℕ) → b < 512 → lane < 512 → eqb (lane_key a b) (lane_key p lane) ≡ eqb a p && eqb b lane
@@ -103,45 +102,6 @@ near_own p lane x (s ∷ l) = ap (λ t. claim_near p lane x s || t) (near_own p 
     go true (shared y) = refl
     go true dropped = refl
     go false v = refl
-
--- What is near x is x, or next to it.
-pub near_three : (x v : ℕ) → (eqb v (x - 1) || eqb v x || eqb v (x + 1)) ≡ near x v
-near_three x v = elim (dec_lt x (v + 2)) [
-  | yes h ↦ elim (dec_lt v (x + 2)) [
-    | yes k ↦ one h k ∙ sym (ap₂ (λ s t. s && t) (lt-ltb x (v + 2) h) (lt-ltb v (x + 2) k))
-    | no k ↦ none (omega (arith, k)) (omega (arith, k)) (omega (arith, k)) ∙ sym (ap₂ (λ s t. s && t) (lt-ltb x (v + 2) h) (le-ltb v (x + 2) (omega (arith, k))))
-  ]
-  | no h ↦ none (λ z. omega (arith, h)) (λ z. omega (arith, h)) (λ z. omega (arith, h)) ∙ sym (false_first (ltb x (v + 2)) (ltb v (x + 2)) (le-ltb x (v + 2) (omega (arith, h))))
-]
-  where
-    none : (v ≡ x - 1 → ⊥) → (v ≡ x → ⊥) → (v ≡ x + 1 → ⊥) → (eqb v (x - 1) || eqb v x || eqb v (x + 1)) ≡ false
-    none a b c = rw (ne_eqb v (x - 1) a, ne_eqb v x b, ne_eqb v (x + 1) c) refl
-
-    last : (s t : Bool) → (s || t || true) ≡ true
-    last true t = refl
-    last false true = refl
-    last false false = refl
-
-    middle : (s t : Bool) → (s || true || t) ≡ true
-    middle true t = refl
-    middle false t = refl
-
-    one : x < v + 2 → v < x + 2 → (eqb v (x - 1) || eqb v x || eqb v (x + 1)) ≡ true
-    one h k = elim (ℕ_discrete v (x - 1)) [
-      | yes e ↦ rw (eq-eqb v (x - 1) e) refl
-      | no e ↦ elim (ℕ_discrete v x) [
-        | yes f ↦ rw (eq-eqb v x f) (middle (eqb v (x - 1)) (eqb v (x + 1)))
-        | no f ↦ rw (eq-eqb v (x + 1) (omega (arith, e, f))) (last (eqb v (x - 1)) (eqb v x))
-      ]
-    ]
-
--- One claim more is looked at.
-pub looked_more : (xs : List ℕ) (a i x : ℕ) (hit : Bool) → a ≤ i → hit ≡ any (near x) (stretch xs a (i - a))
-    → (eqb (get_or xs i 0) (x - 1) || eqb (get_or xs i 0) x || eqb (get_or xs i 0) (x + 1) || hit) ≡ any (near x) (stretch xs a (i + 1 - a))
-looked_more xs a i x hit h e =
-    let count : i + 1 - a ≡ suc (i - a) = omega arith in
-    let place : a + (i - a) ≡ i = omega arith in
-    ap₂ (λ s t. s || t) (near_three x (get_or xs i 0) ∙ ap (λ j. near x (get_or xs j 0)) (sym place)) e ∙ ap (λ c. any (near x) (stretch xs a c)) (sym count)
 
 -- Asked for in a lane, and claimed there.
 module _ {pages : ℕ} {l : List Stop} {starts nexts xs : List ℕ} (c : ClaimsHeld pages l starts nexts xs) {k : ℕ} (t : Tap) (lane x : ℕ) (on : t.page < pages) (few : lane < 512) (e : k ≡ lane_key t.page lane) (room : get_or nexts k 0 < get_or starts (suc k) 0) where

@@ -1,59 +1,20 @@
 -- Room for the claims of each lane: counted by stops and taps, summed up to starts, and filled with what the stops put.
 use Prim.Native.Nat.{ℕ, zero, suc, ◌+◌, ◌*◌, ◌≤◌, ◌<◌}
-use mathlib.Core.Path.{◌≡◌, refl, ap, sym, subst, ◌∙◌}
+use mathlib.Core.Path.{◌≡◌, refl, sym, subst, ◌∙◌}
 use mathlib.Core.Bool.{Bool, true, false, not, ◌&&◌}
 use mathlib.Core.List.{List, []}
 use native.Mathlib.Omega.{arith}
-use native.Mathlib.Decide.{ℕ_discrete}
 use native.Mathlib.Numerals.{add-one}
 use lib.Dec.{eqb, ltb}
-use lib.ListN.{length, get_or, set, replicate, length-replicate}
-use lib.Seq.{get_or-set_same, get_or-set_other}
+use lib.ListN.{length, get_or, replicate, length-replicate}
 use borrow.Author.Tests.{ltb-true}
 use Rattle.base.specs.Runs.{having, sums}
 use Rattle.base.specs.Growing.{Growing, Put, Filled}
-use Rattle.base.proofs.Bools.{and_left, and_right, pick_true, pick_false}
-use Rattle.base.proofs.RunLaws.{having_le, having_more, having_other, start_most, zeros_at}
+use Rattle.base.proofs.RunLaws.{having_le, having_more, start_most, zeros_at}
 use Rattle.base.proofs.GrowLaws.{growing_none, filled_to, filled_more}
 use Rattle.board.specs.Board.{field}
 use Rattle.routes_taps.specs.Taps.{LaidInRange}
-use Rattle.routes_columns.specs.Columns.{lane_key, keys_of, on_lane, own_key, stop_key, tap_key, level_at, room_of, TapKeyed, AskRoom}
-
--- Counting: a count that grows at one place as what it counts does.
-counted_on : (f : ℕ → ℕ → ℕ) (key : ℕ → ℕ) (counts counts' : List ℕ) (i m more : ℕ) → m ≡ suc i → key i < length counts → f (key i) (suc i) ≡ f (key i) i + more
-    → ((j : ℕ) → (key i ≡ j → ⊥) → f j (suc i) ≡ f j i) → counts' ≡ set counts (key i) (get_or counts (key i) 0 + more) → ((j : ℕ) → get_or counts j 0 ≡ f j i)
-    → (j : ℕ) → get_or counts' j 0 ≡ f j m
-counted_on f key counts counts' i m more e inside one same d c j =
-    rw (d, e) (elim (ℕ_discrete j (key i)) [
-      | yes s ↦ ap (λ (q : ℕ). get_or (set counts (key i) (get_or counts (key i) 0 + more)) q 0) s ∙ get_or-set_same counts (key i) (get_or counts (key i) 0 + more) 0 inside
-          ∙ ap (λ (q : ℕ). q + more) (c (key i)) ∙ sym one ∙ ap (λ (q : ℕ). f q (suc i)) (sym s)
-      | no s ↦ get_or-set_other counts (key i) j (get_or counts (key i) 0 + more) 0 s ∙ c j ∙ sym (same j (λ t. s (sym t)))
-    ])
-
-pub stops_counted : (key : ℕ → ℕ) (counts counts' : List ℕ) (i : ℕ) → key i < length counts → counts' ≡ set counts (key i) (get_or counts (key i) 0 + 1) → ((j : ℕ) → get_or counts j 0 ≡ having key j i)
-    → (j : ℕ) → get_or counts' j 0 ≡ having key j (i + 1)
-stops_counted key counts counts' i inside d c =
-    counted_on (having key) key counts counts' i (i + 1) 1 (add-one i) inside (having_more key (key i) i refl ∙ sym (add-one (having key (key i) i))) (λ j e. having_other key j i e) d c
-
-pub taps_counted : (key base : ℕ → ℕ) (counts counts' : List ℕ) (i : ℕ) → key i < length counts → counts' ≡ set counts (key i) (get_or counts (key i) 0 + 2)
-    → ((j : ℕ) → get_or counts j 0 ≡ base j + 2 * having key j i) → (j : ℕ) → get_or counts' j 0 ≡ base j + 2 * having key j (i + 1)
-taps_counted key base counts counts' i inside d c =
-    counted_on (λ j m. base j + 2 * having key j m) key counts counts' i (i + 1) 2 (add-one i) inside (omega (arith, having_more key (key i) i refl))
-    (λ j e. omega (arith, having_other key j i e)) d c
-
--- Which run is a stop's.
-pub lane_of_own : (pages : ℕ) (r : List ℕ) → on_lane pages r ≡ true → (get_or r 0 0 < pages) × (get_or r 1 0 < 512)
-lane_of_own pages r h =
-    let kinds : Bool = not (eqb (get_or r 6 0) 0) && not (eqb (get_or r 6 0) 1) in (
-      ltb-true (get_or r 0 0) pages (and_right kinds (ltb (get_or r 0 0) pages) (and_left (kinds && ltb (get_or r 0 0) pages) (ltb (get_or r 1 0) 512) h)),
-      ltb-true (get_or r 1 0) 512 (and_right (kinds && ltb (get_or r 0 0) pages) (ltb (get_or r 1 0) 512) h),
-    )
-
-pub own_is : (pages : ℕ) (r : List ℕ) → on_lane pages r ≡ true → lane_key (get_or r 0 0) (get_or r 1 0) ≡ own_key pages r
-own_is pages r h = sym (pick_true (on_lane pages r) (lane_key (get_or r 0 0) (get_or r 1 0)) (pages * 512) h)
-
-pub own_not : (pages : ℕ) (r : List ℕ) → on_lane pages r ≡ false → pages * 512 ≡ own_key pages r
-own_not pages r h = sym (pick_false (on_lane pages r) (lane_key (get_or r 0 0) (get_or r 1 0)) (pages * 512) h)
+use Rattle.routes_columns.specs.Columns.{lane_key, keys_of, own_key, stop_key, tap_key, level_at, room_of, TapKeyed, AskRoom}
 
 -- A stop's run is one of the pages', or the one behind them.
 pub own_small : (pages : ℕ) (r : List ℕ) → own_key pages r < keys_of pages

@@ -12,6 +12,7 @@ use base::growing::put;
 use base::rows::WorkRow;
 use base::runs::sum_up;
 use lanes::table::LANE_MOST;
+use routes_taps::taps::{KIND_DROPPED, KIND_SHARED};
 
 // The number of a lane's run.
 pub fn lane_key(page: u32, lane: u32) -> usize
@@ -38,45 +39,33 @@ fn stop_key(stop: [u32; 8], pages: usize) -> usize
     let kind = stop[6];
     let page = stop[0] as usize;
     let lane = stop[1] as usize;
-    if (kind != 0) & (kind != 1) & (page < pages) & (lane < LANE_MOST) {
-        return page * LANE_MOST + lane;
+    let own = (kind != KIND_DROPPED) & (kind != KIND_SHARED);
+    if own & (page < pages) & (lane < LANE_MOST) {
+        page * LANE_MOST + lane
+    } else {
+        pages * LANE_MOST
     }
-    pages * LANE_MOST
-}
-
-// Counts more at a place.
-fn add(counts: &mut [u32], k: usize, more: u32)
-    requires { (k < length counts.old) × (get_or counts.old k 0 + more < 4294967296) }
-    ensures { counts.new ≡ set counts.old k (get_or counts.old k 0 + more) }
-{
-    counts[k] = counts[k] + more;
 }
 
 // One claim for each stop.
-fn count_stops(stops: &[WorkRow], s: usize, pages: usize, counts: &mut [u32])
-    requires s_in_bounds { (s ≤ length stops.now) × (s ≤ 8192) × (pages ≤ 64) × (32768 < length counts.old) }
+fn count_stops(stops: &[WorkRow], pages: usize, counts: &mut [u32])
+    requires few_stops { (length stops.now ≤ 8192) × (pages ≤ 64) × (32768 < length counts.old) }
     requires by_index { (j : ℕ) → get_or counts.old j 0 ≡ 0 }
-    ensures { (j : ℕ) → get_or counts.new j 0 ≡ having (stop_key pages stops.now) j s }
+    ensures { (j : ℕ) → get_or counts.new j 0 ≡ having (stop_key pages stops.now) j (length stops.now) }
 {
-    let mut i: usize = 0;
-    while i < s {
-        let k = stop_key(stops[i], pages);
-        add(counts, k, 1);
-        i += 1;
+    for stop in stops {
+        counts[stop_key(*stop, pages)] += 1;
     }
 }
 
 // Two for each tap: it asks for a head and a link at most.
-fn count_taps(groups: &[WorkRow], laid: &[WorkRow], n: usize, counts: &mut [u32])
-    requires n_bound { (n ≤ 8192) × (32768 < length counts.old) × ((k : ℕ) → k < n → TapKeyed groups.now laid.now k) }
+fn count_taps(groups: &[WorkRow], laid: &[WorkRow], counts: &mut [u32])
+    requires few_taps { (length laid.now ≤ 8192) × (32768 < length counts.old) × ((k : ℕ) → k < length laid.now → TapKeyed groups.now laid.now k) }
     requires by_index { (j : ℕ) → get_or counts.old j 0 ≤ 8192 }
-    ensures { (j : ℕ) → get_or counts.new j 0 ≡ get_or counts.old j 0 + 2 * having (tap_key groups.now laid.now) j n }
+    ensures { (j : ℕ) → get_or counts.new j 0 ≡ get_or counts.old j 0 + 2 * having (tap_key groups.now laid.now) j (length laid.now) }
 {
-    let mut k: usize = 0;
-    while k < n {
-        let key = tap_key(groups, laid, k);
-        add(counts, key, 2);
-        k += 1;
+    for k in 0..laid.len() {
+        counts[tap_key(groups, laid, k)] += 2;
     }
 }
 
@@ -84,58 +73,41 @@ fn count_taps(groups: &[WorkRow], laid: &[WorkRow], n: usize, counts: &mut [u32]
 pub fn make_room(
     groups: &[WorkRow],
     laid: &[WorkRow],
-    n: usize,
     stops: &[WorkRow],
-    s: usize,
     pages: usize,
     starts: &mut [u32],
 )
-    requires s_in_bounds { (s ≤ length stops.now) × (s ≤ n) × (n ≤ 8192) × (pages ≤ 64) × (32770 ≤ length starts.old) × ((k : ℕ) → k < n → TapKeyed groups.now laid.now k) }
+    requires few_stops { (length stops.now ≤ length laid.now) × (length laid.now ≤ 8192) × (pages ≤ 64) × (32770 ≤ length starts.old) × ((k : ℕ) → k < length laid.now → TapKeyed groups.now laid.now k) }
     requires by_index { (j : ℕ) → get_or starts.old j 0 ≡ 0 }
-    ensures { (k : ℕ) → k ≤ keys_of pages → get_or starts.new k 0 ≡ sums (room_of pages groups.now laid.now n stops.now s) k }
+    ensures { (k : ℕ) → k ≤ keys_of pages → get_or starts.new k 0 ≡ sums (room_of pages groups.now laid.now (length laid.now) stops.now (length stops.now)) k }
 {
-    count_stops(stops, s, pages, starts);
-    count_taps(groups, laid, n, starts);
+    count_stops(stops, pages, starts);
+    count_taps(groups, laid, starts);
     sum_up(starts, pages * LANE_MOST + 2);
 }
 
 // The stops' own levels are the first claims.
-pub fn put_stops(stops: &[WorkRow], s: usize, pages: usize, nexts: &mut [u32], xs: &mut [u32])
-    requires s_in_bounds { (s ≤ length stops.now) × (pages ≤ 64) × (length xs.old < 4294967296) × Growing (keys_of pages) nexts.old nexts.old xs.old }
-    requires by_index { (k : ℕ) → k < keys_of pages → get_or nexts.old k 0 + having (stop_key pages stops.now) k s ≤ get_or nexts.old (suc k) 0 }
-    ensures { Filled (stop_key pages stops.now) (level_at stops.now) s (keys_of pages) nexts.old nexts.new xs.new }
+pub fn put_stops(stops: &[WorkRow], pages: usize, nexts: &mut [u32], xs: &mut [u32])
+    requires room { (pages ≤ 64) × (length xs.old < 4294967296) × Growing (keys_of pages) nexts.old nexts.old xs.old }
+    requires by_index { (k : ℕ) → k < keys_of pages → get_or nexts.old k 0 + having (stop_key pages stops.now) k (length stops.now) ≤ get_or nexts.old (suc k) 0 }
+    ensures { Filled (stop_key pages stops.now) (level_at stops.now) (length stops.now) (keys_of pages) nexts.old nexts.new xs.new }
 {
-    let mut i: usize = 0;
-    while i < s {
-        let k = stop_key(stops[i], pages);
-        put(nexts, xs, k, stops[i][5]);
-        i += 1;
+    for stop in stops {
+        put(nexts, xs, stop_key(*stop, pages), stop[5]);
     }
-}
-
-// One less, and of nothing nothing.
-fn below(x: u32) -> u32
-    ensures { result ≡ x - 1 }
-{
-    if x == 0 {
-        return 0;
-    }
-    x - 1
 }
 
 // Whether one of the claims is near x. All are looked at, without a branch, several at a time.
-fn near_in(xs: &[u32], a: usize, e: usize, x: u32) -> bool
-    requires { (a ≤ e) × (e ≤ length xs.now) × (x < 4294967295) }
-    ensures { result ≡ any (near x) (stretch xs.now a (e - a)) }
+fn near_in(claims: &[u32], x: u32) -> bool
+    requires { x < 4294967295 }
+    ensures { result ≡ any (near x) (stretch claims.now 0 (length claims.now)) }
 {
-    let low = below(x);
+    let low = x.saturating_sub(1);
     let high = x + 1;
     let mut hit = false;
-    let mut i = a;
-    while i < e {
-        let v = xs[i];
+    for claim in claims {
+        let v = *claim;
         hit = (v == low) | (v == x) | (v == high) | hit;
-        i += 1;
     }
     hit
 }
@@ -146,11 +118,7 @@ fn is_free(starts: &[u32], nexts: &[u32], xs: &[u32], k: usize, x: u32, wanted: 
     requires fact { wanted ≡ true → x ≡ MISSING → ⊥ }
     ensures { result ≡ wanted && not (any (near x) (run_in starts.now nexts.now xs.now k)) }
 {
-    if !wanted {
-        return false;
-    }
-    let taken = near_in(xs, starts[k] as usize, nexts[k] as usize, x);
-    !taken
+    wanted && !near_in(&xs[starts[k] as usize..nexts[k] as usize], x)
 }
 
 // Claims the span at x in the k-th run's lane, where it is wanted and no claim is near it.
@@ -167,9 +135,8 @@ pub fn claim_column(
     ensures { Claiming starts.now k x wanted nexts.old xs.old nexts.new xs.new result }
 {
     let free = is_free(starts, nexts, xs, k, x, wanted);
-    if !free {
-        return false;
+    if free {
+        put(nexts, xs, k, x);
     }
-    put(nexts, xs, k, x);
-    true
+    free
 }

@@ -3,19 +3,19 @@ ghost use Rattle.std.specs.Prelude.{◌≡◌, List, [], ℕ, ◌<◌, ◌≤◌
 ghost use Rattle.board.specs.Board.{Board};
 ghost use Rattle.board.specs.Groups.{Tap as LaidTap};
 ghost use Rattle.board.specs.Demands.{PageLanes};
-ghost use Rattle.board.specs.Tables.{tap_in, flag};
+ghost use Rattle.board.specs.Tables.{tap_in};
 ghost use Rattle.base.specs.Views.{view};
 ghost use Rattle.routes.specs.Tables.{stop_in};
 ghost use Rattle.routes.specs.Holding.{stop_level_of};
 ghost use Rattle.routes_taps.specs.Taps.{LaneInRange, LaneRanges, LevelRange, NextInRange, WentOn, Tables, TapOn, LaidInRange};
 ghost use Rattle.routes_taps.specs.Asking.{served_at, is_own, is_kept, QuestionsIn};
-ghost use Rattle.routes_columns.specs.Columns.{lane_key, tap_key, TapKeyed, ClaimRoom, TwoMore, ClaimsHeld, TapAsked, NextAsked, row_in, start_of, AskRoom};
+ghost use Rattle.routes_columns.specs.Columns.{lane_key, tap_key, TapKeyed, ClaimRoom, TwoMore, ClaimsHeld, TapAsked, NextAsked, row_in, AskRoom};
 
 use crate::claims::{claim_column, lane_key, make_room, put_stops};
 use base::numbers::{MISSING, REROUTER_SIZE};
 use base::rows::{Record, WorkRow};
 use routes::levels::Level;
-use routes_taps::taps::{Lane, News, Reached, TAP_RESERVE, Tap, lane_of, news_at, reach, tap_at};
+use routes_taps::taps::{Lane, News, Reached, START, TAP_RESERVE, Tap, lane_of, news_at, reach};
 
 // Whether a tap's head and link are placed.
 #[derive(Clone, Copy)]
@@ -30,29 +30,20 @@ fn served_at(level: Level) -> u32
 {
     match level {
         Level::Dropped => 0,
-        Level::Shared(x) => x,
-        Level::Own(x) => x,
+        Level::Shared(x) | Level::Own(x) => x,
     }
 }
 
 fn is_kept(level: Level) -> bool
     ensures { result ≡ is_kept (stop_level_of level) }
 {
-    match level {
-        Level::Dropped => false,
-        Level::Shared(_) => true,
-        Level::Own(_) => true,
-    }
+    !matches!(level, Level::Dropped)
 }
 
 fn is_own(level: Level) -> bool
     ensures { result ≡ is_own (stop_level_of level) }
 {
-    match level {
-        Level::Dropped => false,
-        Level::Shared(_) => false,
-        Level::Own(_) => true,
-    }
+    matches!(level, Level::Own(_))
 }
 
 // R5, R8: a group's head at its source's x, then a row's link just above its tap.
@@ -77,16 +68,7 @@ fn ask_tap(
     let above = served_at(level) + REROUTER_SIZE;
     let wants_link = news.row & is_own(level);
     let link = claim_column(starts, nexts, xs, k, above, wants_link);
-    Questions {
-        head: head,
-        link: link,
-    }
-}
-
-fn number(so: bool) -> u32
-    ensures { result ≡ flag so }
-{
-    if so { 1 } else { 0 }
+    Questions { head, link }
 }
 
 // R6, R10: the row of a tap's questions.
@@ -97,10 +79,10 @@ fn question_row(l: Lane, news: News, level: Level, head: bool, link: bool) -> [u
     let asks_source = head & (l.source_row != MISSING);
     let asks_gate_side = news.column & is_kept(level);
     [
-        number(head),
-        number(link),
-        number(asks_source),
-        number(asks_gate_side),
+        u32::from(head),
+        u32::from(link),
+        u32::from(asks_source),
+        u32::from(asks_gate_side),
         l.source_row,
         l.source_x,
         l.source_y - TAP_RESERVE,
@@ -133,7 +115,7 @@ fn ask_next(
     ensures next_asked { (b : Board) (ts : List LaidTap) (ps : List PageLanes) → Tables b ts ps pages.now nodes.now wires.now facts.now groups.now → TapOn b ts (get_or laid.now k [])
         → NextAsked b ts ps (view tap_in laid.now k) (tap_in (get_or laid.now k [])) (stop_level_of result.level) k starts.now nexts.old xs.old asked.old nexts.new xs.new asked.new }
 {
-    let t = tap_at(laid, k);
+    let t = Tap::from(laid[k]);
     let l = lane_of(pages, nodes, wires, facts, groups, t.page, t.group);
     let news = news_at(laid, k);
     let reached = reach(stops, old, news.row);
@@ -143,17 +125,8 @@ fn ask_next(
     reached
 }
 
-// Before the first tap.
-fn start() -> Reached
-    ensures { result ≡ start_of }
-{
-    Reached {
-        stops: 0,
-        level: Level::Dropped,
-    }
-}
-
 // All taps, with the claims of the stops in their runs.
+// Stays (no plainer): starts, nexts and xs go side by side, since starts is only read, and `put` takes the two others each by itself.
 fn ask_all(
     pages: &[Record],
     nodes: &[Record],
@@ -161,27 +134,23 @@ fn ask_all(
     facts: &[WorkRow],
     groups: &[WorkRow],
     laid: &[WorkRow],
-    n: usize,
     stops: &[WorkRow],
-    s: usize,
     starts: &[u32],
     nexts: &mut [u32],
     xs: &mut [u32],
     asked: &mut [WorkRow],
 )
-    requires laid_in_range { LaidInRange pages.now nodes.now wires.now facts.now groups.now laid.now n stops.now s }
-    requires ask_room { AskRoom (length pages.now) groups.now laid.now n starts.now nexts.old xs.old asked.old }
-    requires claims_held { ClaimsHeld (length pages.now) (view stop_in stops.now s) starts.now nexts.old xs.old }
-    ensures { (b : Board) (ts : List LaidTap) (ps : List PageLanes) → Tables b ts ps pages.now nodes.now wires.now facts.now groups.now → ((k : ℕ) → k < n → TapOn b ts (get_or laid.now k []))
-        → QuestionsIn b ts ps (view stop_in stops.now s) asked.new (view tap_in laid.now n) (view stop_in stops.now s) }
+    requires laid_in_range { LaidInRange pages.now nodes.now wires.now facts.now groups.now laid.now (length laid.now) stops.now (length stops.now) }
+    requires ask_room { AskRoom (length pages.now) groups.now laid.now (length laid.now) starts.now nexts.old xs.old asked.old }
+    requires claims_held { ClaimsHeld (length pages.now) (view stop_in stops.now (length stops.now)) starts.now nexts.old xs.old }
+    ensures { (b : Board) (ts : List LaidTap) (ps : List PageLanes) → Tables b ts ps pages.now nodes.now wires.now facts.now groups.now → ((k : ℕ) → k < length laid.now → TapOn b ts (get_or laid.now k []))
+        → QuestionsIn b ts ps (view stop_in stops.now (length stops.now)) asked.new (view tap_in laid.now (length laid.now)) (view stop_in stops.now (length stops.now)) }
 {
-    let mut reached = start();
-    let mut k: usize = 0;
-    while k < n {
+    let mut reached = START;
+    for k in 0..laid.len() {
         reached = ask_next(
             pages, nodes, wires, facts, groups, laid, k, stops, starts, nexts, xs, asked, reached,
         );
-        k += 1;
     }
 }
 
@@ -193,23 +162,21 @@ pub fn ask_taps(
     facts: &[WorkRow],
     groups: &[WorkRow],
     laid: &[WorkRow],
-    n: usize,
     stops: &[WorkRow],
-    s: usize,
     asked: &mut [WorkRow],
 )
-    requires laid_in_range { LaidInRange pages.now nodes.now wires.now facts.now groups.now laid.now n stops.now s }
-    requires s_le_n { (s ≤ n) × (n ≤ 8192) × (n ≤ length asked.old) × (length pages.now ≤ 64) × ((k : ℕ) → k < n → get_or (get_or groups.now (get_or (get_or laid.now k []) 1 0) []) 4 0 < 512) }
-    ensures { (b : Board) (ts : List LaidTap) (ps : List PageLanes) → Tables b ts ps pages.now nodes.now wires.now facts.now groups.now → ((k : ℕ) → k < n → TapOn b ts (get_or laid.now k []))
-        → QuestionsIn b ts ps (view stop_in stops.now s) asked.new (view tap_in laid.now n) (view stop_in stops.now s) }
+    requires laid_in_range { LaidInRange pages.now nodes.now wires.now facts.now groups.now laid.now (length laid.now) stops.now (length stops.now) }
+    requires few_stops { (length stops.now ≤ length laid.now) × (length laid.now ≤ 8192) × (length laid.now ≤ length asked.old) × (length pages.now ≤ 64) × ((k : ℕ) → k < length laid.now → get_or (get_or groups.now (get_or (get_or laid.now k []) 1 0) []) 4 0 < 512) }
+    ensures { (b : Board) (ts : List LaidTap) (ps : List PageLanes) → Tables b ts ps pages.now nodes.now wires.now facts.now groups.now → ((k : ℕ) → k < length laid.now → TapOn b ts (get_or laid.now k []))
+        → QuestionsIn b ts ps (view stop_in stops.now (length stops.now)) asked.new (view tap_in laid.now (length laid.now)) (view stop_in stops.now (length stops.now)) }
 {
     let count = pages.len();
     let mut starts = [0u32; 32770];
-    make_room(groups, laid, n, stops, s, count, &mut starts);
+    make_room(groups, laid, stops, count, &mut starts);
     let mut nexts = starts;
     let mut xs = [0u32; 24576];
-    put_stops(stops, s, count, &mut nexts, &mut xs);
+    put_stops(stops, count, &mut nexts, &mut xs);
     ask_all(
-        pages, nodes, wires, facts, groups, laid, n, stops, s, &starts, &mut nexts, &mut xs, asked,
+        pages, nodes, wires, facts, groups, laid, stops, &starts, &mut nexts, &mut xs, asked,
     );
 }

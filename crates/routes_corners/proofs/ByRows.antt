@@ -81,8 +81,8 @@ module _ (b : Board) (bus : Bus.Bus) (pages nodes wires facts : List (List ℕ))
 -- What the pass asks for, where there is room for all that turns: the wires found can be listed, decided and written.
 module _ (pages nodes wires facts R W ports items : List (List ℕ)) (held : BusCounts) (classes list : List ℕ) (n : ℕ) (fits : BoardFits pages nodes wires facts)
     (lent : Lent (length nodes) (length wires) R W ports items held) (f : Found nodes wires facts ports held.ports classes list n) (room : has_room (length wires) held n ≡ true) where
-  found_listed : length wires ≤ length classes → length wires ≤ length list → TurnsListed nodes facts classes list n
-  found_listed on_classes onList =
+  found_listed : length wires ≤ length classes → n ≤ length list → TurnsListed nodes facts classes list n
+  found_listed on_classes on_list =
       let few = fits.wires_few in
       let long = fits.ends_long in
       let turning = f.few in
@@ -112,6 +112,6 @@ module _ (pages nodes wires facts R W ports items : List (List ℕ)) (held : Bus
       let wire_room = lent.wire_room in
       record { rerouter_room = omega (arith, r); wire_room = omega (arith, r); numbers = omega (arith, r) }
 
-  pub found_ready : length wires ≤ length classes → length wires ≤ length list
+  pub found_ready : length wires ≤ length classes → n ≤ length list
       → BoardFits pages nodes wires facts × (TurnsListed nodes facts classes list n × (RowsRoom nodes wires list n R held.rerouters items × WriteRoom n R W (record { rerouters = held.rerouters; wires = held.bus_wires })))
-  found_ready on_classes onList = (fits, (found_listed on_classes onList, (found_room, found_writes)))
+  found_ready on_classes on_list = (fits, (found_listed on_classes on_list, (found_room, found_writes)))

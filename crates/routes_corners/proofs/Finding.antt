@@ -74,13 +74,6 @@ firsts_kept list zero m x h = refl
 firsts_kept list (suc n) m x h = λ i. get_or-set_other list m n x 0 (λ z. omega arith) i ∷ firsts_kept list n m x (omega arith) i
 
 -- The wires that turn, found one after the other.
-pub turners_none : (nodes wires facts : List (List ℕ)) (classes flags list : List ℕ) → Turners nodes wires facts classes flags list 0 0
-turners_none nodes wires facts classes flags list = record { few = omega arith; below = λ k h. absurd (omega arith); ends = λ k h. absurd (omega arith); all = λ b bus pages f g. refl }
-
-pub fit_more : (wires facts : List (List ℕ)) (classes flags list list' : List ℕ) → length list' ≡ length list → TestsFit wires facts classes flags list → TestsFit wires facts classes flags list'
-fit_more wires facts classes flags list list' e f =
-    record { wires_few = f.wires_few; ends_long = f.ends_long; classes_long = f.classes_long; class_fits = f.class_fits; room = let h = f.room in omega arith }
-
 module _ (nodes wires facts : List (List ℕ)) (classes flags list : List ℕ) (n w : ℕ) (t : Turners nodes wires facts classes flags list n w) (there : w < length wires) where
   abbrev Tells : Bool → Type 0
   Tells r =

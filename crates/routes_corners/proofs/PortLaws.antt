@@ -8,7 +8,7 @@ use Rattle.base.proofs.Lists.{same_two}
 use Rattle.board.specs.Board.{field}
 use Rattle.routes.specs.Bus.{Port, same_port}
 use Rattle.routes_corners.specs.CornerTables.{port_at, Classed}
-use Rattle.routes_corners.specs.Ports.{BelowAt, port_key, wire_key, PortsLow, NUMBERS, wire_at, class_at, PortKeys, PortRoom, the_port, goes_to, FlaggedBy}
+use Rattle.routes_corners.specs.Ports.{port_key, wire_key, PortsLow, NUMBERS, wire_at, class_at, PortKeys, PortRoom, the_port, goes_to, FlaggedBy}
 use Rattle.routes_corners.proofs.CornerLaws.{flag-set}
 
 -- The keys of the wires, sorted.
@@ -205,23 +205,6 @@ pub un_not : (t : Bool) → not t ≡ false → t ≡ true
 un_not true e = refl
 un_not false e = clash (sym e) refl
 
--- A key is looked for from a place on: what stands in front of it is below.
-pub below_here : (keys : List ℕ) (p n key : ℕ) → n ≤ p → BelowAt keys p n key false
-below_here keys p n key h = record { taken = λ e. clash e refl; left = λ e l. absurd (omega (arith, h, l)) }
-
-pub below_told : (keys : List ℕ) (p n key : ℕ) → p < n → BelowAt keys p n key (ltb (get_or keys p 0) key)
-below_told keys p n key h = record { taken = λ e. (h, ltb-true (get_or keys p 0) key e); left = λ e l. ltb-false (get_or keys p 0) key e }
-
-pub all_below : (keys : List ℕ) (n from key : ℕ) → Rising keys n → from ≤ n → (0 < from → get_or keys (from - 1) 0 < key) → (i : ℕ) → i < from → get_or keys i 0 < key
-all_below keys n from key rising l last i h = let a = rising i (from - 1) (omega (arith, h)) (omega (arith, h, l)) in let b = last (omega (arith, h)) in omega (arith, a, b)
-
-pub below_more : (keys : List ℕ) (p key : ℕ) → ((i : ℕ) → i < p → get_or keys i 0 < key) → get_or keys p 0 < key → (i : ℕ) → i < p + 1 → get_or keys i 0 < key
-below_more keys p key h k i l = go (eqb i p) refl
-  where
-    go : (t : Bool) → eqb i p ≡ t → get_or keys i 0 < key
-    go true q = let z : i ≡ p = eqb-true i p q in subst (λ (j : ℕ). get_or keys j 0 < key) (sym z) k
-    go false q = let other = eqb-false i p q in h i (omega (arith, l, other))
-
 -- The flags with one more port.
 module _ (wires : List (List ℕ)) (classes flags : List ℕ) (c : Classed wires classes (length wires)) (p : Port) (test : ℕ → Bool) (h : FlaggedBy test wires classes flags) where
   abbrev more : ℕ → Bool
@@ -236,9 +219,3 @@ module _ (wires : List (List ℕ)) (classes flags : List ℕ) (c : Classed wires
       let inside : get_or classes v 0 < length flags = omega arith in
       let ports : port_at wires v ≡ p = port_same (port_at wires v) p t in
       λ w l. flag-set flags (get_or classes v 0) (get_or classes w 0) (goes_to wires p w) (test w) inside (c.same w v l b ∙ (λ i. same_port (port_at wires w) (ports i))) (h w l)
-
-pub flags_none : (wires : List (List ℕ)) (classes flags : List ℕ) → Classed wires classes (length wires) → ((k : ℕ) → k < length wires → get_or flags k 0 ≡ 0) → FlaggedBy (λ w. false) wires classes flags
-flags_none wires classes flags c zeros = λ w l. let low = c.low w l in eq-eqb (get_or flags (get_or classes w 0) 0) 0 (zeros (get_or classes w 0) (omega arith))
-
-pub room_same : (wires : List (List ℕ)) (classes flags flags' : List ℕ) → length flags' ≡ length flags → PortRoom wires classes flags → PortRoom wires classes flags'
-room_same wires classes flags flags' e r = record { class_room = r.class_room; flag_room = let h = r.flag_room in omega arith }

@@ -1,17 +1,19 @@
 -- One call of the corner pass: tables fresh, the wires that turn, and the room for their corners.
-use Rattle.std.proofs.Common.{◌≡◌, ℕ, ◌+◌, ◌*◌, ◌<◌, ◌≤◌, true, not, ◌&&◌, leb, List, length, get_or, replicate, sym, ap, ◌∙◌, arith, leb-true}
+use Rattle.std.proofs.Common.{◌≡◌, ℕ, zero, suc, ◌∷◌, refl, ap₂, ◌+◌, ◌*◌, ◌<◌, ◌≤◌, true, not, ◌&&◌, leb, List, length, get_or, replicate, sym, ap, ◌∙◌, arith, leb-true, [], map, reverse, take, subst, length-take-le, get_or-take}
+use lib.Seq.{take-length}
+use Rattle.base.proofs.Views.{view-take}
 use lib.ListN.{length-replicate, get_or-replicate}
 use Rattle.base.specs.Lists.{any, keep, upto}
 use Rattle.base.specs.Views.{view}
 use Rattle.base.proofs.Bools.{and_left, and_right}
 use Rattle.board.specs.Board.{Board}
 use Rattle.routes.specs.Bus
-use Rattle.routes.specs.Bus.{same_port}
-use Rattle.routes.specs.Buffers.{port_in}
+use Rattle.routes.specs.Bus.{Rerouter, same_port, port_of}
+use Rattle.routes.specs.Buffers.{port_in, Row, Rows}
 use Rattle.routes.specs.Corners.{turns, turnable}
 use Rattle.routes.specs.declared.bus.BusCounts.{BusCounts}
-use Rattle.routes_corners.specs.CornerTables.{BoardOf, port_at, Classed, Flagged, Turners}
-use Rattle.routes_corners.specs.Handed.{Mutes}
+use Rattle.routes_corners.specs.CornerTables.{BoardOf, EndsThere, port_at, Classed, Flagged, firsts, Turners}
+use Rattle.routes_corners.specs.Handed.{CellRows, Mutes}
 use Rattle.routes_corners.specs.Ports.{FlaggedBy, among_ports}
 use Rattle.routes_corners.specs.Turning.{has_room, Found}
 use Rattle.routes_corners.proofs.Writing.{length-firsts}
@@ -40,6 +42,55 @@ module _ (nodes wires facts ports : List (List ℕ)) (u : ℕ) (classes flags li
       }
 
 -- The room asked for is that for all that may turn.
+-- The wires found, where the ports handed in are the first of a buffer.
+ports_taken : (ports : List (List ℕ)) (u : ℕ) → u ≤ length ports → view port_in (take u ports) (length (take u ports)) ≡ view port_in ports u
+ports_taken ports u h =
+    view-take port_in (take u ports) (length (take u ports)) (omega arith) ∙ ap (λ (s : List (List ℕ)). reverse (map port_in s)) (take-length (take u ports)) ∙ sym (view-take port_in ports u h)
+
+pub found_taken : {nodes wires facts ports : List (List ℕ)} {u : ℕ} {classes list : List ℕ} {n : ℕ} → u ≤ length ports
+    → Found nodes wires facts (take u ports) (length (take u ports)) classes list n → Found nodes wires facts ports u classes list n
+found_taken {ports = ports} {u = u} h f =
+    record {
+      classed = f.classed;
+      few = f.few;
+      below = f.below;
+      ends = f.ends;
+      all = λ b bus pages is mutes. f.all b bus pages is (λ w low. mutes w low ∙ ap (any (same_port (port_of b w))) (sym (ports_taken ports u h)));
+    }
+
+-- The wires found, as a list of no more than them.
+firsts_within : (list : List ℕ) (most n : ℕ) → n ≤ most → firsts (take most list) n ≡ firsts list n
+firsts_within list most zero h = refl
+firsts_within list most (suc n) h = ap₂ (λ (w : ℕ) (l : List ℕ). w ∷ l) (get_or-take most list n 0 h) (firsts_within list most n (omega (arith, h)))
+
+pub found_alone : {nodes wires facts ports : List (List ℕ)} {u : ℕ} {classes list : List ℕ} {n : ℕ} → n ≤ length list
+    → Found nodes wires facts ports u classes list n → Found nodes wires facts ports u classes (take n list) (length (take n list))
+found_alone {nodes = nodes} {wires = wires} {facts = facts} {list = list} {n = n} h f =
+    record {
+      classed = f.classed;
+      few = let a = f.few in omega (arith, a, long);
+      below = λ k low. subst (λ (w : ℕ). w < length wires) (sym (at k low)) (f.below k (omega (arith, low, long)));
+      ends = λ k low. subst (λ (w : ℕ). EndsThere nodes facts w) (sym (at k low)) (f.ends k (omega (arith, low, long)));
+      all = λ b bus pages is mutes. ap (firsts (take n list)) long ∙ firsts_within list n n (omega arith) ∙ f.all b bus pages is mutes;
+    }
+  where
+    long : length (take n list) ≡ n
+    long = length-take-le n list h
+
+    at : (k : ℕ) → k < length (take n list) → get_or (take n list) k 0 ≡ get_or list k 0
+    at k low = get_or-take n list k 0 (omega (arith, low, long))
+
+-- The rows of a bus, in the first of a buffer.
+pub cells_within : (ks : List Rerouter) (table : List (List ℕ)) (m : ℕ) → length ks ≤ m → CellRows ks table → CellRows ks (take m table)
+cells_within [] table m h rows = tt
+cells_within (k ∷ ks) table m h rows = (get_or-take m table (length ks) [] h ∙ rows.0, rows.1, cells_within ks table m (omega (arith, h)) rows.2)
+
+-- Rows known, of the first of a buffer.
+pub rows_taken : (width : ℕ) (rows : List (List ℕ)) (n : ℕ) → n ≤ length rows → Rows width (take n rows) (length (take n rows)) → Rows width rows n
+rows_taken width rows n h known i low =
+    let e = length-take-le n rows h in
+    subst (Row width) (get_or-take n rows i [] low) (known i (omega (arith, low, e)))
+
 pub room_asked : (b : Board) (bus : Bus.Bus) (pages nodes wires facts ports : List (List ℕ)) (u : ℕ) (classes list : List ℕ) (n : ℕ) → Found nodes wires facts ports u classes list n
     → BoardOf b pages nodes wires facts → Mutes b bus ports u → (held : BusCounts) → has_room (length wires) held (turnable b bus) ≡ has_room (length wires) held n
 unfolding turnable

@@ -124,9 +124,6 @@ module _ (pages nodes wires facts : List (List ℕ)) (list answers : List ℕ) (
   writing_start r = record { far = omega arith; room = room_few n (n - 0) (omega arith) R₀ W₀ count₀ r; holds = λ b bus old old_wires is ends h. h }
 
   module _ (k : ℕ) (R W : List (List ℕ)) (count : BusCount) (t : After k R W count) where
-    pub writing_one : k < n → WriteRoom 1 R W count
-    writing_one h = room_few (n - k) 1 (omega arith) R W count t.room
-
     pub writing_more : k < n → (R' W' : List (List ℕ)) (r : BusCount) → WireWritten pages nodes wires facts (get_or list k 0) (answers_in answers k) R W count R' W' r → After (k + 1) R' W' r
     unfolding told_corners
     writing_more h R' W' r step =

@@ -42,11 +42,6 @@ pub record PortKeys (wires : List (List ℕ)) (keys : List ℕ) : Type 0 where
   pub comes : (p : ℕ) → p < length wires → (wire_at keys p < length wires) × (slice_index keys p ≡ wire_key wires (wire_at keys p) * NUMBERS + wire_at keys p)
   pub reached : (w : ℕ) → w < length wires → (p : ℕ) × (p < length wires) × (slice_index keys p ≡ wire_key wires w * NUMBERS + w)
 
--- Whether there is a key at a place, and it is below another.
-pub record BelowAt (keys : List ℕ) (p n key : ℕ) (r : Bool) : Type 0 where
-  pub taken : r ≡ true → (p < n) × (slice_index keys p < key)
-  pub left : r ≡ false → p < n → key ≤ slice_index keys p
-
 -- The wires have their classes, and their keys are sorted.
 pub record Ported (wires : List (List ℕ)) (classes keys : List ℕ) : Type 0 where
   pub keyed : PortKeys wires keys

@@ -1,5 +1,8 @@
 -- What the corner pass takes and gives in one call: the tables of a board, and a bus as the buffers hold it.
-use Rattle.std.specs.Prelude.{◌≡◌, ℕ, ◌+◌, ◌*◌, ◌<◌, ◌≤◌, Bool, true, false, ◌&&◌, List, length, nat_le, slice_index}
+use Rattle.std.specs.Prelude.{◌≡◌, ℕ, ◌+◌, ◌*◌, ◌<◌, ◌≤◌, Bool, true, false, ◌&&◌, List, length, nat_le, slice_index, Result, Ok, Err}
+use Rattle.base.specs.declared.refusal.Reason.TheVariants.{NoRoom}
+use Rattle.base.specs.declared.refusal.Refusal.{Refusal}
+use Rattle.base.specs.Refusal.{refusal}
 use Rattle.base.specs.Lists.{keep, upto}
 use Rattle.board.specs.Board.{Board, field, given}
 use Rattle.board.specs.Rows.{REROUTER_SIZE, brick_cell}
@@ -7,14 +10,13 @@ use Rattle.board.specs.Tables.{nodes_alone}
 use Rattle.routes.specs.Bus
 use Rattle.routes.specs.Corners.{turns, turnable, corners}
 use Rattle.routes.specs.Holding.{BusHeld}
+use Rattle.routes.specs.declared.bus.BusCount.{BusCount}
 use Rattle.routes.specs.declared.bus.BusCounts.{BusCounts}
 use Rattle.routes_beside.specs.Beside.{BricksAskable}
 use Rattle.routes_turns.specs.CornerItems.{EDGE}
 use Rattle.routes_corners.specs.CornerTables.{BoardOf, Classed, EndsThere, firsts}
 use Rattle.routes_corners.specs.Handed.{Mutes}
 use Rattle.routes_corners.specs.Ports.{PortsLow}
-use Rattle.routes_corners.specs.declared.turn.Turned.{Turned}
-use Rattle.routes_corners.specs.declared.turn.Turned.TheVariants.{Short, Laid}
 
 -- E16: whether the bus that is held leaves room for so many corners more in what is lent for W wires (S15).
 unfoldable pub has_room : ℕ → BusCounts → ℕ → Bool
@@ -52,12 +54,13 @@ pub record Found (nodes wires facts ports : List (List ℕ)) (u : ℕ) (classes 
   pub ends : (k : ℕ) → k < n → EndsThere nodes facts (slice_index list k)
   pub all : (b : Board) (bus : Bus.Bus) (pages : List (List ℕ)) → BoardOf b pages nodes wires facts → Mutes b bus ports u → firsts list n ≡ keep (turns b bus) (upto (length b.wires))
 
--- What one call leaves of a bus: nothing is altered where there is no room for all that may turn, else its corners are laid.
-abbrev pub TurnedAs : Board → Bus.Bus → ℕ → (rerouters bus_wires : List (List ℕ)) → BusCounts → (rerouters' busWires' : List (List ℕ)) → Turned → Type 0
-TurnedAs b bus W rerouters bus_wires held rerouters' busWires' Short = (has_room W held (turnable b bus) ≡ false) × (rerouters' ≡ rerouters) × (busWires' ≡ bus_wires)
-TurnedAs b bus W rerouters bus_wires held rerouters' busWires' (Laid count) = (has_room W held (turnable b bus) ≡ true) × BusHeld (corners b bus) rerouters bus_wires rerouters' busWires' count
+-- What one call leaves of a bus: 7, and nothing is altered, where there is no room for all that may turn (E16), else its corners are laid.
+abbrev pub TurnedAs : Board → Bus.Bus → ℕ → (rerouters bus_wires : List (List ℕ)) → BusCounts → (rerouters' busWires' : List (List ℕ)) → Result BusCount Refusal → Type 0
+TurnedAs b bus W rerouters bus_wires held rerouters' busWires' (Err e) =
+    (has_room W held (turnable b bus) ≡ false) × (e ≡ refusal NoRoom 0) × (rerouters' ≡ rerouters) × (busWires' ≡ bus_wires)
+TurnedAs b bus W rerouters bus_wires held rerouters' busWires' (Ok count) = (has_room W held (turnable b bus) ≡ true) × BusHeld (corners b bus) rerouters bus_wires rerouters' busWires' count
 
 -- The same of any bus that the buffers hold, written over what they held before it: what matters where its corners are laid.
-abbrev pub TurnedFrom : Board → Bus.Bus → (old old_wires : List (List ℕ)) → ℕ → BusCounts → (rerouters' busWires' : List (List ℕ)) → Turned → Type 0
-TurnedFrom b bus old old_wires W held rerouters' busWires' Short = has_room W held (turnable b bus) ≡ false
-TurnedFrom b bus old old_wires W held rerouters' busWires' (Laid count) = BusHeld (corners b bus) old old_wires rerouters' busWires' count
+abbrev pub TurnedFrom : Board → Bus.Bus → (old old_wires : List (List ℕ)) → ℕ → BusCounts → (rerouters' busWires' : List (List ℕ)) → Result BusCount Refusal → Type 0
+TurnedFrom b bus old old_wires W held rerouters' busWires' (Err e) = has_room W held (turnable b bus) ≡ false
+TurnedFrom b bus old old_wires W held rerouters' busWires' (Ok count) = BusHeld (corners b bus) old old_wires rerouters' busWires' count

@@ -1,5 +1,5 @@
 // Corners are decided row by row: what bears on them is listed, put in the order of rows, and each question is answered in its turn.
-ghost use Rattle.std.specs.Prelude.{ℕ, List};
+ghost use Rattle.std.specs.Prelude.{ℕ, List, length};
 ghost use Rattle.board.specs.Board.{Board};
 ghost use Rattle.routes.specs.Bus.{Bus};
 ghost use Rattle.routes_beside.specs.Beside.{BricksAskable};
@@ -14,27 +14,26 @@ use base::runs::order_by_key;
 use routes_rows::notes::NOTES_MOST;
 use routes_rows::turn::turn_rows;
 
-// K4 to K7, K9: the level of each of the n wires in the list, by the first m rerouters of the buffer, or MISSING.
+// K4 to K7, K9: the level of each wire in the list, by the rerouters, or MISSING.
 pub fn decide_corners(
     nodes: &[Record],
     facts: &[WorkRow],
     classes: &[u32],
     list: &[u32],
-    n: usize,
     rerouters: &[RerouterRow],
-    m: usize,
     items: &mut [WorkRow],
     answers: &mut [u32],
 )
     requires bricks_askable { BricksAskable nodes.now facts.now }
-    requires turns_listed { TurnsListed nodes.now facts.now classes.now list.now n }
-    requires decide_room { DecideRoom nodes.now n rerouters.now m items.old answers.old }
-    ensures { (b : Board) (bus : Bus) (pages wires : List (List ℕ)) → TurnsOf b bus pages nodes.now wires facts.now classes.now list.now n rerouters.now m
-        → LevelsHeld b bus answers.new (firsts list.now n) }
+    requires turns_listed { TurnsListed nodes.now facts.now classes.now list.now (length list.now) }
+    requires decide_room { DecideRoom nodes.now (length list.now) rerouters.now (length rerouters.now) items.old answers.old }
+    ensures { (b : Board) (bus : Bus) (pages wires : List (List ℕ)) → TurnsOf b bus pages nodes.now wires facts.now classes.now list.now (length list.now) rerouters.now (length rerouters.now)
+        → LevelsHeld b bus answers.new (firsts list.now (length list.now)) }
 {
     let bricks = nodes.len();
-    fill_corners(nodes, facts, classes, list, n, rerouters, m, items);
-    let count = order_by_key(items, bricks + m + n, bricks);
+    fill_corners(nodes, facts, classes, list, rerouters, items);
+    let first = bricks + rerouters.len();
+    let count = order_by_key(items, first + list.len(), bricks);
     let mut notes = [0u32; NOTES_MOST];
-    turn_rows(items, count, bricks + m, &mut notes, answers);
+    turn_rows(items, count, first, &mut notes, answers);
 }

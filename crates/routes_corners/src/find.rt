@@ -115,10 +115,8 @@ pub fn find_turns(
     ensures { Turners nodes.now wires.now facts.now classes.now muted.now list.new result (length wires.now) }
 {
     let mut n: usize = 0;
-    let mut w: usize = 0;
-    while w < wires.len() {
+    for w in 0..wires.len() {
         n = note_turn(nodes, wires, facts, classes, muted, list, n, w);
-        w += 1;
     }
     n
 }

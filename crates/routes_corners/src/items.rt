@@ -49,25 +49,22 @@ fn beside_item(nodes: &[Record], bases: &[u32], counts: &[u32], k: RerouterRow) 
     no_item(nodes.len())
 }
 
-// The items of the first m rerouters, behind the bricks.
+// The items of the rerouters, behind the bricks.
 fn fill_beside(
     nodes: &[Record],
     bases: &[u32],
     counts: &[u32],
     rerouters: &[RerouterRow],
-    m: usize,
     items: &mut [WorkRow],
 )
     requires bases { Bases nodes.now bases.now × CountsOf nodes.now counts.now × (length nodes.now ≤ 4096) }
-    requires m_in_bounds { (m ≤ length rerouters.now) × (length nodes.now + m ≤ length items.old) }
-    ensures by_index { (i : ℕ) → i < m → BesideIs nodes.now (rerouter_in (slice_index_or rerouters.now i [])) (slice_index_or items.new (length nodes.now + i) []) }
+    requires items_room { length nodes.now + length rerouters.now ≤ length items.old }
+    ensures by_index { (i : ℕ) → i < length rerouters.now → BesideIs nodes.now (rerouter_in (slice_index_or rerouters.now i [])) (slice_index_or items.new (length nodes.now + i) []) }
     ensures by_index_2 { (j : ℕ) → j < length nodes.now → slice_index_or items.new j [] ≡ slice_index_or items.old j [] }
 {
     let bricks = nodes.len();
-    let mut i: usize = 0;
-    while i < m {
-        items[bricks + i] = beside_item(nodes, bases, counts, rerouters[i]);
-        i += 1;
+    for (i, row) in rerouters.iter().enumerate() {
+        items[bricks + i] = beside_item(nodes, bases, counts, *row);
     }
 }
 
@@ -96,52 +93,51 @@ fn question_item(
     ]
 }
 
-// The questions of the n wires in the list, behind the bricks and the rerouters.
+// The questions of the wires in the list, behind the bricks and the rerouters.
 fn fill_questions(
     nodes: &[Record],
     facts: &[WorkRow],
     classes: &[u32],
     list: &[u32],
-    n: usize,
     first: usize,
     items: &mut [WorkRow],
 )
-    requires turns_listed { TurnsListed nodes.now facts.now classes.now list.now n }
-    requires nodes_len_bound { (length nodes.now ≤ first) × (first + n ≤ length items.old) }
-    ensures by_index { (q : ℕ) → q < n → slice_index_or items.new (first + q) [] ≡ question_row nodes.now facts.now classes.now items.old (slice_index list.now q) }
+    requires turns_listed { TurnsListed nodes.now facts.now classes.now list.now (length list.now) }
+    requires nodes_len_bound { (length nodes.now ≤ first) × (first + length list.now ≤ length items.old) }
+    ensures by_index { (q : ℕ) → q < length list.now → slice_index_or items.new (first + q) [] ≡ question_row nodes.now facts.now classes.now items.old (slice_index list.now q) }
     ensures by_index_2 { (j : ℕ) → j < first → slice_index_or items.new j [] ≡ slice_index_or items.old j [] }
 {
-    let mut q: usize = 0;
-    while q < n {
-        let w = list[q] as usize;
-        items[first + q] = question_item(nodes, facts, classes, items, w);
-        q += 1;
+    for (q, w) in list.iter().enumerate() {
+        items[first + q] = question_item(nodes, facts, classes, items, *w as usize);
     }
 }
 
-// All items: the bricks, the first m rerouters of the buffer, the n wires in the list.
+// All items: the bricks, the rerouters, the wires in the list.
 pub fn fill_corners(
     nodes: &[Record],
     facts: &[WorkRow],
     classes: &[u32],
     list: &[u32],
-    n: usize,
     rerouters: &[RerouterRow],
-    m: usize,
     items: &mut [WorkRow],
 )
     requires bricks_askable { BricksAskable nodes.now facts.now }
-    requires turns_listed { TurnsListed nodes.now facts.now classes.now list.now n }
-    requires m_in_bounds { (m ≤ length rerouters.now) × (length nodes.now + m + n ≤ length items.old) }
-    ensures items_stored { ItemsStored nodes.now facts.now classes.now list.now n rerouters.now m items.new }
-    ensures corner_items { (b : Board) (bus : Bus) (pages wires : List (List ℕ)) → TurnsOf b bus pages nodes.now wires facts.now classes.now list.now n rerouters.now m
-        → CornerItems b bus (λ w. slice_index classes.now w) facts.now items.new (length nodes.now + m) (firsts list.now n) }
+    requires turns_listed { TurnsListed nodes.now facts.now classes.now list.now (length list.now) }
+    requires items_room { length nodes.now + length rerouters.now + length list.now ≤ length items.old }
+    ensures items_stored { ItemsStored nodes.now facts.now classes.now list.now (length list.now) rerouters.now (length rerouters.now) items.new }
+    ensures corner_items { (b : Board) (bus : Bus) (pages wires : List (List ℕ)) → TurnsOf b bus pages nodes.now wires facts.now classes.now list.now (length list.now) rerouters.now (length rerouters.now)
+        → CornerItems b bus (λ w. slice_index classes.now w) facts.now items.new (length nodes.now + length rerouters.now) (firsts list.now (length list.now)) }
 {
-    let mut bases = [0u32; 64];
-    page_bases(nodes, &mut bases);
-    let mut counts = [0u32; 64];
-    count_pages(nodes, &mut counts);
+    let bases = page_bases(nodes);
+    let counts = count_pages(nodes);
     fill_bricks(nodes, facts, &bases, items);
-    fill_beside(nodes, &bases, &counts, rerouters, m, items);
-    fill_questions(nodes, facts, classes, list, n, nodes.len() + m, items);
+    fill_beside(nodes, &bases, &counts, rerouters, items);
+    fill_questions(
+        nodes,
+        facts,
+        classes,
+        list,
+        nodes.len() + rerouters.len(),
+        items,
+    );
 }

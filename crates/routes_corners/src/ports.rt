@@ -3,7 +3,7 @@
 ghost use Rattle.std.specs.Prelude.{◌≡◌, ℕ, ◌+◌, ◌-◌, ◌*◌, ◌<◌, ◌≤◌, Bool, true, ◌||◌, length, slice_index};
 ghost use Rattle.base.specs.Keys.{Rising, FirstNotBelow};
 ghost use Rattle.routes_corners.specs.CornerTables.{Classed};
-ghost use Rattle.routes_corners.specs.Ports.{BelowAt, port_key, wire_key, PortsLow, wire_at, class_at, PortKeys, Ported, PortRoom, the_port, goes_to, FlaggedBy, among_ports};
+ghost use Rattle.routes_corners.specs.Ports.{port_key, wire_key, PortsLow, wire_at, class_at, PortKeys, Ported, PortRoom, the_port, goes_to, FlaggedBy, among_ports};
 
 use base::keys::{first_not_below, raise_keys};
 use base::rows::{PortRow, Record};
@@ -16,7 +16,7 @@ fn pack_key(node: u32, port: u32, w: usize) -> u64
     requires { w < 8192 }
     ensures { result ≡ port_key node port * 8192 + w }
 {
-    (node as u64 * 65_536 + port as u64) * NUMBERS + w as u64
+    (u64::from(node) * 65_536 + u64::from(port)) * NUMBERS + w as u64
 }
 
 // The keys of all wires, in order.
@@ -24,10 +24,8 @@ fn fill_keys(wires: &[Record], keys: &mut [u64])
     requires { (length wires.now ≤ length keys.old) × (length wires.now ≤ 8192) }
     ensures { (w : ℕ) → w < length wires.now → slice_index keys.new w ≡ wire_key wires.now w * 8192 + w }
 {
-    let mut w: usize = 0;
-    while w < wires.len() {
-        keys[w] = pack_key(wires[w][3], wires[w][4], w);
-        w += 1;
+    for (w, wire) in wires.iter().enumerate() {
+        keys[w] = pack_key(wire[3], wire[4], w);
     }
 }
 
@@ -59,11 +57,9 @@ fn class_along(wires: &[Record], keys: &[u64], classes: &mut [u32])
     ensures { Classed wires.now classes.new (length wires.now) }
 {
     let mut class: u32 = 0;
-    let mut p: usize = 0;
-    while p < wires.len() {
+    for p in 0..wires.len() {
         class = class_at(keys, p, class);
         classes[wire_at(keys, p)] = class;
-        p += 1;
     }
 }
 
@@ -86,42 +82,21 @@ fn goes_to(wires: &[Record], i: usize, node: u32, port: u32) -> bool
     (wires[i][3] == node) & (wires[i][4] == port)
 }
 
-// Whether the keys in front of a place are below the key, as the last of them is.
-fn is_behind(keys: &[u64], from: usize, key: u64) -> bool
-    requires { from ≤ length keys.now }
-    ensures { result ≡ true → 0 < from → slice_index keys.now (from - 1) < key }
-{
-    if from == 0 {
-        return true;
-    }
-    keys[from - 1] < key
-}
-
-// Whether there is a key at a place, and it is below the key.
-fn is_below(keys: &[u64], p: usize, n: usize, key: u64) -> bool
-    requires { n ≤ length keys.now }
-    ensures { BelowAt keys.now p n key result }
-{
-    if n <= p {
-        return false;
-    }
-    keys[p] < key
-}
-
 // The first of n rising keys that is not below the key, or n: from a place on, if it is not in front of that, and else by halves. Ports that come in order are
 // found by one walk.
 fn seek_key(keys: &[u64], n: usize, from: usize, key: u64) -> usize
     requires { (n ≤ length keys.now) × (from ≤ n) × Rising keys.now n }
     ensures { FirstNotBelow keys.now n key result }
 {
-    if !is_behind(keys, from, key) {
+    if from > 0 && key <= keys[from - 1] {
         return first_not_below(keys, n, key);
     }
-    let mut p = from;
-    while is_below(keys, p, n, key) {
-        p += 1;
+    for p in from..n {
+        if key <= keys[p] {
+            return p;
+        }
     }
-    p
+    n
 }
 
 // The flag of the class of a suppressed port, if a wire leads to it. Its numbers may be beyond the sheet's, so the wire's own are asked. Its place among the keys,
@@ -153,24 +128,21 @@ fn flag_port(
     p
 }
 
-// The flags of the first u ports handed in, in whatever order, over flags that are all 0.
+// The flags of the ports handed in, in whatever order, over flags that are all 0.
 pub fn flag_ports(
     wires: &[Record],
     classes: &[u32],
     keys: &[u64],
     ports: &[PortRow],
-    u: usize,
     flags: &mut [u32],
 )
     requires ported { Ported wires.now classes.now keys.now }
     requires port_room { PortRoom wires.now classes.now flags.old }
-    requires u_in_bounds { (u ≤ length ports.now) × ((k : ℕ) → k < length wires.now → slice_index flags.old k ≡ 0) }
-    ensures { FlaggedBy (among_ports wires.now ports.now u) wires.now classes.now flags.new }
+    requires flags_clear { (k : ℕ) → k < length wires.now → slice_index flags.old k ≡ 0 }
+    ensures { FlaggedBy (among_ports wires.now ports.now (length ports.now)) wires.now classes.now flags.new }
 {
     let mut p: usize = 0;
-    let mut j: usize = 0;
-    while j < u {
-        p = flag_port(wires, classes, keys, p, flags, ports[j][0], ports[j][1]);
-        j += 1;
+    for port in ports {
+        p = flag_port(wires, classes, keys, p, flags, port[0], port[1]);
     }
 }

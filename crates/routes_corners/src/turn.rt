@@ -18,44 +18,20 @@ use crate::decide::decide_corners;
 use crate::find::find_turns;
 use crate::ports::{class_ports, flag_ports};
 use crate::write::write_corners;
+use base::refusal::{Reason, Refusal};
 use base::rows::{BusWireRow, PortRow, Record, RerouterRow, WorkRow};
 use routes::bus::{BusCount, BusCounts};
 
-// No room for all that may turn, or the counts with the corners laid.
-#[derive(Clone, Copy)]
-pub enum Turned {
-    Short,
-    Laid(BusCount),
-}
-
 // A row passed by value is known to be so many numbers of 32 bits: what is read off a buffer is then what is written there.
-fn know_rerouter(row: RerouterRow)
-    ensures { Row 11 row }
+fn know_row<const N: usize>(row: [u32; N])
+    ensures { Row N row.entry }
 {}
 
-fn know_wire(row: [u32; 6])
-    ensures { Row 6 row }
-{}
-
-fn know_wires(bus_wires: &[BusWireRow], k: usize)
-    requires { k ≤ length bus_wires.now }
-    ensures { Rows 6 bus_wires.now k }
+fn know_rows<const N: usize>(rows: &[[u32; N]])
+    ensures { Rows N rows.now (length rows.now) }
 {
-    let mut i: usize = 0;
-    while i < k {
-        know_wire(bus_wires[i]);
-        i += 1;
-    }
-}
-
-fn know_rerouters(rerouters: &[RerouterRow], n: usize)
-    requires { n ≤ length rerouters.now }
-    ensures { Rows 11 rerouters.now n }
-{
-    let mut i: usize = 0;
-    while i < n {
-        know_rerouter(rerouters[i]);
-        i += 1;
+    for row in rows {
+        know_row(*row);
     }
 }
 
@@ -70,25 +46,24 @@ fn has_room(wires: usize, held: BusCounts, turning: usize) -> bool
     (n + turning <= 5 * wires) & (k + 2 * turning <= 6 * wires) & (u + turning <= wires)
 }
 
-// The classes of the wires, and the wires that turn: none whose target port is among the u handed in.
+// The classes of the wires, and the wires that turn: none whose target port is among those handed in.
 fn find_turners(
     nodes: &[Record],
     wires: &[Record],
     facts: &[WorkRow],
     ports: &[PortRow],
-    u: usize,
     classes: &mut [u32],
     list: &mut [u32],
 ) -> usize
-    requires wires_len_bound { (length wires.now ≤ 8192) × (length wires.now ≤ length facts.now) × (u ≤ length ports.now) × PortsLow wires.now }
+    requires wires_len_bound { (length wires.now ≤ 8192) × (length wires.now ≤ length facts.now) × PortsLow wires.now }
     requires wires_in_bounds { (length wires.now ≤ length classes.old) × (length wires.now ≤ length list.old) }
-    ensures { Found nodes.now wires.now facts.now ports.now u classes.new list.new result }
+    ensures { Found nodes.now wires.now facts.now ports.now (length ports.now) classes.new list.new result }
 {
     let mut keys = [0u64; 8192];
     let mut spare = [0u64; 8192];
     class_ports(wires, classes, &mut keys, &mut spare);
     let mut muted = [0u32; 8192];
-    flag_ports(wires, classes, &keys, ports, u, &mut muted);
+    flag_ports(wires, classes, &keys, ports, &mut muted);
     find_turns(nodes, wires, facts, classes, &muted, list)
 }
 
@@ -110,15 +85,14 @@ pub fn has_room_to_turn(
         nodes,
         wires,
         facts,
-        ports,
-        held.ports,
+        &ports[..held.ports],
         &mut classes,
         &mut list,
     );
     has_room(wires.len(), held, turning)
 }
 
-// The corners of the n wires in the list: decided row by row, and then written.
+// The corners of the wires in the list: decided row by row, and then written.
 fn lay_corners(
     pages: &[Record],
     nodes: &[Record],
@@ -126,19 +100,18 @@ fn lay_corners(
     facts: &[WorkRow],
     classes: &[u32],
     list: &[u32],
-    n: usize,
     rerouters: &mut [RerouterRow],
     bus_wires: &mut [BusWireRow],
     items: &mut [WorkRow],
     count: BusCount,
 ) -> BusCount
     requires board_fits { BoardFits pages.now nodes.now wires.now facts.now }
-    requires turns_listed { TurnsListed nodes.now facts.now classes.now list.now n }
-    requires rows_room { RowsRoom nodes.now wires.now list.now n rerouters.old count.rerouters items.old }
-    requires write_room { WriteRoom n rerouters.old bus_wires.old count }
+    requires turns_listed { TurnsListed nodes.now facts.now classes.now list.now (length list.now) }
+    requires rows_room { RowsRoom nodes.now wires.now list.now (length list.now) rerouters.old count.rerouters items.old }
+    requires write_room { WriteRoom (length list.now) rerouters.old bus_wires.old count }
     ensures { (b : Board) (bus : Bus) (old old_wires : List (List ℕ)) → BoardOf b pages.now nodes.now wires.now facts.now → Classed wires.now classes.now (length wires.now)
         → BusHeld bus old old_wires rerouters.old bus_wires.old count → CellRows bus.rerouters rerouters.old
-        → firsts list.now n ≡ keep (turns b bus) (upto (length b.wires)) → BusHeld (corners b bus) old old_wires rerouters.new bus_wires.new result }
+        → firsts list.now (length list.now) ≡ keep (turns b bus) (upto (length b.wires)) → BusHeld (corners b bus) old old_wires rerouters.new bus_wires.new result }
 {
     let mut answers = [0u32; 8192];
     decide_corners(
@@ -146,18 +119,16 @@ fn lay_corners(
         facts,
         classes,
         list,
-        n,
-        rerouters,
-        count.rerouters,
+        &rerouters[..count.rerouters],
         items,
         &mut answers,
     );
     write_corners(
-        pages, nodes, wires, facts, list, &answers, n, rerouters, bus_wires, count,
+        pages, nodes, wires, facts, list, &answers, rerouters, bus_wires, count,
     )
 }
 
-// `lay_mini_bus` on the bus that is held. The buffers stay as they are where there is no room for all that may turn.
+// `lay_mini_bus` on the bus that is held. 7 where there is no room for all that may turn: the buffers then stay as they are.
 pub fn turn_corners(
     pages: &[Record],
     nodes: &[Record],
@@ -168,7 +139,7 @@ pub fn turn_corners(
     ports: &[PortRow],
     held: BusCounts,
     marks: &mut [WorkRow],
-) -> Turned
+) -> Result<BusCount, Refusal>
     requires board_fits { BoardFits pages.now nodes.now wires.now facts.now }
     requires lent { Lent (length nodes.now) (length wires.now) rerouters.old bus_wires.old ports.now marks.old held }
     ensures turned_as { (b : Board) → BoardOf b pages.now nodes.now wires.now facts.now
@@ -182,21 +153,32 @@ pub fn turn_corners(
         nodes,
         wires,
         facts,
-        ports,
-        held.ports,
+        &ports[..held.ports],
         &mut classes,
         &mut list,
     );
     if !has_room(wires.len(), held, turning) {
-        return Turned::Short;
+        return Err(Refusal {
+            reason: Reason::NoRoom,
+            place: 0,
+        });
     }
-    know_rerouters(rerouters, held.rerouters);
-    know_wires(bus_wires, held.bus_wires);
+    know_rows(&rerouters[..held.rerouters]);
+    know_rows(&bus_wires[..held.bus_wires]);
     let count = BusCount {
         rerouters: held.rerouters,
         wires: held.bus_wires,
     };
-    Turned::Laid(lay_corners(
-        pages, nodes, wires, facts, &classes, &list, turning, rerouters, bus_wires, marks, count,
+    Ok(lay_corners(
+        pages,
+        nodes,
+        wires,
+        facts,
+        &classes,
+        &list[..turning],
+        rerouters,
+        bus_wires,
+        marks,
+        count,
     ))
 }

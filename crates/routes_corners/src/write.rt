@@ -15,6 +15,7 @@ use base::numbers::MISSING;
 use base::rows::{BusWireRow, Record, RerouterRow, WorkRow};
 use routes::bus::{BusCount, End, Feed, Rerouter, push_bus_node, push_delivery};
 
+// Stays (C interface): a rerouter's role and part are numbers of its row.
 const ROLE_LINE: u32 = 1;
 
 const PART_CORNER: u32 = 6;
@@ -101,7 +102,7 @@ fn write_told(
     write_corner(rerouters, bus_wires, count, wires[w], w as u32, new)
 }
 
-// K8 to K10: the corners of the n wires in the list, in order, each at the level that its answer tells.
+// K8 to K10: the corners of the wires in the list, in order, each at the level that its answer tells.
 pub fn write_corners(
     pages: &[Record],
     nodes: &[Record],
@@ -109,26 +110,30 @@ pub fn write_corners(
     facts: &[WorkRow],
     list: &[u32],
     answers: &[u32],
-    n: usize,
     rerouters: &mut [RerouterRow],
     bus_wires: &mut [BusWireRow],
     count: BusCount,
 ) -> BusCount
     requires board_fits { BoardFits pages.now nodes.now wires.now facts.now }
-    requires writes_fit { WritesFit nodes.now wires.now facts.now list.now answers.now n }
-    requires write_room { WriteRoom n rerouters.old bus_wires.old count }
+    requires writes_fit { WritesFit nodes.now wires.now facts.now list.now answers.now (length list.now) }
+    requires write_room { WriteRoom (length list.now) rerouters.old bus_wires.old count }
     ensures { (b : Board) (bus : Bus) (old old_wires : List (List ℕ)) → BoardOf b pages.now nodes.now wires.now facts.now
-        → ((k : ℕ) → k < n → EndsOf b facts.now (slice_index list.now k)) → BusHeld bus old old_wires rerouters.old bus_wires.old count
-        → BusHeld (with_corners b bus (told_corners (answers_in answers.now) (firsts list.now n))) old old_wires rerouters.new bus_wires.new result }
+        → ((k : ℕ) → k < length list.now → EndsOf b facts.now (slice_index list.now k)) → BusHeld bus old old_wires rerouters.old bus_wires.old count
+        → BusHeld (with_corners b bus (told_corners (answers_in answers.now) (firsts list.now (length list.now)))) old old_wires rerouters.new bus_wires.new result }
 {
     let mut done = count;
-    let mut q: usize = 0;
-    while q < n {
-        let w = list[q] as usize;
+    for (q, w) in list.iter().enumerate() {
         done = write_told(
-            pages, nodes, wires, facts, w, answers[q], rerouters, bus_wires, done,
+            pages,
+            nodes,
+            wires,
+            facts,
+            *w as usize,
+            answers[q],
+            rerouters,
+            bus_wires,
+            done,
         );
-        q += 1;
     }
     done
 }

@@ -1,3 +1,2 @@
-pub mod Emitting
 pub mod Next
 pub mod Steps

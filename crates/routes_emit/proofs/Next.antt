@@ -16,13 +16,11 @@ use Rattle.routes.specs.Stops.{new_row}
 use Rattle.routes.specs.Levels.{Level}
 use Rattle.routes.specs.Rerouters
 use Rattle.routes.specs.Tables.{stop_in}
-use Rattle.routes.specs.Holding.{BusHeld, stop_level_of}
+use Rattle.routes.specs.Holding.{stop_level_of}
 use Rattle.routes_taps.specs.Asking
 use Rattle.routes_taps.specs.Asking.{tap_by, emit_by}
-use Rattle.routes_taps.specs.Taps.{LaneInRange, LaneRanges, lane_read, tap_read, tap_of, Tables, TapOn, NewsOf, AtStop, WentOn, rows_begun}
-use Rattle.routes_taps.proofs.Lanes.{lane_ranges}
+use Rattle.routes_taps.specs.Taps.{tap_read, tap_of, Tables, TapOn, NewsOf, AtStop, WentOn, rows_begun}
 use Rattle.routes_taps.proofs.Reaching.{before_same}
-use Rattle.routes_taps.specs.declared.taps.Lane.{Lane}
 use Rattle.routes_taps.specs.declared.taps.Tap.{Tap}
 use Rattle.routes_taps.specs.declared.taps.News.{News}
 use Rattle.routes_taps.specs.declared.taps.Reached.{Reached}
@@ -30,13 +28,6 @@ use Rattle.routes_emit.specs.Emitting.{told, tap_emitted, AnswersRoom, EmissionH
 use Rattle.routes_emit.specs.declared.answers.Answers.{Answers}
 use Rattle.routes_emit.specs.declared.walk.Walk.{Walk}
 use Rattle.routes_emit.proofs.Steps.{spends_none}
-
--- The lane of the tap that was read is in range.
-pub ranges_next : (pages nodes wires facts groups : List (List ℕ)) (row : List ℕ) (t : Tap) (l : Lane) → LaneInRange pages nodes wires facts groups (get_or row 0 0) (get_or row 1 0)
-    → t ≡ tap_read row → l ≡ lane_read pages nodes wires facts groups t.page t.group → LaneRanges l
-ranges_next pages nodes wires facts groups row t l r et el =
-    subst LaneRanges (sym el)
-    (subst (λ (u : Tap). LaneRanges (lane_read pages nodes wires facts groups u.page u.group)) (sym et) (lane_ranges pages nodes wires facts groups (get_or row 0 0) (get_or row 1 0) r))
 
 -- A tap emitted is `tap_by`.
 pub emit_as : (b : Board) (ts : List Groups.Tap) (ps : List PageLanes) (a : Answers) (a' : Asking.Answers) (l : List Groups.Tap) (row : List ℕ) (t : Tap) (news : News) (level : Level) (s : Rerouters.Emission)
@@ -119,10 +110,3 @@ module _ (pages nodes wires_in facts groups laid : List (List ℕ)) (n : ℕ) (s
       where
         picked : Bool → ℕ → ℕ
         picked fresh m = elim fresh [ true ↦ suc m | false ↦ m ]
-
-    -- All taps.
-    pub come_end : (claims : ℕ) → k ≡ n → rows_begun (view tap_in laid n) ≡ claims → (b : Board) (ts : List Groups.Tap) (ps : List PageLanes) → Tables b ts ps pages nodes wires_in facts groups
-        → ((j : ℕ) → j < n → TapOn b ts (get_or laid j [])) → BusHeld (emit_by b ts ps answers (view tap_in laid n) (view stop_in stops claims)).bus old old_wires rer wires w.emission.count
-    come_end claims e each b ts ps tb on =
-        (subst₂ (λ (x y : ℕ). EmissionHeld (emit_by b ts ps answers (view tap_in laid x) (view stop_in stops y)) old old_wires rer wires w.emission) e
-        (c.count ∙ ap (λ m. rows_begun (view tap_in laid m)) e ∙ each) (c.emitted b ts ps tb on)).bus

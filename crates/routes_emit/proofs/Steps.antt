@@ -1,15 +1,13 @@
 -- Steps of the emission, one after the other, and what each of them by its answer says in the code's numbers.
-use Prim.Native.Nat.{ℕ, ◌+◌, ◌-◌, ◌*◌, ◌≤◌}
+use Prim.Native.Nat.{ℕ, ◌+◌, ◌-◌, ◌≤◌}
 use mathlib.Core.Path.{◌≡◌, refl, ap, sym, subst, subst₂, ◌∙◌}
 use mathlib.Core.Bool.{Bool, true, false}
 use mathlib.Core.List.{List}
 use native.Mathlib.Omega.{arith}
-use native.Mathlib.Numerals.{add-one}
-use lib.Dec.{eqb}
-use lib.ListN.{length, get_or}
+use lib.ListN.{length}
 use Rattle.sheet.specs.Table.{MISSING}
 use Rattle.base.specs.Lists.{Found, none, at}
-use Rattle.board.specs.Board.{Board, field, y_of}
+use Rattle.board.specs.Board.{Board, y_of}
 use Rattle.board.specs.Groups
 use Rattle.board.specs.Groups.{source_row}
 use Rattle.board.specs.Demands.{PageLanes}
@@ -28,14 +26,8 @@ use Rattle.routes_taps.specs.Taps.{LaneOf, RowHeld}
 use Rattle.routes_taps.specs.declared.taps.Lane.{Lane}
 use Rattle.routes_taps.specs.declared.taps.Tap.{Tap}
 use Rattle.routes_taps.specs.declared.taps.News.{News}
-use Rattle.routes_emit.specs.Emitting.{told, lane_rerouter_of, row_rerouter_of, EmissionHeld, Ready, Spends, Becomes, hung_on, tapped_off, chained_on, port_of, shared_tap, delivered_at, Delivered, gate_side_by, begin_tap}
+use Rattle.routes_emit.specs.Emitting.{lane_rerouter_of, row_rerouter_of, EmissionHeld, Ready, Spends, Becomes, hung_on, tapped_off, chained_on, port_of, shared_tap, delivered_at, Delivered, gate_side_by, begin_group, begin_tap}
 use Rattle.routes_emit.specs.declared.chain.Emission.{Emission}
-
--- The answers as the code reads them.
-pub answers_read : (asked : List (List ℕ)) (flags : List ℕ) (bricks k : ℕ)
-    → told (record { head = eqb (field asked k 0) 1; source = eqb (get_or flags (bricks + 2 * k) 0) 1; link = eqb (field asked k 1) 1; gate_side = eqb (get_or flags (bricks + 2 * k + 1) 0) 1 }) ≡ told_in asked flags bricks k
-answers_read asked flags bricks k =
-    λ i. record { head = eqb (field asked k 0) 1; source = eqb (get_or flags (bricks + 2 * k) 0) 1; link = eqb (field asked k 1) 1; gate_side = eqb (get_or flags (add-one (bricks + 2 * k) i) 0) 1 }
 
 -- Where the counts stay and no feed is deeper, the room stays.
 pub unmoved : (n m reroutersLeft wiresLeft : ℕ) (rerouters wires : List (List ℕ)) (e e' : Emission) → e'.count ≡ e.count
@@ -149,9 +141,6 @@ module _ (b : Board) (ts : List Groups.Tap) (ps : List PageLanes) (t : Groups.Ta
     pub link_stands : (new : Rerouter) → rerouter_of new ≡ lane_rerouter_of l (level + 2) l.rotation part_link → so ≡ true → hung_on (rerouter_of new) s ≡ link_by b ts ps so s t level
     link_stands new e y = ap (λ x. hung_on x s) (e ∙ lane_rerouter_lem (level + 2) (level + 2) _ _ part_link refl k.rotation) ∙ ap (λ v. link_by b ts ps v s t level) (sym y)
 
-    pub link_left_out : so ≡ false → s ≡ link_by b ts ps so s t level
-    link_left_out n = ap (λ v. link_by b ts ps v s t level) (sym n)
-
   -- R7: a row by its level.
   module _ (a : Asking.Answers) (s : Rerouters.Emission) where
     pub row_own : (level : ℕ) (new : Rerouter) → rerouter_of new ≡ lane_rerouter_of l level 0 part_tap → tapped_off (rerouter_of new) (link_by b ts ps a.link s t level) ≡ row_by b ts ps a s t (own level)
@@ -214,12 +203,23 @@ module _ (b : Board) (ts : List Groups.Tap) (ps : List PageLanes) (a : Asking.An
   unfolding serve_by
   serve_as level s = refl
 
-  abbrev pub begins : Level → Bool → Bool → Rerouters.Emission → Rerouters.Emission
-  begins level g r s =
-      let begun : Rerouters.Emission = elim g [ true ↦ group_by b ts ps a s t | false ↦ s ] in elim r [ true ↦ row_by b ts ps a begun t level | false ↦ begun ]
+  abbrev group_case : Bool → Rerouters.Emission → Rerouters.Emission
+  group_case g s = elim g [ true ↦ group_by b ts ps a s t | false ↦ s ]
 
-  pub begin_as : (level : Level) (news : News) (g r : Bool) → news.group ≡ g → news.row ≡ r → (s : Rerouters.Emission) → begins level g r s ≡ begin_tap b ts ps a t news level s
-  begin_as level news g r eg er s = λ i. begins level (sym eg i) (sym er i) s
+  pub group_new : (news : News) → news.group ≡ true → (s : Rerouters.Emission) → group_by b ts ps a s t ≡ begin_group b ts ps a t news s
+  group_new news e s = ap (λ g. group_case g s) (sym e)
+
+  pub group_same : (news : News) → news.group ≡ false → (s : Rerouters.Emission) → s ≡ begin_group b ts ps a t news s
+  group_same news e s = ap (λ g. group_case g s) (sym e)
+
+  abbrev row_case : Level → Bool → Rerouters.Emission → Rerouters.Emission
+  row_case level r s = elim r [ true ↦ row_by b ts ps a s t level | false ↦ s ]
+
+  pub row_new : (level : Level) (news : News) → news.row ≡ true → (s : Rerouters.Emission) → row_by b ts ps a (begin_group b ts ps a t news s) t level ≡ begin_tap b ts ps a t news level s
+  row_new level news e s = ap (λ r. row_case level r (begin_group b ts ps a t news s)) (sym e)
+
+  pub row_same : (level : Level) (news : News) → news.row ≡ false → (s : Rerouters.Emission) → begin_group b ts ps a t news s ≡ begin_tap b ts ps a t news level s
+  row_same level news e s = ap (λ r. row_case level r (begin_group b ts ps a t news s)) (sym e)
 
   abbrev pub served : Level → Rerouters.Emission → Rerouters.Emission
   served level s = elim level [ dropped ↦ s | shared x ↦ serve_by b ts ps a s t x | own x ↦ serve_by b ts ps a s t x ]

@@ -96,12 +96,14 @@ module _ (b : Board) (ts : List Groups.Tap) (ps : List PageLanes) where
   abbrev pub gate_side_by : Bool → Rerouters.Emission → Groups.Tap → ℕ → Rerouters.Emission
   gate_side_by so s t level = elim so [ true ↦ chain_on b ts ps s (gate_side_rerouter b ts ps t level) | false ↦ s ]
 
+  -- A group begins with a tap that is its first.
+  abbrev pub begin_group : Asking.Answers → Groups.Tap → News → Rerouters.Emission → Rerouters.Emission
+  begin_group a t news s = elim news.group [ true ↦ group_by b ts ps a s t | false ↦ s ]
+
   -- `tap_by`, of a tap of which it is known what it begins.
   module _ (a : Asking.Answers) (t : Groups.Tap) (news : News) (level : Levels.Level) where
     abbrev pub begin_tap : Rerouters.Emission → Rerouters.Emission
-    begin_tap s =
-        let begun : Rerouters.Emission = elim news.group [ true ↦ group_by b ts ps a s t | false ↦ s ] in
-        elim news.row [ true ↦ row_by b ts ps a begun t level | false ↦ begun ]
+    begin_tap s = let begun : Rerouters.Emission = begin_group a t news s in elim news.row [ true ↦ row_by b ts ps a begun t level | false ↦ begun ]
 
     abbrev pub tap_emitted : Rerouters.Emission → Rerouters.Emission
     tap_emitted s =

@@ -10,6 +10,7 @@ use routes_taps::taps::Lane;
 
 // R12: what the walk over the taps holds: how much is written, the feed of links and taps, the tap of the group's last own level, and the end of the row's
 // chain so far.
+// Stays (no plainer): the buffers go beside it, since `push_bus_node` takes each by itself, and every step takes an emission and returns the next.
 #[derive(Clone, Copy)]
 pub struct Emission {
     pub count: BusCount,
@@ -18,21 +19,21 @@ pub struct Emission {
     pub row_end: Feed,
 }
 
+// Stays (C interface): roles and parts are numbers of a rerouter's row, which crates above and below name alike.
 pub(crate) const ROLE_GUTTER: u32 = 0;
 
 // A head, link or tap at x in the column of the lane.
 pub(crate) fn lane_rerouter(l: Lane, x: u32, rotation: u32, part: u32) -> Rerouter
     ensures { rerouter_of result ≡ lane_rerouter_of l x rotation part }
 {
-    let colour = l.colour;
     Rerouter {
-        x: x,
+        x,
         y: l.y,
         z: l.z,
-        rotation: rotation,
+        rotation,
         role: ROLE_GUTTER,
-        part: part,
-        colour: colour,
+        part,
+        colour: l.colour,
         page: l.page,
         lane: l.lane,
         row: MISSING,
@@ -51,18 +52,17 @@ pub(crate) fn row_rerouter(
 ) -> Rerouter
     ensures { rerouter_of result ≡ row_rerouter_of l row x y rotation role part }
 {
-    let colour = l.colour;
     Rerouter {
-        x: x,
-        y: y,
+        x,
+        y,
         z: l.z,
-        rotation: rotation,
-        role: role,
-        part: part,
-        colour: colour,
+        rotation,
+        role,
+        part,
+        colour: l.colour,
         page: l.page,
         lane: MISSING,
-        row: row,
+        row,
     }
 }
 
@@ -77,17 +77,11 @@ pub(crate) fn hang_on(
     ensures spends { Spends 1 1 rerouters.old bus_wires.old e rerouters.new bus_wires.new result }
     ensures becomes { Becomes (hung_on (rerouter_of new)) rerouters.old bus_wires.old e rerouters.new bus_wires.new result }
 {
-    let feed = e.upstream;
-    let stop_tap = e.stop_tap;
-    let row_end = e.row_end;
-    let placed = push_bus_node(rerouters, bus_wires, e.count, feed, new);
-    let count = placed.count;
-    let upstream = placed.feed;
+    let placed = push_bus_node(rerouters, bus_wires, e.count, e.upstream, new);
     Emission {
-        count: count,
-        upstream: upstream,
-        stop_tap: stop_tap,
-        row_end: row_end,
+        count: placed.count,
+        upstream: placed.feed,
+        ..e
     }
 }
 
@@ -102,15 +96,13 @@ pub(crate) fn tap_off(
     ensures spends { Spends 1 1 rerouters.old bus_wires.old e rerouters.new bus_wires.new result }
     ensures becomes { Becomes (tapped_off (rerouter_of new)) rerouters.old bus_wires.old e rerouters.new bus_wires.new result }
 {
-    let from = e.upstream;
-    let placed = push_bus_node(rerouters, bus_wires, e.count, from, new);
-    let count = placed.count;
+    let placed = push_bus_node(rerouters, bus_wires, e.count, e.upstream, new);
     let tap = placed.feed;
     Emission {
-        count: count,
-        upstream: from,
+        count: placed.count,
         stop_tap: tap,
         row_end: tap,
+        ..e
     }
 }
 
@@ -125,16 +117,10 @@ pub(crate) fn chain_on(
     ensures spends { Spends 1 1 rerouters.old bus_wires.old e rerouters.new bus_wires.new result }
     ensures becomes { Becomes (chained_on (rerouter_of new)) rerouters.old bus_wires.old e rerouters.new bus_wires.new result }
 {
-    let upstream = e.upstream;
-    let stop_tap = e.stop_tap;
-    let feed = e.row_end;
-    let placed = push_bus_node(rerouters, bus_wires, e.count, feed, new);
-    let count = placed.count;
-    let row_end = placed.feed;
+    let placed = push_bus_node(rerouters, bus_wires, e.count, e.row_end, new);
     Emission {
-        count: count,
-        upstream: upstream,
-        stop_tap: stop_tap,
-        row_end: row_end,
+        count: placed.count,
+        row_end: placed.feed,
+        ..e
     }
 }

@@ -22,22 +22,16 @@ const PART_SOURCE: u32 = 1;
 fn at_port(e: Emission, l: Lane) -> Emission
     ensures { result ≡ port_of e l }
 {
-    let count = e.count;
-    let stop_tap = e.stop_tap;
-    let row_end = e.row_end;
-    let node = l.node;
     let port = Feed {
         end: End::Port {
-            node: node,
+            node: l.node,
             port: l.port,
         },
         depth: 0,
     };
     Emission {
-        count: count,
         upstream: port,
-        stop_tap: stop_tap,
-        row_end: row_end,
+        ..e
     }
 }
 

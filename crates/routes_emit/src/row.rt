@@ -47,14 +47,9 @@ fn with_link(
 fn share_tap(e: Emission) -> Emission
     ensures { result ≡ shared_tap e }
 {
-    let count = e.count;
-    let upstream = e.upstream;
-    let stop_tap = e.stop_tap;
     Emission {
-        count: count,
-        upstream: upstream,
-        stop_tap: stop_tap,
-        row_end: stop_tap,
+        row_end: e.stop_tap,
+        ..e
     }
 }
 

@@ -48,16 +48,15 @@ fn deliver(bus_wires: &mut [BusWireRow], e: Emission, t: Tap) -> Emission
     requires { e.count.wires < length bus_wires.old }
     ensures { Delivered bus_wires.old e t bus_wires.new result }
 {
-    let upstream = e.upstream;
-    let stop_tap = e.stop_tap;
-    let row_end = e.row_end;
-    let count = push_delivery(bus_wires, e.count, row_end, NodeId(t.node), t.port, t.wire);
-    Emission {
-        count: count,
-        upstream: upstream,
-        stop_tap: stop_tap,
-        row_end: row_end,
-    }
+    let count = push_delivery(
+        bus_wires,
+        e.count,
+        e.row_end,
+        NodeId(t.node),
+        t.port,
+        t.wire,
+    );
+    Emission { count, ..e }
 }
 
 // A tap served: its gate-side rerouter first.

@@ -18,8 +18,7 @@ use crate::tap::emit_tap;
 use base::ids::NodeId;
 use base::rows::{BusWireRow, Record, RerouterRow, WorkRow};
 use routes::bus::{BusCount, End, Feed};
-use routes::levels::Level;
-use routes_taps::taps::{Reached, lane_of, news_at, reach, tap_at};
+use routes_taps::taps::{Reached, START, Tap, lane_of, news_at, reach};
 
 // What the walk over the taps has come to.
 #[derive(Clone, Copy)]
@@ -53,19 +52,22 @@ fn emit_next(
     ensures becomes { (b : Board) (ts : List LaidTap) (ps : List PageLanes) → Tables b ts ps pages.now nodes.now wires.now facts.now groups.now → TapOn b ts (get_or laid.now k [])
         → Becomes (λ s. tap_by b ts ps (told_in asked.now flags.now (length nodes.now) k) s (view tap_in laid.now k) (tap_in (get_or laid.now k [])) (stop_level_of result.reached.level)) rerouters.old bus_wires.old w.emission rerouters.new bus_wires.new result.emission }
 {
-    let t = tap_at(laid, k);
+    let t = Tap::from(laid[k]);
     let l = lane_of(pages, nodes, wires, facts, groups, t.page, t.group);
     let news = news_at(laid, k);
-    let old = w.reached;
-    let reached = reach(stops, old, news.row);
-    let level = reached.level;
+    let reached = reach(stops, w.reached, news.row);
     let answers = answers_at(asked, flags, nodes.len(), k);
-    let e = w.emission;
-    let emission = emit_tap(rerouters, bus_wires, e, l, t, news, level, answers);
-    Walk {
-        emission: emission,
-        reached: reached,
-    }
+    let emission = emit_tap(
+        rerouters,
+        bus_wires,
+        w.emission,
+        l,
+        t,
+        news,
+        reached.level,
+        answers,
+    );
+    Walk { emission, reached }
 }
 
 // The walk before the first tap.
@@ -90,10 +92,7 @@ fn start() -> Walk
     };
     Walk {
         emission: e,
-        reached: Reached {
-            stops: 0,
-            level: Level::Dropped,
-        },
+        reached: START,
     }
 }
 
@@ -105,29 +104,24 @@ pub fn emit_lanes(
     facts: &[WorkRow],
     groups: &[WorkRow],
     laid: &[WorkRow],
-    n: usize,
     stops: &[WorkRow],
-    claims: usize,
     asked: &[WorkRow],
     flags: &[u8],
     rerouters: &mut [RerouterRow],
     bus_wires: &mut [BusWireRow],
 ) -> BusCount
-    requires laid_in_range { LaidInRange pages.now nodes.now wires.now facts.now groups.now laid.now n stops.now claims }
-    requires room_for_taps { RoomForTaps n rerouters.old bus_wires.old }
-    requires n_in_bounds { (n ≤ length asked.now) × (length nodes.now + 2 * n ≤ length flags.now) }
-    ensures { (b : Board) (ts : List LaidTap) (ps : List PageLanes) → Tables b ts ps pages.now nodes.now wires.now facts.now groups.now → ((k : ℕ) → k < n → TapOn b ts (get_or laid.now k []))
-        → BusHeld (emit_by b ts ps (told_in asked.now flags.now (length nodes.now)) (view tap_in laid.now n) (view stop_in stops.now claims)).bus rerouters.old bus_wires.old rerouters.new bus_wires.new result }
+    requires laid_in_range { LaidInRange pages.now nodes.now wires.now facts.now groups.now laid.now (length laid.now) stops.now (length stops.now) }
+    requires room_for_taps { RoomForTaps (length laid.now) rerouters.old bus_wires.old }
+    requires answered { (length laid.now ≤ length asked.now) × (length nodes.now + 2 * length laid.now ≤ length flags.now) }
+    ensures { (b : Board) (ts : List LaidTap) (ps : List PageLanes) → Tables b ts ps pages.now nodes.now wires.now facts.now groups.now → ((k : ℕ) → k < length laid.now → TapOn b ts (get_or laid.now k []))
+        → BusHeld (emit_by b ts ps (told_in asked.now flags.now (length nodes.now)) (view tap_in laid.now (length laid.now)) (view stop_in stops.now (length stops.now))).bus rerouters.old bus_wires.old rerouters.new bus_wires.new result }
 {
     let mut w = start();
-    let mut k: usize = 0;
-    while k < n {
+    for k in 0..laid.len() {
         w = emit_next(
             pages, nodes, wires, facts, groups, laid, k, stops, asked, flags, rerouters, bus_wires,
             w,
         );
-        k += 1;
     }
-    let e = w.emission;
-    e.count
+    w.emission.count
 }

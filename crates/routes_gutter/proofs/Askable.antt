@@ -69,8 +69,8 @@ module _ (b : Board) (a : Accepted b) where
         end_y = ends.1;
       }
 
-module _ {b : Board} {ps : List PageLanes} {pages nodes wires facts groups taps : List (List ℕ)} {m : ℕ} {laid stops marks rerouters bus_wires : List (List ℕ)}
-    (r : LanesReady b ps pages nodes wires facts groups taps m laid stops marks rerouters bus_wires) where
+module _ {b : Board} {ps : List PageLanes} {pages nodes wires facts groups taps rerouters bus_wires : List (List ℕ)}
+    (r : LanesReady b ps pages nodes wires facts groups taps rerouters bus_wires) where
   nodes_long : length b.nodes ≡ length nodes
   nodes_long = ap length r.nodes_are
 
@@ -148,17 +148,17 @@ module _ {b : Board} {ps : List PageLanes} {pages nodes wires facts groups taps 
       }
 
   -- All taps that are laid, with what they ask.
-  module _ (rows : List (List ℕ)) (n : ℕ) (few : n ≤ m) (long : length rows ≡ length laid) (are : view tap_in rows n ≡ laid_taps b (taps_of b) ps)
-      (levels : List (List ℕ)) (s : ℕ) (fewer : s ≤ n) (wide : length levels ≡ length stops) (stops_are : view stop_in levels s ≡ stops_of b ps (view tap_in rows n)) where
-    pub rows_askable : (asked items : List (List ℕ)) (flags : List ℕ) → QuestionsIn b (taps_of b) ps (view stop_in levels s) asked (view tap_in rows n) (view stop_in levels s)
-        → n ≤ length asked → length items ≡ length marks → 20480 ≤ length flags → ((i : ℕ) → i < 20480 → get_or flags i 0 ≡ 0) → RowsAskable nodes facts rows n asked items flags
+  module _ (rows : List (List ℕ)) (few : length rows ≤ length taps) (are : view tap_in rows (length rows) ≡ laid_taps b (taps_of b) ps)
+      (levels : List (List ℕ)) (fewer : length levels ≤ length rows) (stops_are : view stop_in levels (length levels) ≡ stops_of b ps (view tap_in rows (length rows))) where
+    pub rows_askable : (asked items : List (List ℕ)) (flags : List ℕ)
+        → QuestionsIn b (taps_of b) ps (view stop_in levels (length levels)) asked (view tap_in rows (length rows)) (view stop_in levels (length levels))
+        → length rows ≤ length asked → length nodes + 2 * length wires ≤ length items → 20480 ≤ length flags → ((i : ℕ) → i < 20480 → get_or flags i 0 ≡ 0)
+        → RowsAskable nodes facts rows asked items flags
     rows_askable asked items flags questions on-asked on-items on-flags no_flag =
         let count = r.count in
         let few-w = few_wires r in
         let few-n = few_nodes r in
-        let room = r.stop_room.2 in
-        let laid_room_lem = r.laid_room in
-        let range = laid_range r rows n few long are levels s fewer wide stops_are in
+        let range = laid_range r rows few are levels fewer stops_are in
         record {
           bricks = bricks_askable;
           taps =
@@ -167,8 +167,8 @@ module _ {b : Board} {ps : List PageLanes} {pages nodes wires facts groups taps 
                 on_laid = omega arith;
                 on_asked = on-asked;
                 each = λ k h.
-                    tap_askable asked rows k (laid_at r rows n few long are k h).0
-                    (question_at b (taps_of b) ps (view stop_in levels s) asked rows n (view stop_in levels s) questions (all_low levels s range.levels) k h);
+                    tap_askable asked rows k (laid_at r rows few are k h).0
+                    (question_at b (taps_of b) ps (view stop_in levels (length levels)) asked rows (length rows) (view stop_in levels (length levels)) questions (all_low levels (length levels) range.levels) k h);
               };
           on_items = omega arith;
           on_flags = omega arith;

@@ -4,7 +4,10 @@ use native.Mathlib.Omega.{arith}
 use mathlib.Core.Path.{◌≡◌, refl, sym, ap, ◌∙◌}
 use mathlib.Core.List.{List, [], ◌∷◌}
 use lib.ListN.{length}
+use lib.Seq.{length-take-le}
 use borrow.Author.Tests.{le-leb}
+use Rattle.std.proofs.Common.{Ok, Err}
+use Rattle.base.specs.declared.refusal.Refusal.{Refusal}
 use Rattle.sheet.specs.declared.Counts.{Counts}
 use Rattle.sheet.specs.Table.{library_most}
 use Rattle.board.specs.Board.{Board}
@@ -13,6 +16,7 @@ use Rattle.board.specs.Planning.{refused, lanes_for, planning, records}
 use Rattle.board.specs.Walk.{WithinLibrary}
 use Rattle.board.proofs.Accepting.{sheet_accepted}
 use Rattle.board.proofs.Planning.{lanes_from}
+use Rattle.board.specs.Tables.{tap_in}
 use Rattle.board_plan.specs.declared.Asked.{Asked}
 use Rattle.board_plan.specs.declared.Lent.{Lent}
 use Rattle.board_plan.specs.TextPlan.{LINE_MOST, has_room, fits_counts, fits_lent, shortest, WorkLent, lent_of, asked_for}
@@ -21,10 +25,10 @@ use Rattle.board_plan.proofs.Surveying.{LanesTold}
 use Rattle.board_plan.proofs.Calling.{planning_same}
 use Rattle.routes.specs.Plan.{bus_of, laid_groups}
 use Rattle.routes.specs.Route.{routed_by, fits_bus, laid}
-use Rattle.routes.specs.declared.bus.BusCounts.{BusCounts}
+use Rattle.routes_taps.proofs.Fronts.{view_front}
 use Rattle.routes_gutter.specs.Bus.{BusLent, RowsReady, BusStands}
 use Rattle.routes_gutter.specs.Calls.{BusCalled, lay_call, bus_fits}
-use Rattle.routes_gutter.specs.declared.bus.BusPlan.TheVariants.{Refused, Laid}
+use Rattle.routes_gutter.specs.declared.laying.BusLaid.{BusLaid}
 
 -- Work space stays as long as it is.
 pub work_again : (w n : ℕ) {a b c d e f a' b' c' d' e' f' : List (List ℕ)} → WorkLent w n a b c d e f → length a' ≡ length a → length b' ≡ length b → length c' ≡ length c → length d' ≡ length d
@@ -53,9 +57,11 @@ module _ (most : Counts) (text : List ℕ) (lent : Lent) (low : WithinLibrary mo
       let fit = fits_all lent b from.fitting in
       let fw = fit.work in let fr = fit.rerouters in let fb = fit.bus_wires in let fp = fit.ports in
       let fs = work.facts_lent in let ts = work.taps_lent in let gs = work.groups_lent in let ds = work.demands_lent in let ks = work.keys_lent in
+      let front : m ≤ length taps = omega (arith, t.few) in
       let ml = bus.marks_lent in let rl = bus.rerouters_lent in let bl = bus.wires_lent in let pl = bus.ports_lent in (
         record {
           sections = t.sections;
+          front = front;
           counted = told.counted;
           ready =
               record {
@@ -65,18 +71,17 @@ module _ (most : Counts) (text : List ℕ) (lent : Lent) (low : WithinLibrary mo
                 wires_are = refl;
                 nodes_known = t.nodes_known;
                 wires_known = t.wires_known;
-                count = t.few;
-                taps_are = t.taps_are;
+                count = omega (arith, t.few, length-take-le m taps front);
+                taps_are = view_front tap_in taps m front ∙ t.taps_are;
                 plan = t.lanes_are;
                 groups_known = t.groups_known;
                 pages_known = t.pages_known;
                 node_room = omega arith;
                 page_room = omega arith;
-                wire_room = (omega arith, omega arith, omega arith);
-                laid_room = omega arith;
-                stop_room = (omega arith, omega arith, omega arith);
+                wire_room = (omega arith, omega arith);
                 bus_room = (omega arith, omega arith);
               };
+          room = record { on_laid = omega arith; on_stops = omega arith; on_marks = omega arith };
         },
         omega arith,
       )
@@ -105,13 +110,18 @@ module _ (text : List ℕ) (asked : Asked) (r w p : ℕ) (rows : List ℕ) (is :
       (sym (planning_same text (fits_lent (lent_of r w p 64 (shortest rows))) (fits_bus r w p (shortest rows)) (bus_fit r w p (shortest rows)))
       ∙ ap (λ (q : Asked). planning q.most (fits_lent q.lent) text) (sym is))
 
-  pub lay_refused : (n l : ℕ) → planning asked.most (fits_lent asked.lent) text ≡ refused n l
-      → BusCalled (lay_call text (bus_fits r w p rows)) old old_wires oldPorts old old_wires oldPorts (Refused n l)
-  lay_refused n l e = rw (call_is ∙ ap (routed_by bus_of) e) (record { answer = refl; rerouters_are = refl; wires_are = refl; ports_are = refl })
+  pub lay_refused : (e : Refusal) → planning asked.most (fits_lent asked.lent) text ≡ refused e
+      → BusCalled (lay_call text (bus_fits r w p rows)) old old_wires oldPorts old old_wires oldPorts (Err e)
+  lay_refused e is = rw (call_is ∙ ap (routed_by bus_of) is) (record { answer = refl; rerouters_are = refl; wires_are = refl; ports_are = refl })
 
-  pub lay_done : (b : Board) (ps : List PageLanes) → planning asked.most (fits_lent asked.lent) text ≡ lanes_for b ps → (rerouters bus_wires ports : List (List ℕ)) (held : BusCounts) (g : ℕ)
-      → BusStands (bus_of b ps) old old_wires oldPorts rerouters bus_wires ports held → g ≡ laid_groups b ps
-      → BusCalled (lay_call text (bus_fits r w p rows)) old old_wires oldPorts rerouters bus_wires ports (Laid held.rerouters held.bus_wires held.ports g)
-  lay_done b ps e rerouters bus_wires ports held g s laid_are =
+  pub lay_done : (b : Board) (ps : List PageLanes) → planning asked.most (fits_lent asked.lent) text ≡ lanes_for b ps → (rerouters bus_wires ports : List (List ℕ)) (done : BusLaid)
+      → BusStands (bus_of b ps) old old_wires oldPorts rerouters bus_wires ports done.bus → done.groups ≡ laid_groups b ps
+      → BusCalled (lay_call text (bus_fits r w p rows)) old old_wires oldPorts rerouters bus_wires ports (Ok done)
+  lay_done b ps e rerouters bus_wires ports done s laid_are =
       rw (call_is ∙ ap (routed_by bus_of) e)
-      (record { answer = λ i. Laid (s.rerouter_count i) (s.wires i) (s.suppressed i) (laid_are i); rerouters_are = s.rerouters_are; wires_are = s.wires_are; ports_are = s.ports_are })
+      (record {
+        answer = λ i. Ok (record { bus = record { rerouters = s.rerouter_count i; bus_wires = s.wires i; ports = s.suppressed i }; groups = laid_are i });
+        rerouters_are = s.rerouters_are;
+        wires_are = s.wires_are;
+        ports_are = s.ports_are;
+      })

@@ -3,7 +3,8 @@ use Prim.Native.Nat.{ℕ, ◌≤◌}
 use native.Mathlib.Omega.{arith}
 use mathlib.Core.Path.{◌≡◌, refl, sym, ap, ◌∙◌, subst}
 use mathlib.Core.List.{List}
-use lib.ListN.{length}
+use lib.ListN.{length, take}
+use lib.Seq.{take-length}
 use Rattle.sheet.specs.declared.Counts.{Counts}
 use Rattle.board.specs.Board.{Board}
 use Rattle.board.specs.Accepted.{Accepted}
@@ -19,7 +20,21 @@ use Rattle.routes_ports.specs.Ports.{Ported}
 use Rattle.routes_ports.specs.Settling.{ports_over, settled, Settleable, Settled}
 use Rattle.routes_ports.proofs.Laid.{plan_ports, own_ported}
 use Rattle.routes_ports.proofs.Calling.{settleable, settled_plan}
+use Rattle.routes_gutter.specs.Lay.{LanesReady}
 use Rattle.routes_gutter.specs.Bus.{RowsReady, BusStands}
+
+-- The taps cut to those that there are.
+pub taps_cut : {b : Board} {ps : List PageLanes} {rows : List (List ℕ)} {counts : Counts} {m : ℕ} {facts taps groups laid stops marks rerouters bus_wires : List (List ℕ)}
+    → RowsReady b ps rows counts m facts taps groups laid stops marks rerouters bus_wires
+    → RowsReady b ps rows counts (length (take m taps)) facts (take m taps) groups laid stops marks rerouters bus_wires
+taps_cut {b} {ps} {m = m} {facts} {taps} {groups} {rerouters = rerouters} {bus_wires} r =
+    record {
+      sections = r.sections;
+      front = omega arith;
+      counted = r.counted;
+      ready = subst (λ (ts : List (List ℕ)). LanesReady b ps b.pages b.nodes b.wires facts groups ts rerouters bus_wires) (sym (take-length (take m taps))) r.ready;
+      room = r.room;
+    }
 
 module _ {b : Board} {ps : List PageLanes} {rows : List (List ℕ)} {counts : Counts} {m : ℕ} {facts taps groups laid stops marks rerouters bus_wires : List (List ℕ)}
     (ready : RowsReady b ps rows counts m facts taps groups laid stops marks rerouters bus_wires) where

@@ -63,8 +63,8 @@ level_range dropped h = tt
 level_range (shared x) h = let l = h x refl in omega arith
 level_range (own x) h = let l = h x refl in omega arith
 
-module _ {b : Board} {ps : List PageLanes} {pages nodes wires facts groups taps : List (List ℕ)} {m : ℕ} {laid stops marks rerouters bus_wires : List (List ℕ)}
-    (r : LanesReady b ps pages nodes wires facts groups taps m laid stops marks rerouters bus_wires) where
+module _ {b : Board} {ps : List PageLanes} {pages nodes wires facts groups taps rerouters bus_wires : List (List ℕ)}
+    (r : LanesReady b ps pages nodes wires facts groups taps rerouters bus_wires) where
   wires_long_lem : length b.wires ≡ length wires
   wires_long_lem = ap length r.wires_are
 
@@ -156,16 +156,15 @@ module _ {b : Board} {ps : List PageLanes} {pages nodes wires facts groups taps 
       }
 
   -- The taps laid, from what `lay_taps` says of them.
-  pub laid_are : {us : List Tap} → (Tabled b (view tap_in taps m) ps nodes facts groups → us ≡ laid_taps b (view tap_in taps m) ps) → us ≡ laid_taps b (taps_of b) ps
+  pub laid_are : {us : List Tap} → (Tabled b (view tap_in taps (length taps)) ps nodes facts groups → us ≡ laid_taps b (view tap_in taps (length taps)) ps) → us ≡ laid_taps b (taps_of b) ps
   laid_are h = h (subst (λ (ts : List Tap). Tabled b ts ps nodes facts groups) (sym r.taps_are) tabled) ∙ ap (λ (ts : List Tap). laid_taps b ts ps) r.taps_are
 
-  pub taps_fit : TapsFit nodes facts groups taps m
+  pub taps_fit : TapsFit nodes facts groups taps
   taps_fit =
       record {
-        room = let c = r.count in let w = r.wire_room.2 in omega arith;
         few = let c = r.count in let w = few_wires in omega arith;
         fits = λ k h.
-            let mem : Mem (tap_in (get_or taps k [])) (taps_of b) = subst (Mem (tap_in (get_or taps k []))) r.taps_are (view_mem tap_in taps m k h) in
+            let mem : Mem (tap_in (get_or taps k [])) (taps_of b) = subst (Mem (tap_in (get_or taps k []))) r.taps_are (view_mem tap_in taps (length taps) k h) in
             let g = group_in (tap_in (get_or taps k [])) mem in
             record {
               nodes_few = let f = few_nodes in omega arith;
@@ -237,14 +236,14 @@ module _ {b : Board} {ps : List PageLanes} {pages nodes wires facts groups taps 
           omega arith
 
   -- The taps laid, and their stops.
-  module _ (rows : List (List ℕ)) (n : ℕ) (few : n ≤ m) (long : length rows ≡ length laid) (are : view tap_in rows n ≡ laid_taps b (taps_of b) ps) where
+  module _ (rows : List (List ℕ)) (few : length rows ≤ length taps) (are : view tap_in rows (length rows) ≡ laid_taps b (taps_of b) ps) where
     abbrev tap_at : ℕ → Tap
     tap_at k = tap_in (get_or rows k [])
 
-    pub laid_at : (k : ℕ) → k < n → Mem (tap_at k) (taps_of b) × (is_laid b (taps_of b) ps (tap_at k) ≡ true)
-    laid_at k h = of_laid b (taps_of b) ps (tap_at k) (subst (Mem (tap_at k)) are (view_mem tap_in rows n k h))
+    pub laid_at : (k : ℕ) → k < length rows → Mem (tap_at k) (taps_of b) × (is_laid b (taps_of b) ps (tap_at k) ≡ true)
+    laid_at k h = of_laid b (taps_of b) ps (tap_at k) (subst (Mem (tap_at k)) are (view_mem tap_in rows (length rows) k h))
 
-    pub laid_fits : LaidFits facts groups rows n
+    pub laid_fits : LaidFits facts groups rows (length rows)
     laid_fits =
         let c = r.count in
         let w = few_wires in
@@ -253,12 +252,12 @@ module _ {b : Board} {ps : List PageLanes} {pages nodes wires facts groups taps 
         record {
           places =
               record {
-                rows = let l = r.laid_room in omega arith;
+                rows = omega arith;
                 most = omega arith;
                 group = λ k h. let g = group_in (tap_at k) (laid_at k h).0 in omega arith;
                 row = λ k h. let o = row_in_lem (tap_at k) (laid_at k h).0 in let f = few_nodes in omega arith;
                 lane = λ k h. let i = laid_at k h in lane_few (tap_at k) i.0 i.1;
-                pages = pages_rise b ps rows n are;
+                pages = pages_rise b ps rows (length rows) are;
               };
           first = λ k h. let g = group_in (tap_at k) (laid_at k h).0 in omega arith;
           wire = λ k h. let g = wire_in_lem (tap_at k) (laid_at k h).0 in omega arith;
@@ -266,40 +265,39 @@ module _ {b : Board} {ps : List PageLanes} {pages nodes wires facts groups taps 
           x = λ k h. let x = x_low (tap_at k) (laid_at k h).0 in omega arith;
         }
 
-    pub laid_known : LaidFacts b ps facts groups rows n
-    laid_known = laid_facts b ps nodes facts groups rows n tabled r.nodes_known are
+    pub laid_known : LaidFacts b ps facts groups rows (length rows)
+    laid_known = laid_facts b ps nodes facts groups rows (length rows) tabled r.nodes_known are
 
-    pub laid_on_lem : (k : ℕ) → k < n → TapOn b (taps_of b) (get_or rows k [])
+    pub laid_on_lem : (k : ℕ) → k < length rows → TapOn b (taps_of b) (get_or rows k [])
     laid_on_lem k h = let s = tap_stands b (tap_at k) (laid_at k h).0 in record { member = (laid_at k h).0; node = s.node; port = s.port }
 
-    pub lanes_few_lem : (k : ℕ) → k < n → field groups (field rows k 1) 4 < 512
+    pub lanes_few_lem : (k : ℕ) → k < length rows → field groups (field rows k 1) 4 < 512
     lanes_few_lem k h = lane_few (tap_at k) (laid_at k h).0 (laid_at k h).1
 
-    module _ (levels : List (List ℕ)) (claims : ℕ) (fewer : claims ≤ n) (wide : length levels ≡ length stops) (stops_are : view stop_in levels claims ≡ stops_of b ps (view tap_in rows n)) where
-      level_at_lem : (i : ℕ) → i < claims → LowLevel (stop_in (get_or levels i [])).level
+    module _ (levels : List (List ℕ)) (fewer : length levels ≤ length rows) (stops_are : view stop_in levels (length levels) ≡ stops_of b ps (view tap_in rows (length rows))) where
+      level_at_lem : (i : ℕ) → i < length levels → LowLevel (stop_in (get_or levels i [])).level
       level_at_lem i h =
           level_range (stop_in (get_or levels i [])).level
           (stops_low REACH_MOST b ps (top_most b r.accepted) (laid_taps b (taps_of b) ps) (λ t q. x_low t (of_laid b (taps_of b) ps t q).0) (stop_in (get_or levels i []))
-          (subst (Mem (stop_in (get_or levels i []))) (stops_are ∙ ap (stops_of b ps) are) (view_mem stop_in levels claims i h))).level
+          (subst (Mem (stop_in (get_or levels i []))) (stops_are ∙ ap (stops_of b ps) are) (view_mem stop_in levels (length levels) i h))).level
 
-      pub laid_range : LaidInRange pages nodes wires facts groups rows n levels claims
+      pub laid_range : LaidInRange pages nodes wires facts groups rows (length rows) levels (length levels)
       laid_range =
-          let c = r.count in
           let few-n = few_nodes in
           record {
-            on_laid = let l = r.laid_room in omega arith;
+            on_laid = omega arith;
             lanes = λ k h. lane_range (tap_at k) (laid_at k h).0 (laid_at k h).1;
             tap_room = λ k h. y_high (tap_at k) (laid_at k h).0;
             tap_row = λ k h. let w = row_in_lem (tap_at k) (laid_at k h).0 in omega arith;
-            on_stops = let l = r.stop_room.0 in omega arith;
+            on_stops = omega arith;
             levels = level_at_lem;
-            a_stop_each = sym (stops_count b ps (view tap_in rows n)) ∙ ap length (sym stops_are) ∙ length-view stop_in levels claims;
+            a_stop_each = sym (stops_count b ps (view tap_in rows (length rows))) ∙ ap length (sym stops_are) ∙ length-view stop_in levels (length levels);
           }
 
-      pub bus_is : (emit b (taps_of b) ps (view stop_in levels claims) (view tap_in rows n) (view stop_in levels claims)).bus ≡ bus_of b ps
+      pub bus_is : (emit b (taps_of b) ps (view stop_in levels (length levels)) (view tap_in rows (length rows)) (view stop_in levels (length levels))).bus ≡ bus_of b ps
       unfolding bus_of
       bus_is = let e = stops_are ∙ ap (stops_of b ps) are in λ i. (emit b (taps_of b) ps (e i) (are i) (e i)).bus
 
-    pub groups_laid : group_count (view tap_in rows n) ≡ laid_groups b ps
+    pub groups_laid : group_count (view tap_in rows (length rows)) ≡ laid_groups b ps
     unfolding laid_groups
     groups_laid = ap group_count are

@@ -1,5 +1,5 @@
 -- A planned board in the tables, and its lanes' bus in the buffers. No rule stands here.
-use Rattle.std.specs.Prelude.{ℕ, ◌*◌, ◌≤◌, ◌≡◌, List, length}
+use Rattle.std.specs.Prelude.{ℕ, ◌*◌, ◌≤◌, ◌≡◌, List, length, take}
 use Rattle.sheet.specs.declared.Counts.{Counts}
 use Rattle.board.specs.Board.{Board}
 use Rattle.board.specs.Demands.{PageLanes}
@@ -11,7 +11,7 @@ use Rattle.routes.specs.Buffers.{rerouter_row, wire_row}
 use Rattle.routes.specs.Tables.{written_over}
 use Rattle.routes.specs.declared.bus.BusCounts.{BusCounts}
 use Rattle.routes_ports.specs.Settling.{ports_over}
-use Rattle.routes_gutter.specs.Lay.{LanesReady}
+use Rattle.routes_gutter.specs.Lay.{LanesReady, LayingRoom}
 
 -- The marks and the buffers are as long as is said of them.
 pub record BusLent (lent : Lent) (marks rerouters bus_wires ports : List (List ℕ)) : Type 0 where
@@ -23,8 +23,10 @@ pub record BusLent (lent : Lent) (marks rerouters bus_wires ports : List (List �
 -- A planned board whose records stand in rows, with room for its lanes.
 pub record RowsReady (b : Board) (ps : List PageLanes) (rows : List (List ℕ)) (counts : Counts) (m : ℕ) (facts taps groups laid stops marks rerouters bus_wires : List (List ℕ)) : Type 0 where
   pub sections : SectionsIn b rows
+  pub front : m ≤ length taps
   pub counted : counts ≡ counts_in b
-  pub ready : LanesReady b ps b.pages b.nodes b.wires facts groups taps m laid stops marks rerouters bus_wires
+  pub ready : LanesReady b ps b.pages b.nodes b.wires facts groups (take m taps) rerouters bus_wires
+  pub room : LayingRoom b.nodes b.wires laid stops marks
 
 -- The rows of a bus stand in the buffers, and so many they are.
 pub record BusStands (bus : Bus) (old old_wires oldPorts rerouters bus_wires ports : List (List ℕ)) (held : BusCounts) : Type 0 where

@@ -3,26 +3,12 @@ ghost use Rattle.std.specs.Prelude.{length};
 ghost use Rattle.board_plan.specs.TextPlan.{work_rows};
 ghost use Rattle.routes_gutter.specs.Calls.{bus_fits, lay_call, BusCalled};
 
-use crate::laying::lay_and_settle;
+use crate::laying::{BusLaid, lay_and_settle};
+use base::refusal::Refusal;
 use base::rows::{BusWireRow, PortRow, Record, RerouterRow, WorkRow};
-use board_plan::{ANSWERS_MOST, MARK_ROWS, TextPlan, ask, plan_text};
+use board_plan::{ANSWERS_MOST, MARK_ROWS, ask, plan_text};
 
-// A refusal and its place; or how many rerouters, bus wires and suppressed ports stand in the buffers, and how many groups were laid.
-#[derive(Clone, Copy)]
-pub enum BusPlan {
-    Refused {
-        number: usize,
-        place: usize,
-    },
-    Laid {
-        rerouters: usize,
-        bus_wires: usize,
-        ports: usize,
-        groups: usize,
-    },
-}
-
-// The lanes of a sheet's board, laid. Each slice of work space has a row for each record, the marks five.
+// The lanes of a sheet's board, laid, or a refusal. Each slice of work space has a row for each record, the marks five.
 pub fn lay_bus(
     text: &[u8],
     rerouters: &mut [RerouterRow],
@@ -35,7 +21,7 @@ pub fn lay_bus(
     demands: &mut [WorkRow],
     keys: &mut [WorkRow],
     marks: &mut [WorkRow],
-) -> BusPlan
+) -> Result<BusLaid, Refusal>
     ensures { BusCalled (lay_call text.now (bus_fits (length rerouters.old) (length bus_wires.old) (length ports.old)
         (work_rows records.old facts.old taps.old groups.old demands.old keys.old marks.old)))
         rerouters.old bus_wires.old ports.old rerouters.new bus_wires.new ports.new result }
@@ -52,23 +38,22 @@ pub fn lay_bus(
             marks.len() / MARK_ROWS,
         ],
     );
-    match plan_text(
+    let planned = plan_text(
         text, asked, records, facts, taps, groups, demands, keys, marks,
-    ) {
-        TextPlan::Refused { number, place } => BusPlan::Refused { number, place },
-        TextPlan::Crowded { counts: _, place } => BusPlan::Refused { number: 8, place },
-        TextPlan::Laned { counts, taps: m } => {
-            let laid = lay_and_settle(
-                records, counts, m, facts, taps, groups, demands, keys, marks, rerouters,
-                bus_wires, ports,
-            );
-            let bus = laid.bus;
-            BusPlan::Laid {
-                rerouters: bus.rerouters,
-                bus_wires: bus.bus_wires,
-                ports: bus.ports,
-                groups: laid.groups,
-            }
-        }
-    }
+    )?;
+    let m = planned.taps?;
+    Ok(lay_and_settle(
+        records,
+        planned.counts,
+        m,
+        facts,
+        taps,
+        groups,
+        demands,
+        keys,
+        marks,
+        rerouters,
+        bus_wires,
+        ports,
+    ))
 }

@@ -1,5 +1,5 @@
 // Lays the lanes of a planned board: its taps in the order of laying, their stops with levels, and then rerouters and bus wires.
-ghost use Rattle.std.specs.Prelude.{◌≡◌, List, [], ℕ, ◌<◌, ◌≤◌, length, get_or};
+ghost use Rattle.std.specs.Prelude.{◌≡◌, List, [], ◌<◌, length, get_or};
 ghost use Rattle.board.specs.Board.{Board};
 ghost use Rattle.board.specs.Demands.{PageLanes};
 ghost use Rattle.base.specs.Views.{view};
@@ -7,7 +7,7 @@ ghost use Rattle.board.specs.Tables.{tap_in};
 ghost use Rattle.routes.specs.Stops.{new_group};
 ghost use Rattle.routes.specs.Plan.{bus_of, group_count, laid_groups};
 ghost use Rattle.routes.specs.Holding.{BusHeld};
-ghost use Rattle.routes_gutter.specs.Lay.{LanesReady, LaidReady};
+ghost use Rattle.routes_gutter.specs.Lay.{LanesReady, LayingRoom, LaidReady};
 
 use base::rows::{BusWireRow, Record, RerouterRow, WorkRow};
 use routes::bus::BusCount;
@@ -34,23 +34,21 @@ fn emit_laid(
     facts: &[WorkRow],
     groups: &[WorkRow],
     laid: &[WorkRow],
-    n: usize,
     stops: &[WorkRow],
-    s: usize,
     asked: &mut [WorkRow],
     marks: &mut [WorkRow],
     rerouters: &mut [RerouterRow],
     bus_wires: &mut [BusWireRow],
 ) -> BusCount
-    requires { (b : Board) × (ps : List PageLanes) × (m : ℕ) × LaidReady b ps pages.now nodes.now wires.now facts.now groups.now asked.old m laid.now n stops.now s marks.old rerouters.old bus_wires.old }
-    ensures { (b : Board) (ps : List PageLanes) (m : ℕ) → LaidReady b ps pages.now nodes.now wires.now facts.now groups.now asked.old m laid.now n stops.now s marks.old rerouters.old bus_wires.old
+    requires { (b : Board) × (ps : List PageLanes) × LaidReady b ps pages.now nodes.now wires.now facts.now groups.now asked.old laid.now stops.now marks.old rerouters.old bus_wires.old }
+    ensures { (b : Board) (ps : List PageLanes) → LaidReady b ps pages.now nodes.now wires.now facts.now groups.now asked.old laid.now stops.now marks.old rerouters.old bus_wires.old
         → BusHeld (bus_of b ps) rerouters.old bus_wires.old rerouters.new bus_wires.new result }
 {
-    ask_taps(pages, nodes, wires, facts, groups, laid, n, stops, s, asked);
+    ask_taps(pages, nodes, wires, facts, groups, laid, stops, asked);
     let mut flags = [0u8; CELLS_MOST];
-    answer_rows(nodes, facts, laid, n, asked, marks, &mut flags);
+    answer_rows(nodes, facts, laid, asked, marks, &mut flags);
     emit_lanes(
-        pages, nodes, wires, facts, groups, laid, n, stops, s, asked, &flags, rerouters, bus_wires,
+        pages, nodes, wires, facts, groups, laid, stops, asked, &flags, rerouters, bus_wires,
     )
 }
 
@@ -59,23 +57,16 @@ fn is_new_group(laid: &[WorkRow], k: usize) -> bool
     requires { k < length laid.now }
     ensures { result ≡ new_group (view tap_in laid.now k) (tap_in (get_or laid.now k [])) }
 {
-    if k == 0 {
-        return true;
-    }
-    laid[k - 1][1] != laid[k][1]
+    k == 0 || laid[k - 1][1] != laid[k][1]
 }
 
 // How many groups the laid taps are of: a group's taps follow one another.
-fn count_groups(laid: &[WorkRow], n: usize) -> usize
-    requires { n ≤ length laid.now }
-    ensures { result ≡ group_count (view tap_in laid.now n) }
+fn count_groups(laid: &[WorkRow]) -> usize
+    ensures { result ≡ group_count (view tap_in laid.now (length laid.now)) }
 {
     let mut count: usize = 0;
-    let mut k: usize = 0;
-    while k < n {
-        let fresh = is_new_group(laid, k);
-        k += 1;
-        if fresh {
+    for k in 0..laid.len() {
+        if is_new_group(laid, k) {
             count += 1;
         }
     }
@@ -90,24 +81,25 @@ pub fn lay_lanes(
     facts: &[WorkRow],
     groups: &[WorkRow],
     taps: &mut [WorkRow],
-    m: usize,
     laid: &mut [WorkRow],
     stops: &mut [WorkRow],
     marks: &mut [WorkRow],
     rerouters: &mut [RerouterRow],
     bus_wires: &mut [BusWireRow],
 ) -> LanesLaid
-    requires { (b : Board) × (ps : List PageLanes) × LanesReady b ps pages.now nodes.now wires.now facts.now groups.now taps.old m laid.old stops.old marks.old rerouters.old bus_wires.old }
-    ensures { (b : Board) (ps : List PageLanes) → LanesReady b ps pages.now nodes.now wires.now facts.now groups.now taps.old m laid.old stops.old marks.old rerouters.old bus_wires.old
+    requires { (b : Board) × (ps : List PageLanes) × LanesReady b ps pages.now nodes.now wires.now facts.now groups.now taps.old rerouters.old bus_wires.old × LayingRoom nodes.now wires.now laid.old stops.old marks.old }
+    ensures { (b : Board) (ps : List PageLanes) → LanesReady b ps pages.now nodes.now wires.now facts.now groups.now taps.old rerouters.old bus_wires.old
         → BusHeld (bus_of b ps) rerouters.old bus_wires.old rerouters.new bus_wires.new result.count × (result.groups ≡ laid_groups b ps) }
 {
-    let n = lay_taps(nodes, facts, groups, taps, m, laid, marks);
-    let s = lane_stops(facts, groups, laid, n, stops);
+    let n = lay_taps(nodes, facts, groups, taps, laid, marks);
+    let laid = &laid[..n];
+    let s = lane_stops(facts, groups, laid, stops);
+    let stops = &stops[..s];
     let count = emit_laid(
-        pages, nodes, wires, facts, groups, laid, n, stops, s, taps, marks, rerouters, bus_wires,
+        pages, nodes, wires, facts, groups, laid, stops, taps, marks, rerouters, bus_wires,
     );
     LanesLaid {
-        count: count,
-        groups: count_groups(laid, n),
+        count,
+        groups: count_groups(laid),
     }
 }

@@ -1,5 +1,5 @@
 // The lanes of a planned board whose records stand in rows: laid, and the ports that their deliveries suppress settled.
-ghost use Rattle.std.specs.Prelude.{◌≡◌, List, ℕ, ◌≤◌, length};
+ghost use Rattle.std.specs.Prelude.{◌≡◌, List, ◌≤◌, length};
 ghost use Rattle.board.specs.Board.{Board};
 ghost use Rattle.board.specs.Demands.{PageLanes};
 ghost use Rattle.routes.specs.Plan.{bus_of, laid_groups};
@@ -8,6 +8,7 @@ ghost use Rattle.routes_gutter.specs.Bus.{RowsReady, BusStands};
 
 use crate::lay::{LanesLaid, lay_lanes};
 use base::rows::{BusWireRow, PortRow, Record, RerouterRow, WorkRow};
+use board_plan::sections::cut_sections;
 use routes::bus::BusCounts;
 use routes_ports::settle::settle_ports;
 use sheet::Counts;
@@ -23,7 +24,6 @@ pub struct BusLaid {
 fn lay_rows(
     records: &[Record],
     counts: Counts,
-    m: usize,
     facts: &[WorkRow],
     taps: &mut [WorkRow],
     groups: &[WorkRow],
@@ -33,29 +33,13 @@ fn lay_rows(
     rerouters: &mut [RerouterRow],
     bus_wires: &mut [BusWireRow],
 ) -> LanesLaid
-    requires { (b : Board) × (ps : List PageLanes) × RowsReady b ps records.now counts m facts.now taps.old groups.now laid.old stops.old marks.old rerouters.old bus_wires.old }
-    ensures { (b : Board) (ps : List PageLanes) → RowsReady b ps records.now counts m facts.now taps.old groups.now laid.old stops.old marks.old rerouters.old bus_wires.old
+    requires { (b : Board) × (ps : List PageLanes) × RowsReady b ps records.now counts (length taps.old) facts.now taps.old groups.now laid.old stops.old marks.old rerouters.old bus_wires.old }
+    ensures { (b : Board) (ps : List PageLanes) → RowsReady b ps records.now counts (length taps.old) facts.now taps.old groups.now laid.old stops.old marks.old rerouters.old bus_wires.old
         → BusHeld (bus_of b ps) rerouters.old bus_wires.old rerouters.new bus_wires.new result.count × (result.groups ≡ laid_groups b ps) }
 {
-    let nodes = counts.pages;
-    let chips = nodes + counts.nodes;
-    let inner = chips + counts.chips;
-    let execs = inner + counts.inner;
-    let wires = execs + counts.execs;
-    let end = wires + counts.wires;
+    let s = cut_sections(records, counts);
     lay_lanes(
-        &records[..nodes],
-        &records[nodes..chips],
-        &records[wires..end],
-        facts,
-        groups,
-        taps,
-        m,
-        laid,
-        stops,
-        marks,
-        rerouters,
-        bus_wires,
+        s.pages, s.nodes, s.wires, facts, groups, taps, laid, stops, marks, rerouters, bus_wires,
     )
 }
 
@@ -78,8 +62,9 @@ pub fn lay_and_settle(
     ensures { (b : Board) (ps : List PageLanes) → RowsReady b ps records.now counts m facts.now taps.old groups.now demands.old keys.old marks.old rerouters.old bus_wires.old → length b.wires ≤ length ports.old
         → BusStands (bus_of b ps) rerouters.old bus_wires.old ports.old rerouters.new bus_wires.new ports.new result.bus × (result.groups ≡ laid_groups b ps) }
 {
+    let taps = &mut taps[..m];
     let laid = lay_rows(
-        records, counts, m, facts, taps, groups, demands, keys, marks, rerouters, bus_wires,
+        records, counts, facts, taps, groups, demands, keys, marks, rerouters, bus_wires,
     );
     let n = laid.count.rerouters;
     let k = laid.count.wires;

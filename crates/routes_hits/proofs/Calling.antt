@@ -9,14 +9,17 @@ use lib.ListN.{length, drop}
 use borrow.Author.Tests.{leb-true, leb-false, le-leb, lt-leb}
 use Rattle.base.specs.Views.{view}
 use Rattle.base.proofs.Bools.{never, and_false}
+use Rattle.std.proofs.Common.{Result, Ok, Err}
+use Rattle.base.specs.declared.refusal.Reason.TheVariants.{BadBox}
+use Rattle.base.specs.declared.refusal.Refusal.{Refusal}
+use Rattle.base.specs.Refusal.{refusal}
 use Rattle.sheet.specs.declared.Counts.{Counts}
 use Rattle.sheet.specs.Table.{library_most}
 use Rattle.board.specs.Board.{Board}
 use Rattle.board.specs.Demands.{PageLanes}
-use Rattle.board.specs.Planning.{Planning, planning, records, page_row}
+use Rattle.board.specs.Planning.{Planning, refused, planning, records, page_row}
 use Rattle.board_plan.specs.declared.Asked.{Asked}
 use Rattle.board_plan.specs.declared.TextPlan.{TextPlan}
-use Rattle.board_plan.specs.declared.TextPlan.TheVariants as plans
 use Rattle.board_plan.specs.TextPlan.{LINE_MOST, has_room, fits_counts, fits_lent, shortest, lent_of, asked_for, fitting, TextPlanned}
 use Rattle.board_plan.proofs.Fitting.{fits_all}
 use Rattle.board_plan.proofs.Surveying.{LanesTold, text_refusal, text_crowded, text_lanes}
@@ -28,23 +31,15 @@ use Rattle.routes.specs.Plan.{finished, laid_groups}
 use Rattle.routes.specs.Route.{Routed, turned_away, plan, routed_by, fits_plan, routed}
 use Rattle.routes.specs.declared.bus.BusCounts.{BusCounts}
 use Rattle.routes_gutter.specs.Bus.{BusStands}
+use Rattle.routes_gutter.specs.declared.laying.BusLaid.{BusLaid}
 use Rattle.routes_calls.specs.Finish.{PlanReady}
 use Rattle.routes_promise.proofs.ReadBack.{done_few, done_back}
 use Rattle.routes_hits.specs.declared.boxes.PageBox.{PageBox}
 use Rattle.routes_hits.specs.declared.list.HitCounts.{HitCounts}
-use Rattle.routes_hits.specs.declared.find.HitsFound.TheVariants as answers
-use Rattle.routes_hits.specs.declared.find.BoxPlan.TheVariants.{Refused, Laned}
+use Rattle.routes_hits.specs.declared.find.HitsFound.{HitsFound}
 use Rattle.routes_hits.specs.Hits.{on_board}
 use Rattle.routes_hits.specs.Listing.{Listed}
 use Rattle.routes_hits.specs.Finding.{HITS_A_WIRE, boxed, hits_fit, hits_call, HitsCalled}
-use Rattle.routes_hits.specs.Boxing.{box_plan}
-
--- A planned board has the box, or has not.
-pub box_yes : (q : PageBox) (c : Counts) (m : ℕ) → on_board q c.pages ≡ true → box_plan q (plans.Laned c m) ≡ Laned c m
-box_yes q c m h = rw (h, box_plan)
-
-pub box_no : (q : PageBox) (c : Counts) (m : ℕ) → on_board q c.pages ≡ false → box_plan q (plans.Laned c m) ≡ Refused 9 0
-box_no q c m h = rw (h, box_plan)
 
 -- 21 numbers a wire are lent where the ports told to planning are no more than the hit buffer has room for.
 enough : (h p w : ℕ) → leb w (min p (h / HITS_A_WIRE)) ≡ (leb (HITS_A_WIRE * w) h && leb w p)
@@ -83,73 +78,55 @@ module _ (q : PageBox) (text : List ℕ) (asked : Asked) (h r w p a : ℕ) (leng
       ∙ planning_same text (fits_lent (lent_of r w (min p (h / HITS_A_WIRE)) a (shortest lengths))) (hits_fit h r w p a lengths) (hits_fit_lem h r w p a (shortest lengths)) in
       ap (λ (z : Planning). boxed q (routed_by finished z)) (sym same)
 
-  module _ (rows facts taps groups : List (List ℕ)) (t : TextPlan) (told : TextPlanned (fitting asked.most (fits_lent asked.lent) text) rows facts taps groups t) where
-    -- A refusal is the call's: one of the sheet, 7, 8, or else 9.
-    pub box_refused : (n l : ℕ) → box_plan q t ≡ Refused n l → hits_call q text (hits_fit h r w p a lengths) ≡ turned_away n l
-    box_refused n l e = call_is ∙ go t refl e
-      where
-        off : (c : Counts) (m : ℕ) → t ≡ plans.Laned c m → (s : Bool) → on_board q c.pages ≡ s → elim s [ true ↦ Laned c m | false ↦ Refused 9 0 ] ≡ Refused n l
-            → boxed q (routed_by finished asks) ≡ turned_away n l
-        off c m d true o e = never cc
-        off c m d false o e =
-            let k = text_lanes rows facts taps groups asked.most (fits_lent asked.lent) text t told c m d in
-            let pages : c.pages ≡ length k.on_board.pages = ap (λ (z : Counts). z.pages) k.counted in
-            let away : on_board q (length k.on_board.pages) ≡ false = ap (on_board q) (sym pages) ∙ o in
-            let nine : turned_away 9 0 ≡ turned_away n l = cc in
-            rw (k.is, away, boxed) nine
+  -- The refusal that planning decides on is the call's.
+  away : (e : Refusal) → asks ≡ refused e → hits_call q text (hits_fit h r w p a lengths) ≡ turned_away e
+  away e d = call_is ∙ ap (λ (z : Planning). boxed q (routed_by finished z)) d
 
-        go : (s : TextPlan) → t ≡ s → box_plan q s ≡ Refused n l → boxed q (routed_by finished asks) ≡ turned_away n l
-        go (plans.Refused n' l') d e =
-            let same : turned_away n' l' ≡ turned_away n l = cc in
-            rw (text_refusal rows facts taps groups asked.most (fits_lent asked.lent) text t told n' l' d) same
-        go (plans.Crowded c l') d e =
-            let same : turned_away 8 l' ≡ turned_away n l = cc in
-            rw (text_crowded rows facts taps groups asked.most (fits_lent asked.lent) text t told c l' d) same
-        go (plans.Laned c m) d e = off c m d (on_board q c.pages) refl e
+  module _ (rows facts taps groups : List (List ℕ)) (planned : Result TextPlan Refusal) (told : TextPlanned (fitting asked.most (fits_lent asked.lent) text) rows facts taps groups planned) where
+    -- A refusal of the sheet, or 7.
+    pub box_refused : (e : Refusal) → planned ≡ Err e → hits_call q text (hits_fit h r w p a lengths) ≡ turned_away e
+    box_refused e d = away e (text_refusal rows facts taps groups asked.most (fits_lent asked.lent) text planned told e d)
 
-    -- And where there is none, the pages have lanes and the box is on the board.
-    pub box_laned : (c : Counts) (m : ℕ) → box_plan q t ≡ Laned c m → (t ≡ plans.Laned c m) × (on_board q c.pages ≡ true)
-    box_laned c m e = go t refl e
-      where
-        off : (d : Counts) (k : ℕ) → t ≡ plans.Laned d k → (s : Bool) → on_board q d.pages ≡ s → elim s [ true ↦ Laned d k | false ↦ Refused 9 0 ] ≡ Laned c m
-            → (t ≡ plans.Laned c m) × (on_board q c.pages ≡ true)
-        off d k i true o e =
-            let same : d ≡ c = cc in
-            let last : k ≡ m = cc in
-            rw (← same, ← last) (i, o)
-        off d k i false o e = never cc
+    module _ (t : TextPlan) (fine : planned ≡ Ok t) where
+      -- 8.
+      pub box_crowded : (e : Refusal) → t.taps ≡ Err e → hits_call q text (hits_fit h r w p a lengths) ≡ turned_away e
+      box_crowded e d = away e (text_crowded rows facts taps groups asked.most (fits_lent asked.lent) text planned told t e fine d)
 
-        go : (s : TextPlan) → t ≡ s → box_plan q s ≡ Laned c m → (t ≡ plans.Laned c m) × (on_board q c.pages ≡ true)
-        go (plans.Refused n l) d e = never cc
-        go (plans.Crowded d l) i e = never cc
-        go (plans.Laned d k) i e = off d k i (on_board q d.pages) refl e
+      module _ (m : ℕ) (laned : t.taps ≡ Ok m) where
+        pub box_told : LanesTold rows facts taps groups asks t.counts m
+        box_told = text_lanes rows facts taps groups asked.most (fits_lent asked.lent) text planned told t m fine laned
 
-    pub box_told : (c : Counts) (m : ℕ) → box_plan q t ≡ Laned c m → LanesTold rows facts taps groups asks c m
-    box_told c m e = text_lanes rows facts taps groups asked.most (fits_lent asked.lent) text t told c m (box_laned c m e).0
+        pages : t.counts.pages ≡ length box_told.on_board.pages
+        pages = ap (λ (z : Counts). z.pages) box_told.counted
 
-    pub box_call : (c : Counts) (m : ℕ) (e : box_plan q t ≡ Laned c m)
-        → hits_call q text (hits_fit h r w p a lengths) ≡ plan (box_told c m e).on_board (box_told c m e).lanes (finished (box_told c m e).on_board (box_told c m e).lanes) (laid_groups (box_told c m e).on_board (box_told c m e).lanes)
-    box_call c m e =
-        let k = box_told c m e in
-        let pages : c.pages ≡ length k.on_board.pages = ap (λ (z : Counts). z.pages) k.counted in
-        let there : on_board q (length k.on_board.pages) ≡ true = ap (on_board q) (sym pages) ∙ (box_laned c m e).1 in
-        call_is ∙ rw (k.is, there, boxed) refl
+        -- 9.
+        pub box_away : on_board q t.counts.pages ≡ false → hits_call q text (hits_fit h r w p a lengths) ≡ turned_away (refusal BadBox 0)
+        box_away o =
+            let off : on_board q (length box_told.on_board.pages) ≡ false = ap (on_board q) (sym pages) ∙ o in
+            call_is ∙ rw (box_told.is, off, boxed) refl
 
-    -- The hit buffer holds the list.
-    pub box_room : (c : Counts) (m : ℕ) (e : box_plan q t ≡ Laned c m) → HITS_A_WIRE * length (box_told c m e).on_board.wires ≤ h
-    box_room c m e =
-        let k = box_told c m e in
-        let from = lanes_from asked.most text (fits_lent asked.lent) k.on_board k.lanes k.is in
-        let fits = fits_all asked.lent k.on_board from.fitting in
-        let ports : asked.lent.ports ≡ min p (h / HITS_A_WIRE) = ap (λ (z : Asked). z.lent.ports) is in
-        let enough = fits.ports in
-        omega arith
+        -- Or else the plan.
+        pub box_call : on_board q t.counts.pages ≡ true
+            → hits_call q text (hits_fit h r w p a lengths) ≡ plan box_told.on_board box_told.lanes (finished box_told.on_board box_told.lanes) (laid_groups box_told.on_board box_told.lanes)
+        box_call o =
+            let there : on_board q (length box_told.on_board.pages) ≡ true = ap (on_board q) (sym pages) ∙ o in
+            call_is ∙ rw (box_told.is, there, boxed) refl
+
+        -- The hit buffer holds the list.
+        pub box_room : HITS_A_WIRE * length box_told.on_board.wires ≤ h
+        box_room =
+            let k = box_told in
+            let from = lanes_from asked.most text (fits_lent asked.lent) k.on_board k.lanes k.is in
+            let fits = fits_all asked.lent k.on_board from.fitting in
+            let ports : asked.lent.ports ≡ min p (h / HITS_A_WIRE) = ap (λ (z : Asked). z.lent.ports) is in
+            let enough = fits.ports in
+            omega arith
 
 -- A refusal leaves all as it was.
-pub nothing_found : (q : PageBox) (call : Routed) (oldHits : List ℕ) (old old_wires oldPorts oldAnswers : List (List ℕ)) (n l : ℕ) → call ≡ turned_away n l
-    → HitsCalled q call oldHits old old_wires oldPorts oldAnswers oldHits old old_wires oldPorts oldAnswers (answers.Refused n l)
-nothing_found q call oldHits old old_wires oldPorts oldAnswers n l e =
-    rw e (record { answer = refl; hits_are = refl; rerouters_are = refl; wires_are = refl; ports_are = refl; answers_are = refl })
+pub nothing_found : (q : PageBox) (call : Routed) (oldHits : List ℕ) (old old_wires oldPorts oldAnswers : List (List ℕ)) (e : Refusal) → call ≡ turned_away e
+    → HitsCalled q call oldHits old old_wires oldPorts oldAnswers oldHits old old_wires oldPorts oldAnswers (Err e)
+nothing_found q call oldHits old old_wires oldPorts oldAnswers e d =
+    rw d (record { answer = refl; hits_are = refl; rerouters_are = refl; wires_are = refl; ports_are = refl; answers_are = refl })
 
 -- The finished plan in the buffers.
 module _ {b : Board} {ps : List PageLanes} {rows : List (List ℕ)} {c : Counts} {m : ℕ} {facts taps groups demands keys marks old old_wires oldPorts oldAnswers : List (List ℕ)}
@@ -190,12 +167,12 @@ module _ {b : Board} {ps : List PageLanes} {rows : List (List ℕ)} {c : Counts}
 
   pub hits_found : (q : PageBox) (call : Routed) → call ≡ plan b ps bus (laid_groups b ps) → (oldHits after : List ℕ) (found : HitCounts) (g : ℕ) (pages : List (List ℕ))
       → Listed q (view rerouter_in rerouters held.rerouters) (view wire_in bus_wires held.bus_wires) oldHits after found → g ≡ laid_groups b ps → pages ≡ map page_row ps ++ drop (length ps) oldAnswers
-      → HitsCalled q call oldHits old old_wires oldPorts oldAnswers after rerouters bus_wires ports pages (answers.Found found held g)
+      → HitsCalled q call oldHits old old_wires oldPorts oldAnswers after rerouters bus_wires ports pages (Ok (record { hits = found; laid = record { bus = held; groups = g } }))
   hits_found q call e oldHits after found g pages l groups written =
       let s : Listed q bus.rerouters bus.wires oldHits after found = rw (rerouters_back, wires_back) at l in
       rw e
       (record {
-        answer = λ i. answers.Found (record { rerouters = s.rerouters i; wires = s.wires i }) (record { rerouters = stands.rerouter_count i; bus_wires = stands.wires i; ports = stands.suppressed i }) (groups i);
+        answer = λ i. Ok (record { hits = record { rerouters = s.rerouters i; wires = s.wires i }; laid = record { bus = record { rerouters = stands.rerouter_count i; bus_wires = stands.wires i; ports = stands.suppressed i }; groups = groups i } });
         hits_are = s.list;
         rerouters_are = stands.rerouters_are;
         wires_are = stands.wires_are;

@@ -1,19 +1,23 @@
 -- The list of hits, written one by one.
-use Prim.Native.Nat.{ℕ, zero, suc, ◌+◌, ◌-◌, ◌*◌, ◌/◌, ◌≤◌}
+use Prim.Native.Nat.{ℕ, zero, suc, ◌+◌, ◌-◌, ◌*◌, ◌/◌, ◌≤◌, ◌<◌}
 use native.Mathlib.Omega.{arith}
 use native.Mathlib.Numerals.{add-one}
-use mathlib.Core.Path.{◌≡◌, refl, ap, ◌∙◌}
+use mathlib.Core.Path.{◌≡◌, refl, sym, ap, ◌∙◌}
 use mathlib.Core.Bool.{Bool, true, false}
-use mathlib.Core.List.{List, [], ◌∷◌, ◌++◌}
-use lib.ListN.{length, get_or, drop, length-append}
+use mathlib.Core.List.{List, [], ◌∷◌, ◌++◌, map, reverse}
+use lib.ListN.{length, get_or, take, drop, length-append}
+use lib.Seq.{length-take-le, take_all}
+use Rattle.std.proofs.lemmas.List.{get_or_default}
 use Rattle.base.specs.Lists.{keep}
 use Rattle.base.specs.Views.{view}
 use Rattle.base.proofs.Lists.{keep_yes, keep_no, count_le}
-use Rattle.base.proofs.Views.{length-view}
+use Rattle.base.proofs.Views.{length-view, view-take}
 use Rattle.sheet.specs.Written.{Wrote, written}
 use Rattle.sheet.proofs.Writing.{wrote_more}
 use Rattle.routes.specs.Bus.{Rerouter, BusWire}
 use Rattle.routes.specs.Buffers.{rerouter_in, wire_in}
+use Rattle.routes.specs.PlanSheet.{numbered}
+use Rattle.routes_plan_sheet.proofs.Lines.{numbered_more}
 use Rattle.routes_hits.specs.declared.boxes.PageBox.{PageBox}
 use Rattle.routes_hits.specs.Hits.{is_under, wire_under, rerouter_hit, rerouters_hit, wire_hit, wires_hit, hits, rerouters_under, wires_under}
 use Rattle.routes_hits.specs.Listing.{Listed}
@@ -22,13 +26,6 @@ use Rattle.routes_hits.proofs.Picking.{picked, listed, count, count_yes, count_n
 -- A run behind a run, where the second one ends inside.
 pub wrote_on : (old mid new : List ℕ) (at m n : ℕ) (xs ys : List ℕ) → n ≤ length old → Wrote old at xs mid m → Wrote mid m ys new n → Wrote old at (xs ++ ys) new n
 wrote_on old mid new at m n xs ys room first second = wrote_more old mid new at m n xs ys (omega (arith, first.place, second.place)) first second
-
--- Three numbers, one behind the other.
-pub wrote_three : (old one two new : List ℕ) (at m n r : ℕ) (a b d : ℕ) → at + 3 ≤ length old → Wrote old at (a ∷ []) one m → Wrote one m (b ∷ []) two n → Wrote two n (d ∷ []) new r
-    → Wrote old at (a ∷ b ∷ d ∷ []) new r
-wrote_three old one two new at m n r a b d room first second third =
-    wrote_on old two new at n r (a ∷ b ∷ []) (d ∷ []) (omega (arith, first.place, second.place, third.place))
-    (wrote_on old one two at m n (a ∷ []) (b ∷ []) (omega (arith, first.place, second.place)) first second) third
 
 -- A rerouter that is hit, and one that is not.
 pub hit_yes : (q : PageBox) (n : ℕ) (k : Rerouter) → is_under q k ≡ true → rerouter_hit q n k ≡ n ∷ k.part ∷ k.lane ∷ []
@@ -54,17 +51,36 @@ wires_more : (q : PageBox) (ks : List Rerouter) (s : List (List ℕ)) (i : ℕ)
 unfolding wires_hit
 wires_more q ks s i = ap (λ n. wires_hit q ks (view wire_in s i) ++ wire_hit q ks n (wire_in (get_or s i []))) (length-view wire_in s i)
 
-pub rerouters_step : (q : PageBox) (s : List (List ℕ)) (i : ℕ) (old mid new : List ℕ) (m n : ℕ) → n ≤ length old
-    → Wrote old 0 (rerouters_hit q (view rerouter_in s i)) mid m → Wrote mid m (rerouter_hit q i (rerouter_in (get_or s i []))) new n
-    → Wrote old 0 (rerouters_hit q (view rerouter_in s (i + 1))) new n
-rerouters_step q s i old mid new m n room first second =
-    rw (add-one i, rerouters_more q s i) (wrote_on old mid new 0 m n (rerouters_hit q (view rerouter_in s i)) (rerouter_hit q i (rerouter_in (get_or s i []))) room first second)
+-- The lists by the rows: what is said of each, one behind the other.
+pub rerouters_said : (q : PageBox) (s : List (List ℕ)) (n : ℕ) → n ≤ length s → rerouters_hit q (view rerouter_in s n) ≡ numbered (λ m row. rerouter_hit q m (rerouter_in row)) 0 (take n s)
+unfolding rerouters_hit numbered
+rerouters_said q s zero h = refl
+rerouters_said q s (suc n) h =
+    rerouters_more q s n
+    ∙ (ap (λ l. l ++ rerouter_hit q n (rerouter_in (get_or s n []))) (rerouters_said q s n (omega arith))
+    ∙ (sym (numbered_more (λ m row. rerouter_hit q m (rerouter_in row)) s n (get_or s n []) (omega arith) (get_or_default s n [] (get_or s n []) (omega arith)))
+    ∙ ap (λ k. numbered (λ m row. rerouter_hit q m (rerouter_in row)) 0 (take k s)) (add-one n)))
 
-pub wires_step : (q : PageBox) (ks : List Rerouter) (s : List (List ℕ)) (i : ℕ) (old mid new : List ℕ) (at m n : ℕ) → n ≤ length old
-    → Wrote old at (wires_hit q ks (view wire_in s i)) mid m → Wrote mid m (wire_hit q ks i (wire_in (get_or s i []))) new n
-    → Wrote old at (wires_hit q ks (view wire_in s (i + 1))) new n
-wires_step q ks s i old mid new at m n room first second =
-    rw (add-one i, wires_more q ks s i) (wrote_on old mid new at m n (wires_hit q ks (view wire_in s i)) (wire_hit q ks i (wire_in (get_or s i []))) room first second)
+pub wires_said : (q : PageBox) (ks : List Rerouter) (s : List (List ℕ)) (n : ℕ) → n ≤ length s → wires_hit q ks (view wire_in s n) ≡ numbered (λ m row. wire_hit q ks m (wire_in row)) 0 (take n s)
+unfolding wires_hit numbered
+wires_said q ks s zero h = refl
+wires_said q ks s (suc n) h =
+    wires_more q ks s n
+    ∙ (ap (λ l. l ++ wire_hit q ks n (wire_in (get_or s n []))) (wires_said q ks s n (omega arith))
+    ∙ (sym (numbered_more (λ m row. wire_hit q ks m (wire_in row)) s n (get_or s n []) (omega arith) (get_or_default s n [] (get_or s n []) (omega arith)))
+    ∙ ap (λ k. numbered (λ m row. wire_hit q ks m (wire_in row)) 0 (take k s)) (add-one n)))
+
+-- One row more, written.
+module _ {A : Type 0} (said : ℕ → A → List ℕ) (old mid new : List ℕ) (at next r n : ℕ) (rows : List A) (row : A) where
+  pub said_step : n < length rows → row ≡ get_or rows n row → r ≤ length old
+      → Wrote old at (numbered said 0 (take n rows)) mid next → Wrote mid next (said n row) new r → Wrote old at (numbered said 0 (take (n + 1) rows)) new r
+  said_step h is room first second = rw (numbered_more said rows n row h is) (wrote_on old mid new at next r (numbered said 0 (take n rows)) (said n row) room first second)
+
+-- The first rows of a table, read as a list.
+pub view_front : {A : Type 0} (read : List ℕ → A) (s : List (List ℕ)) (n : ℕ) → n ≤ length s → view read (take n s) (length (take n s)) ≡ view read s n
+view_front read s n h =
+    let long : length (take n s) ≡ n = length-take-le n s h in
+    view-take read (take n s) (length (take n s)) (omega arith) ∙ (ap (λ l. reverse (map read l)) (take_all (length (take n s)) (take n s) (omega arith)) ∙ sym (view-take read s n h))
 
 -- The lists are as long as their counts say.
 pub rerouters_length : (q : PageBox) (ks : List Rerouter) → length (rerouters_hit q ks) ≡ 3 * rerouters_under q ks

@@ -1,11 +1,11 @@
 // A box on a page, and what of a plan lies under it.
-ghost use Rattle.std.specs.Prelude.{◌≡◌, ℕ, ◌≤◌, ◌<◌, min, max, length};
+ghost use Rattle.std.specs.Prelude.{◌≡◌, length};
 ghost use Rattle.base.specs.Views.{view};
 ghost use Rattle.routes.specs.Buffers.{rerouter_in, wire_in};
 ghost use Rattle.routes_hits.specs.Hits.{lifted as liftedOf, on_board, is_under, meets as meetsOf, run_under, wire_under};
 
 use base::numbers::MISSING;
-use base::rows::RerouterRow;
+use base::rows::{BusWireRow, RerouterRow};
 
 // H1: a page, a range of x and a range of y. The four numbers of the ranges are in two's complement.
 #[repr(C)]
@@ -41,8 +41,8 @@ pub fn is_on_board(q: PageBox, pages: usize) -> bool
 }
 
 // H2: whether a rerouter, by its row, is hit.
-pub fn is_under(q: PageBox, row: RerouterRow) -> bool
-    ensures { result ≡ is_under q (rerouter_in row) }
+pub(crate) fn is_under(q: PageBox, row: &RerouterRow) -> bool
+    ensures { result ≡ is_under q (rerouter_in row.now) }
 {
     let x = lifted(row[0]);
     let y = lifted(row[1]);
@@ -53,28 +53,16 @@ pub fn is_under(q: PageBox, row: RerouterRow) -> bool
             & (y < lifted(q.y1)))
 }
 
-fn lesser(a: u64, b: u64) -> u64
-    ensures { result ≡ min a b }
-{
-    if a < b { a } else { b }
-}
-
-fn greater(a: u64, b: u64) -> u64
-    ensures { result ≡ max a b }
-{
-    if a < b { b } else { a }
-}
-
 // H3: whether the way from a to b meets the range from low to high, ends included.
 fn meets(a: u64, b: u64, low: u64, high: u64) -> bool
     ensures { result ≡ meetsOf a b low high }
 {
-    (lesser(a, b) <= high) & (low <= greater(a, b))
+    (a.min(b) <= high) & (low <= a.max(b))
 }
 
 // H3: whether the run between two rerouters, by their rows, is hit.
-fn is_run_under(q: PageBox, a: RerouterRow, b: RerouterRow) -> bool
-    ensures { result ≡ run_under q (rerouter_in a) (rerouter_in b) }
+fn is_run_under(q: PageBox, a: &RerouterRow, b: &RerouterRow) -> bool
+    ensures { result ≡ run_under q (rerouter_in a.now) (rerouter_in b.now) }
 {
     let ax = lifted(a[0]);
     let ay = lifted(a[1]);
@@ -86,23 +74,16 @@ fn is_run_under(q: PageBox, a: RerouterRow, b: RerouterRow) -> bool
 }
 
 // H3: whether a bus wire, by its row, is hit: both of its ends are rerouters, and their run is.
-pub fn is_wire_under(q: PageBox, rerouters: &[RerouterRow], n: usize, wire: [u32; 6]) -> bool
-    requires { n ≤ length rerouters.now }
-    ensures { result ≡ wire_under q (view rerouter_in rerouters.now n) (wire_in wire) }
+pub(crate) fn is_wire_under(q: PageBox, rerouters: &[RerouterRow], wire: &BusWireRow) -> bool
+    ensures { result ≡ wire_under q (view rerouter_in rerouters.now (length rerouters.now)) (wire_in wire.now) }
 {
-    if wire[1] != MISSING {
-        return false;
-    }
-    if wire[3] != MISSING {
+    if wire[1] != MISSING || wire[3] != MISSING {
         return false;
     }
     let from = wire[0] as usize;
-    if n <= from {
-        return false;
-    }
     let to = wire[2] as usize;
-    if n <= to {
+    if rerouters.len() <= from || rerouters.len() <= to {
         return false;
     }
-    is_run_under(q, rerouters[from], rerouters[to])
+    is_run_under(q, &rerouters[from], &rerouters[to])
 }

@@ -1,59 +1,24 @@
-// `find_hits`: a sheet's board is planned; where the box is on the board its plan is laid, and the hits are listed.
-ghost use Rattle.std.specs.Prelude.{◌≡◌, length};
+// `find_hits`: a sheet's board is planned; where the box is on the board (9, after 8) its plan is laid, and the hits are listed.
+ghost use Rattle.std.specs.Prelude.{length};
 ghost use Rattle.board_plan.specs.TextPlan.{work_rows};
-ghost use Rattle.routes_hits.specs.Boxing.{box_plan};
 ghost use Rattle.routes_hits.specs.Finding.{hits_fit, hits_call, HitsCalled};
 
 use crate::boxes::{PageBox, is_on_board};
 use crate::list::{HitCounts, list_hits};
+use base::refusal::{Reason, Refusal};
 use base::rows::{BusWireRow, PageRow, PortRow, Record, RerouterRow, WorkRow};
-use board_plan::{MARK_ROWS, TextPlan, ask, lesser, plan_text};
-use routes::bus::BusCounts;
+use board_plan::{MARK_ROWS, ask, plan_text};
 use routes_calls::route::finish_plan;
-use sheet::Counts;
+use routes_gutter::laying::BusLaid;
 
 // H7: as many numbers of the hit buffer are asked for each wire.
 pub const HITS_A_WIRE: usize = 21;
 
-// A refusal and its place; or the counts of hits, how many rows of the plan there are, and how many groups were laid.
+// The counts of hits, how many rows of the plan there are, and how many groups were laid.
 #[derive(Clone, Copy)]
-pub enum HitsFound {
-    Refused {
-        number: usize,
-        place: usize,
-    },
-    Found {
-        hits: HitCounts,
-        bus: BusCounts,
-        groups: usize,
-    },
-}
-
-// A sheet's board that is planned and has the box; or the first refusal.
-#[derive(Clone, Copy)]
-pub enum BoxPlan {
-    Refused { number: usize, place: usize },
-    Laned { counts: Counts, taps: usize },
-}
-
-// H6: 9, after 8.
-fn box_plan(q: PageBox, planned: TextPlan) -> BoxPlan
-    ensures { result ≡ box_plan q planned }
-{
-    match planned {
-        TextPlan::Refused { number, place } => BoxPlan::Refused { number, place },
-        TextPlan::Crowded { counts: _, place } => BoxPlan::Refused { number: 8, place },
-        TextPlan::Laned { counts, taps } => {
-            if is_on_board(q, counts.pages) {
-                BoxPlan::Laned { counts, taps }
-            } else {
-                BoxPlan::Refused {
-                    number: 9,
-                    place: 0,
-                }
-            }
-        }
-    }
+pub struct HitsFound {
+    pub hits: HitCounts,
+    pub laid: BusLaid,
 }
 
 // The hits of a box on the finished plan of a sheet's board, and that plan, or a refusal. Each slice of work space has a row for each record, the marks five; the
@@ -73,7 +38,7 @@ pub fn find_hits(
     demands: &mut [WorkRow],
     keys: &mut [WorkRow],
     marks: &mut [WorkRow],
-) -> HitsFound
+) -> Result<HitsFound, Refusal>
     ensures { HitsCalled q (hits_call q text.now (hits_fit (length hits.old) (length rerouters.old) (length bus_wires.old) (length ports.old) (length answers.old)
         (work_rows records.old facts.old taps.old groups.old demands.old keys.old marks.old)))
         hits.old rerouters.old bus_wires.old ports.old answers.old hits.new rerouters.new bus_wires.new ports.new answers.new result }
@@ -82,7 +47,7 @@ pub fn find_hits(
         [
             rerouters.len(),
             bus_wires.len(),
-            lesser(ports.len(), hits.len() / HITS_A_WIRE),
+            ports.len().min(hits.len() / HITS_A_WIRE),
             answers.len(),
         ],
         [
@@ -97,21 +62,20 @@ pub fn find_hits(
     );
     let planned = plan_text(
         text, asked, records, facts, taps, groups, demands, keys, marks,
-    );
-    match box_plan(q, planned) {
-        BoxPlan::Refused { number, place } => HitsFound::Refused { number, place },
-        BoxPlan::Laned { counts, taps: m } => {
-            let laid = finish_plan(
-                records, counts, m, facts, taps, groups, demands, keys, marks, rerouters,
-                bus_wires, ports, answers,
-            );
-            let bus = laid.bus;
-            let found = list_hits(q, rerouters, bus.rerouters, bus_wires, bus.bus_wires, hits);
-            HitsFound::Found {
-                hits: found,
-                bus,
-                groups: laid.groups,
-            }
-        }
+    )?;
+    let counts = planned.counts;
+    let m = planned.taps?;
+    if !is_on_board(q, counts.pages) {
+        return Err(Refusal {
+            reason: Reason::BadBox,
+            place: 0,
+        });
     }
+    let laid = finish_plan(
+        records, counts, m, facts, taps, groups, demands, keys, marks, rerouters, bus_wires, ports,
+        answers,
+    );
+    let bus = laid.bus;
+    let found = list_hits(q, rerouters, bus.rerouters, bus_wires, bus.bus_wires, hits);
+    Ok(HitsFound { hits: found, laid })
 }

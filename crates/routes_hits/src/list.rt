@@ -1,9 +1,10 @@
 // The list of hits: a run of numbers in the hit buffer, the rerouters first.
-ghost use Rattle.std.specs.Prelude.{[], ◌∷◌, ℕ, ◌+◌, ◌*◌, ◌≤◌, ◌<◌, length, get_or};
+ghost use Rattle.std.specs.Prelude.{◌≡◌, [], ◌∷◌, ℕ, List, ◌+◌, ◌*◌, ◌≤◌, ◌<◌, length};
 ghost use Rattle.sheet.specs.Written.{Wrote};
 ghost use Rattle.base.specs.Views.{view};
 ghost use Rattle.routes.specs.Buffers.{rerouter_in, wire_in};
-ghost use Rattle.routes_hits.specs.Hits.{rerouter_hit, rerouters_hit, wire_hit, wires_hit};
+ghost use Rattle.routes.specs.PlanSheet.{numbered};
+ghost use Rattle.routes_hits.specs.Hits.{rerouter_hit, wire_hit};
 ghost use Rattle.routes_hits.specs.Listing.{Listed};
 
 use crate::boxes::{PageBox, is_under, is_wire_under};
@@ -17,87 +18,81 @@ pub struct HitCounts {
     pub wires: usize,
 }
 
-// One number.
-fn put_one(hits: &mut [u32], at: usize, number: u32) -> usize
-    requires { at < length hits.old }
-    ensures { Wrote hits.old at (number ∷ []) hits.new result }
-{
-    hits[at] = number;
-    at + 1
+// A table whose rows are listed where they are hit.
+trait HitRows {
+    type Row;
+
+    // The most numbers that the list says of one row.
+    ghost most: { ℕ };
+
+    ghost said: { Self → ℕ → Self.Row → List ℕ };
+
+    // Where the row is hit, what the list says of it.
+    fn put_row(&self, number: u32, row: &Self::Row, hits: &mut [u32], at: usize) -> usize
+        requires { at + most ≤ length hits.old }
+        ensures { Wrote hits.old at (said self.now number row.now) hits.new result × (result ≤ at + most) };
 }
 
-// A rerouter's three.
-fn put_three(hits: &mut [u32], at: usize, number: u32, part: u32, lane: u32) -> usize
-    requires { at + 3 ≤ length hits.old }
-    ensures { Wrote hits.old at (number ∷ part ∷ lane ∷ []) hits.new result }
+// What the list says of one row.
+fn put<const N: usize>(hits: &mut [u32], at: usize, said: [u32; N]) -> usize
+    requires { at + N ≤ length hits.old }
+    ensures { Wrote hits.old at said.entry hits.new result × (result ≡ at + N) }
 {
-    let second = put_one(hits, at, number);
-    let third = put_one(hits, second, part);
-    put_one(hits, third, lane)
+    hits[at..at + N].copy_from_slice(&said);
+    at + N
 }
 
-// H4: rerouter i, where it is hit.
-fn put_rerouter(q: PageBox, i: usize, row: RerouterRow, hits: &mut [u32], at: usize) -> usize
-    requires { (i < 4294967296) × (at + 3 ≤ length hits.old) }
-    ensures { Wrote hits.old at (rerouter_hit q i (rerouter_in row)) hits.new result × (result ≤ at + 3) }
-{
-    if is_under(q, row) {
-        return put_three(hits, at, i as u32, row[5], row[8]);
-    }
-    at
-}
-
-// H4: the rerouters that are hit, of the first n.
-fn put_rerouters(q: PageBox, rerouters: &[RerouterRow], n: usize, hits: &mut [u32]) -> usize
-    requires { (n ≤ length rerouters.now) × (n ≤ 4294967296) × (3 * n ≤ length hits.old) }
-    ensures { Wrote hits.old 0 (rerouters_hit q (view rerouter_in rerouters.now n)) hits.new result × (result ≤ 3 * n) }
-{
-    let mut next: usize = 0;
-    let mut i: usize = 0;
-    while i < n {
-        next = put_rerouter(q, i, rerouters[i], hits, next);
-        i += 1;
-    }
-    next
-}
-
-// H4: bus wire i, where it is hit.
-fn put_wire(
+// H4: a rerouter's number, part and lane.
+#[derive(Clone, Copy)]
+struct Rerouters {
     q: PageBox,
-    rerouters: &[RerouterRow],
-    n: usize,
-    i: usize,
-    wire: [u32; 6],
-    hits: &mut [u32],
-    at: usize,
-) -> usize
-    requires { (n ≤ length rerouters.now) × (i < 4294967296) × (at < length hits.old) }
-    ensures { Wrote hits.old at (wire_hit q (view rerouter_in rerouters.now n) i (wire_in wire)) hits.new result × (result ≤ at + 1) }
-{
-    if is_wire_under(q, rerouters, n, wire) {
-        return put_one(hits, at, i as u32);
-    }
-    at
 }
 
-// H4: the bus wires that are hit, of the first k, from a place on.
-fn put_wires(
+impl HitRows for Rerouters {
+    type Row = RerouterRow;
+
+    ghost most = { 3 };
+
+    ghost said = { λ table n row. rerouter_hit table.q n (rerouter_in row) };
+
+    fn put_row(&self, number: u32, row: &RerouterRow, hits: &mut [u32], at: usize) -> usize {
+        if is_under(self.q, row) {
+            return put(hits, at, [number, row[5], row[8]]);
+        }
+        at
+    }
+}
+
+// H4: a bus wire's number.
+#[derive(Clone, Copy)]
+struct BusWires<'a> {
     q: PageBox,
-    rerouters: &[RerouterRow],
-    n: usize,
-    bus_wires: &[BusWireRow],
-    k: usize,
-    hits: &mut [u32],
-    at: usize,
-) -> usize
-    requires { (n ≤ length rerouters.now) × (k ≤ length bus_wires.now) × (k ≤ 4294967296) × (at + k ≤ length hits.old) }
-    ensures { Wrote hits.old at (wires_hit q (view rerouter_in rerouters.now n) (view wire_in bus_wires.now k)) hits.new result × (result ≤ at + k) }
+    rerouters: &'a [RerouterRow],
+}
+
+impl<'a> HitRows for BusWires<'a> {
+    type Row = BusWireRow;
+
+    ghost most = { 1 };
+
+    ghost said = { λ table n row. wire_hit table.q (view rerouter_in table.rerouters.now (length table.rerouters.now)) n (wire_in row) };
+
+    fn put_row(&self, number: u32, row: &BusWireRow, hits: &mut [u32], at: usize) -> usize {
+        if is_wire_under(self.q, self.rerouters, row) {
+            return put(hits, at, [number]);
+        }
+        at
+    }
+}
+
+// H4: the rows of a table that are hit, from a place on.
+fn put_hits<H: HitRows>(table: &H, rows: &[H::Row], hits: &mut [u32], at: usize) -> usize
+    requires { (length rows.now ≤ 4294967296) × (at + H.most * length rows.now ≤ length hits.old) }
+    ensures { Wrote hits.old at (numbered (H.said table.now) 0 rows.now) hits.new result × (result ≤ at + H.most * length rows.now) }
 {
     let mut next = at;
-    let mut i: usize = 0;
-    while i < k {
-        next = put_wire(q, rerouters, n, i, bus_wires[i], hits, next);
-        i += 1;
+    for (i, row) in rows.iter().enumerate() {
+        next = table.put_row(i as u32, row, hits, next);
     }
     next
 }
@@ -114,8 +109,9 @@ pub fn list_hits(
     requires { (n ≤ length rerouters.now) × (k ≤ length bus_wires.now) × (n ≤ 4294967296) × (k ≤ 4294967296) × (3 * n + k ≤ length hits.old) }
     ensures { Listed q (view rerouter_in rerouters.now n) (view wire_in bus_wires.now k) hits.old hits.new result }
 {
-    let middle = put_rerouters(q, rerouters, n, hits);
-    let end = put_wires(q, rerouters, n, bus_wires, k, hits, middle);
+    let rerouters = &rerouters[..n];
+    let middle = put_hits(&Rerouters { q }, rerouters, hits, 0);
+    let end = put_hits(&BusWires { q, rerouters }, &bus_wires[..k], hits, middle);
     HitCounts {
         rerouters: middle / 3,
         wires: end - middle,

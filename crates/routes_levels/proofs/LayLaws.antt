@@ -13,14 +13,14 @@ use Rattle.board.specs.Groups.{Tap}
 use Rattle.board.specs.Demands.{PageLanes}
 use Rattle.base.specs.Views.{view}
 use Rattle.board.specs.Tables.{tap_in}
-use Rattle.board.specs.Index.{link}
 use Rattle.base.proofs.Bools.{pick_true, pick_false}
 use Rattle.base.proofs.Views.{view_more}
 use Rattle.routes.specs.Stops.{new_row, stop_x}
 use Rattle.routes.specs.Levels.{Level, Stop, kept_at, previous_stop, level_with_base, level_of, stop_for, stops_of, lane_for}
 use Rattle.routes.specs.Tables.{stop_in}
 use Rattle.routes.specs.Holding.{stop_level_of}
-use Rattle.routes_levels.specs.Laying.{stop_answer, kept_end, Ends, StopIndex, WIRES_MOST}
+use Rattle.routes_levels.specs.Laying.{level_answer, stop_answer, no_end, kept_end, Ends, StopIndex, WIRES_MOST}
+use Rattle.routes_levels.specs.declared.laying.GroupEnd.{GroupEnd}
 use Rattle.routes_levels.specs.Pages.{lane_key, claim_of, levels_on, claims_on, Grown, Runs, PageRuns, RoomFor, Onward, StopLaid}
 use Rattle.routes_levels.proofs.PageLaws.{level_kept, claim_kept, none_later}
 use Rattle.routes.specs.declared.levels.Level.{Level as LevelHeld}
@@ -44,7 +44,7 @@ module _ (stops : List (List ℕ)) (s : ℕ) (t : Tap) (lane base : ℕ) (a : Le
       more ∙ ap (λ u. u ∷ view stop_in stops s) (row_is v e)
 
   -- The ends and the runs after the stop.
-  pub laid_with : {ends ends' : List (List ℕ)} {starts nexts xs nexts' xs' : List ℕ}
+  pub laid_with : {ends ends' : List GroupEnd} {starts nexts xs nexts' xs' : List ℕ}
       → Ends ends (view stop_in stops s) → PageRuns t.page (view stop_in stops s) starts nexts xs
       → ((ss : List Stop) (u : Stop) → u.group ≡ t.group → u.base ≡ base → a ≡ stop_answer u.level → Ends ends ss → Ends ends' (u ∷ ss))
       → ((v : Level) (rows lanes rows' lanes' : ℕ → List ℕ) → a ≡ stop_answer v → Runs rows lanes starts nexts xs → Grown t.row (kept_at v) rows rows' → Grown lane (claim_of v) lanes lanes' → Runs rows' lanes' starts nexts' xs')
@@ -77,16 +77,16 @@ module _ (stops : List (List ℕ)) (s : ℕ) (t : Tap) (lane base : ℕ) (a : Le
       stop_seen (level_of b ss lane base t) e ∙ (λ w. stop_with t lane (base-is w) (level_of b ss lane (base-is w) t) ∷ ss)
 
 -- What the ends say of a tap's group.
-module _ {n : ℕ} {stops ends : List (List ℕ)} {s : ℕ} (x : StopIndex n stops ends s)
+module _ {n : ℕ} {stops : List (List ℕ)} {ends : List GroupEnd} {s : ℕ} (x : StopIndex n stops ends s)
     (t : Tap) (g : ℕ) (is : g ≡ t.group) (small : t.group < WIRES_MOST) where
   in_ends : t.group < length ends
   in_ends = let r = x.group_room in omega arith
 
-  pub end_previous : get_or (get_or ends g []) 0 0 ≡ link (previous_stop (view stop_in stops s) t.group)
-  end_previous = ap (λ h. field ends h 0) is ∙ x.lasts.previous t.group in_ends
+  pub end_previous : (get_or ends g no_end).previous ≡ level_answer (previous_stop (view stop_in stops s) t.group)
+  end_previous = ap (λ h. (get_or ends h no_end).previous) is ∙ x.lasts.previous t.group in_ends
 
-  pub end_kept : (base : ℕ) → level_with_base (view stop_in stops s) t.group base ≡ kept_end (get_or ends g []) base
-  end_kept base = x.lasts.kept t.group base in_ends ∙ ap (λ h. kept_end (get_or ends h []) base) (sym is)
+  pub end_kept : (base : ℕ) → level_with_base (view stop_in stops s) t.group base ≡ kept_end (get_or ends g no_end) base
+  end_kept base = x.lasts.kept t.group base in_ends ∙ ap (λ h. kept_end (get_or ends h no_end) base) (sym is)
 
 -- Whether a tap is the first of its group on its row, by the row before it.
 module _ (laid : List (List ℕ)) (k : ℕ) (t : Tap) (some : k ≡ 0 → ⊥) where
@@ -106,7 +106,7 @@ module _ (laid : List (List ℕ)) (k : ℕ) (t : Tap) (some : k ≡ 0 → ⊥) w
 pub room_in_lane : (groups : List (List ℕ)) (row : ℕ) (starts nexts : List ℕ) (g : ℕ) {h : ℕ} → g ≡ h → RoomFor row (field groups h 4) starts nexts → RoomFor row (field groups g 4) starts nexts
 room_in_lane groups row starts nexts g e r = subst (λ j. RoomFor row (field groups j 4) starts nexts) (sym e) r
 
-pub stop_in_lane : (groups : List (List ℕ)) (g : ℕ) {h p row s : ℕ} {stops ends : List (List ℕ)} {starts nexts nexts' xs' : List ℕ} → g ≡ h
+pub stop_in_lane : (groups : List (List ℕ)) (g : ℕ) {h p row s : ℕ} {stops : List (List ℕ)} {ends : List GroupEnd} {starts nexts nexts' xs' : List ℕ} → g ≡ h
     → StopLaid p row (field groups g 4) stops ends starts nexts nexts' xs' s → StopLaid p row (field groups h 4) stops ends starts nexts nexts' xs' s
 stop_in_lane groups g {h} {p} {row} {s} {stops} {ends} {starts} {nexts} {nexts'} {xs'} e x = subst (λ j. StopLaid p row (field groups j 4) stops ends starts nexts nexts' xs' s) e x
 
@@ -137,23 +137,18 @@ no_stops b ps = refl
 pub stops_all : (b : Board) (ps : List PageLanes) (laid : List (List ℕ)) (n k : ℕ) (ss : List Stop) → k ≤ n → n ≤ k → ss ≡ stops_of b ps (view tap_in laid k) → ss ≡ stops_of b ps (view tap_in laid n)
 stops_all b ps laid n k ss l m h = let e : k ≡ n = omega arith in h ∙ ap (λ i. stops_of b ps (view tap_in laid i)) e
 
--- The index of no stops: ends of zeros.
-pub no_index : (n : ℕ) (stops ends : List (List ℕ)) → n ≤ length stops → WIRES_MOST ≤ length ends
-    → ((g : ℕ) → g < length ends → (field ends g 0 ≡ 0) × (field ends g 1 ≡ 0)) → StopIndex n stops ends 0
-no_index n stops ends room groups zeros =
+-- The index of no stops.
+pub no_index : (m n : ℕ) (stops : List (List ℕ)) → n ≤ length stops → WIRES_MOST ≤ m → StopIndex n stops (replicate m no_end) 0
+no_index m n stops room groups =
     record {
       room = room;
-      group_room = groups;
+      group_room = rw (length-replicate m no_end) groups;
       lasts =
           record {
-            previous = λ g h. (zeros g h).0;
-            kept = λ g base h. sym (pick_false (eqb (field ends g 1) (suc base)) _ _ (ne_eqb (field ends g 1) (suc base) (λ e. let z = (zeros g h).1 in omega arith)));
+            previous = λ g h. ap (λ e. e.previous) (none g h);
+            kept = λ g base h. sym (ap (λ e. kept_end e base) (none g h));
           };
     }
-
--- A table of zeros.
-pub zero_rows : (n : ℕ) (row : List ℕ) (g : ℕ) → g < length (replicate n row) → get_or row 0 0 ≡ 0 → get_or row 1 0 ≡ 0 → (field (replicate n row) g 0 ≡ 0) × (field (replicate n row) g 1 ≡ 0)
-zero_rows n row g h z o =
-    let l : g < n = rw (length-replicate n row) at h in
-    let e : get_or (replicate n row) g [] ≡ row = get_or-replicate n g row [] l in
-    (ap (λ r. get_or r 0 0) e ∙ z, ap (λ r. get_or r 1 0) e ∙ o)
+  where
+    none : (g : ℕ) → g < length (replicate m no_end) → get_or (replicate m no_end) g no_end ≡ no_end
+    none g h = let l : g < m = rw (length-replicate m no_end) at h in get_or-replicate m g no_end no_end l

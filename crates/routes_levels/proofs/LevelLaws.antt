@@ -1,32 +1,20 @@
--- The finder's three ways, and levels within a row.
-use Prim.Native.Nat.{ℕ, ◌+◌, ◌-◌, ◌≤◌}
+-- The finder's three ways, and two tests that are the same.
+use Rattle.std.proofs.Common.{None, Some}
+use Prim.Native.Nat.{ℕ}
 use mathlib.Core.Path.{◌≡◌, refl, ap, sym, ◌∙◌}
 use mathlib.Core.Bool.{Bool, true, false}
 use mathlib.Core.List.{List}
-use native.Mathlib.Omega.{arith}
-use lib.Dec.{leb}
-use borrow.Author.Tests.{le-leb, leb-true}
 use Rattle.base.specs.Lists.{Found, none, at}
 use Rattle.base.proofs.Bools.{pick_true, pick_false}
 use Rattle.routes_levels.proofs.Searches.{found_at, found_none}
-use Rattle.routes.specs.Levels.{Stop, STAGGER_STEP, load_at, unclaimed, free_level, find_level, lowest, lightest, levels_in}
+use Rattle.routes.specs.Levels.{Stop, load_at, unclaimed, free_level, find_level, lowest, lightest, levels_in}
 use Rattle.routes_levels.specs.Laying.{level_answer}
-use Rattle.routes_levels.specs.declared.levels.Found.TheVariants.{None, At}
 
 -- Two tests that hold together are the same.
 pub same_test : (s t : Bool) → (s ≡ true → t ≡ true) → (t ≡ true → s ≡ true) → s ≡ t
 same_test true t f g = sym (f refl)
 same_test false true f g = g refl
 same_test false false f g = refl
-
-pub within_less : (x top : ℕ) → x ≤ top → leb STAGGER_STEP (top - x) ≡ leb (x + STAGGER_STEP) top
-within_less x top h = same_test _ _ there back
-  where
-    there : leb 2 (top - x) ≡ true → leb (x + 2) top ≡ true
-    there e = let l = leb-true 2 (top - x) e in le-leb (x + 2) top (omega arith)
-
-    back : leb (x + 2) top ≡ true → leb 2 (top - x) ≡ true
-    back e = let l = leb-true (x + 2) top e in le-leb 2 (top - x) (omega arith)
 
 -- The finder's three ways.
 module _ (ss : List Stop) (p lane r base top : ℕ) where
@@ -41,18 +29,18 @@ module _ (ss : List Stop) (p lane r base top : ℕ) where
   unfolding find_level
   ways f g e h = λ w. elim (e w) [ at l ↦ at l | none ↦ elim (h w) [ at l ↦ at l | none ↦ elim (unclaimed ss p lane base) [ true ↦ at base | false ↦ none ] ] ]
 
-  pub find_lowest : (l : ℕ) → At l ≡ level_answer low → At l ≡ level_answer (find_level ss p lane r base top)
+  pub find_lowest : (l : ℕ) → Some l ≡ level_answer low → Some l ≡ level_answer (find_level ss p lane r base top)
   find_lowest l e = sym (ap level_answer (ways (at l) light (found_at low l e) refl))
 
   module _ (no_low : None ≡ level_answer low) where
-    pub find_lightest : (l : ℕ) → At l ≡ level_answer light → At l ≡ level_answer (find_level ss p lane r base top)
+    pub find_lightest : (l : ℕ) → Some l ≡ level_answer light → Some l ≡ level_answer (find_level ss p lane r base top)
     find_lightest l e = sym (ap level_answer (ways none (at l) (found_none low no_low) (found_at light l e)))
 
     module _ (no_light : None ≡ level_answer light) where
       last : find_level ss p lane r base top ≡ elim (unclaimed ss p lane base) [ true ↦ at base | false ↦ none ]
       last = ways none none (found_none low no_low) (found_none light no_light)
 
-      pub find_base : unclaimed ss p lane base ≡ true → At base ≡ level_answer (find_level ss p lane r base top)
+      pub find_base : unclaimed ss p lane base ≡ true → Some base ≡ level_answer (find_level ss p lane r base top)
       find_base t = sym (ap level_answer (last ∙ pick_true (unclaimed ss p lane base) _ _ t))
 
       pub find_nothing : unclaimed ss p lane base ≡ false → None ≡ level_answer (find_level ss p lane r base top)

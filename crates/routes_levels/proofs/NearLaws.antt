@@ -1,14 +1,12 @@
 -- Rows brought nearly into order by packed keys: sorted all the way they are the same, since no two different rows are equals of the order.
-use Prim.Native.Nat.{ℕ, zero, suc, ◌+◌, ◌%◌, ◌≤◌, ◌<◌}
+use Prim.Native.Nat.{ℕ, zero, suc, ◌%◌, ◌≤◌, ◌<◌}
 use native.Mathlib.Omega.{arith}
-use native.Mathlib.Decide.{dec_lt}
-use native.Mathlib.Numerals.{add-one}
 use mathlib.Core.Path.{◌≡◌, refl, sym, ap, ◌∙◌}
 use mathlib.Core.Bool.{Bool, true, false}
-use mathlib.Core.List.{List, [], ◌∷◌, ◌++◌, map}
+use mathlib.Core.List.{List, [], ◌∷◌, map}
 use lib.Dec.{ltb}
-use lib.ListN.{length, get_or, take, drop, set, length-append, length-drop, get_or-append}
-use lib.Seq.{take-suc, take-suc-set, take_at, length-take-le, get_or-take, get_or-set_same, get_or-set_other}
+use lib.ListN.{length, get_or, take}
+use lib.Seq.{take-suc, take_all}
 use Rattle.base.specs.Sort.{inserted, sorted, lex_less, sorted_rows, sorted_keys}
 use Rattle.base.proofs.Bools.{clash}
 use Rattle.base.proofs.Members.{mem_at, at_mem, sorted_from_lem, length-sorted, lex_alone}
@@ -87,24 +85,6 @@ lex_total (x ∷ xs) (y ∷ ys) h k = go (compared x y) (lex_total xs ys)
     go (above p) ih = clash (lex_lt y x ys xs p) k
     go (same p) ih = let rest : xs ≡ ys = ih (sym (lex_eq x y xs ys p) ∙ h) (sym (lex_eq y x ys xs (sym p)) ∙ k) in λ w. p w ∷ rest w
 
--- One more key, with its number behind it.
-pub numbered_more : (keys : List ℕ) (i v : ℕ) → i < length keys → Numbered keys i → v % WIRES_MOST ≡ i → Numbered (set keys i v) (i + 1)
-numbered_more keys i v room old new k h =
-    elim (dec_lt k i) [
-      | yes l ↦ ap (λ (j : ℕ). j % WIRES_MOST) (get_or-set_other keys i k v 0 (λ e. omega arith)) ∙ old k l
-      | no f ↦ let e : k ≡ i = omega arith in ap (λ (j : ℕ). get_or (set keys i v) j 0 % WIRES_MOST) e ∙ ap (λ (j : ℕ). j % WIRES_MOST) (get_or-set_same keys i v 0 room) ∙ new ∙ sym e
-    ]
-
--- One more row copied along the keys.
-pub along_more : (keys : List ℕ) (from to : List (List ℕ)) (p : ℕ) → p < length keys → p < length to → take p to ≡ map (row_at from) (take p keys)
-    → take (p + 1) (set to p (row_at from (get_or keys p 0))) ≡ map (row_at from) (take (p + 1) keys)
-along_more keys from to p inside room so_far =
-    rw (add-one p, take-suc-set to p (row_at from (get_or keys p 0)) room, take-suc keys p 0 inside, so_far)
-    (sym (map_snoc (row_at from) (take p keys) (get_or keys p 0)))
-
-pub along_all : (keys : List ℕ) (from to : List (List ℕ)) (p n : ℕ) → p ≡ n → take p to ≡ map (row_at from) (take p keys) → take n to ≡ map (row_at from) (take n keys)
-along_all keys from to p n e h = rw (← e) h
-
 -- The rows of numbered keys are the rows as they stand.
 rows_stand : (keys : List ℕ) (from : List (List ℕ)) (n : ℕ) → n ≤ length keys → n ≤ length from → Numbered keys n → map (row_at from) (take n keys) ≡ take n from
 rows_stand keys from zero h k e = refl
@@ -113,34 +93,26 @@ rows_stand keys from (suc n) h k e =
     let here : row_at from (get_or keys n 0) ≡ get_or from n [] = ap (λ (j : ℕ). get_or from j []) (e n (omega arith)) in
     rw (take-suc keys n 0 (omega arith), take-suc from n [] (omega arith), map_snoc (row_at from) (take n keys) (get_or keys n 0), before, here)
 
--- The first n of numbered keys sorted, in front of the others.
-module _ (keys front : List ℕ) (n : ℕ) (room : n ≤ length keys) (numbered : Numbered keys n) (done : front ≡ sorted_keys (take n keys)) where
-  long : length (take n keys) ≡ n
-  long = length-take-le n keys room
-
-  front_long : length front ≡ n
+-- A key for each row, with its number behind it, and these keys sorted.
+module _ (keys front : List ℕ) (from : List (List ℕ)) (long : length keys ≡ length from) (numbered : Numbered keys (length from)) (done : front ≡ sorted_keys keys) where
+  front_long : length front ≡ length from
   unfolding sorted_keys
-  front_long = ap length done ∙ length-sorted ltb (take n keys) ∙ long
-
-  pub whole_long : length (front ++ drop n keys) ≡ length keys
-  whole_long = length-append front (drop n keys) ∙ (let e = front_long in let d = length-drop n keys in omega arith)
+  front_long = ap length done ∙ length-sorted ltb keys ∙ long
 
   -- each is the key of a row that is there
-  pub row_there : (p : ℕ) → p < n → get_or (front ++ drop n keys) p 0 % WIRES_MOST < n
+  pub row_there : (p : ℕ) → p < length front → get_or front p 0 % WIRES_MOST < length from
   unfolding sorted_keys
   row_there p h =
-      let there : get_or (front ++ drop n keys) p 0 ≡ get_or (sorted ltb (take n keys)) p 0 =
-      get_or-append front (drop n keys) 0 p (omega (arith, front_long)) ∙ ap (λ (l : List ℕ). get_or l p 0) done in
-      let r = mem_at 0 (take n keys) (sorted_from_lem ltb (take n keys) (at_mem 0 (sorted ltb (take n keys)) p (omega (arith, length-sorted ltb (take n keys), long)))) in
+      let r = mem_at 0 keys (sorted_from_lem ltb keys (at_mem 0 (sorted ltb keys) p (omega (arith, length-sorted ltb keys, long, front_long)))) in
       let b = r.1 in
-      let inside : r.0 < n = omega (arith, long) in
-      let e : get_or (front ++ drop n keys) p 0 % WIRES_MOST ≡ r.0 =
-      ap (λ (j : ℕ). j % WIRES_MOST) (there ∙ sym r.2 ∙ get_or-take n keys r.0 0 inside) ∙ numbered r.0 inside in
+      let inside : r.0 < length from = omega (arith, long) in
+      let e : get_or front p 0 % WIRES_MOST ≡ r.0 = ap (λ (l : List ℕ). get_or l p 0 % WIRES_MOST) done ∙ ap (λ (j : ℕ). j % WIRES_MOST) (sym r.2) ∙ numbered r.0 inside in
       omega arith
 
   -- the rows in their order are sorted to what the rows as they stand are sorted to
-  pub near_sorted : (from to : List (List ℕ)) → n ≤ length from → take n to ≡ map (row_at from) (take n (front ++ drop n keys)) → sorted_rows (take n to) ≡ sorted_rows (take n from)
+  pub near_sorted : (to : List (List ℕ)) → take (length front) to ≡ map (row_at from) front → sorted_rows (take (length from) to) ≡ sorted_rows from
   unfolding sorted_rows sorted_keys
-  near_sorted from to h e =
-      let along : take n to ≡ map (row_at from) (sorted ltb (take n keys)) = e ∙ ap (map (row_at from)) (take_at front (drop n keys) n front_long ∙ done) in
-      ap (sorted lex_less) along ∙ sorted_again lex_less lex_order lex_alone lex_total ltb (row_at from) (take n keys) ∙ ap (sorted lex_less) (rows_stand keys from n room h numbered)
+  near_sorted to e =
+      let stand : map (row_at from) keys ≡ from = ap (map (row_at from)) (sym (take_all (length from) keys (omega (arith, long)))) ∙ rows_stand keys from (length from) (omega (arith, long)) (omega arith) numbered ∙ take_all (length from) from (omega arith) in
+      ap (λ n. sorted lex_less (take n to)) (sym front_long) ∙ ap (sorted lex_less) (e ∙ ap (map (row_at from)) done)
+      ∙ sorted_again lex_less lex_order lex_alone lex_total ltb (row_at from) keys ∙ ap (sorted lex_less) stand

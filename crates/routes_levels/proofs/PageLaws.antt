@@ -210,9 +210,6 @@ module _ (xs : List ℕ) (a e : ℕ) (order : a ≤ e) (inside : e ≤ length xs
   part_at : (i : ℕ) → i < e - a → get_or part i 0 ≡ get_or xs (a + i) 0
   part_at i h = rw (get_or-take, get_or-drop)
 
-  pub part_few : (n : ℕ) → length xs < n → length part < n
-  part_few n h = omega (arith, part_long)
-
   pub part_load : (x : ℕ) → load_in part x ≡ times x (stretch xs a (e - a))
   unfolding load_in
   part_load x = ap (having (λ i. get_or part i 0) x) part_long ∙ each (e - a) (omega arith)

@@ -9,6 +9,7 @@ use Rattle.board.specs.Board.{Board, field}
 use Rattle.board.specs.Demands.{PageLanes}
 use Rattle.routes.specs.Levels.{Stop}
 use Rattle.routes.specs.Tables.{stop_in}
+use Rattle.routes_levels.specs.declared.laying.GroupEnd.{GroupEnd}
 use Rattle.routes_levels.specs.Laying.{Ends, StopIndex, PlacesFit, LaidFits, LaidFacts}
 use Rattle.routes_levels.specs.Pages.{lane_key, NoneFrom, PageRuns, RoomFor, Onward, Wide, Used, OnePage}
 use Rattle.routes_levels.proofs.PageLaws.{none_above}
@@ -40,11 +41,11 @@ module _ {m n : ℕ} (h : m ≤ n) where
   pub facts_fewer : {b : Board} {ps : List PageLanes} {facts groups laid : List (List ℕ)} → LaidFacts b ps facts groups laid n → LaidFacts b ps facts groups laid m
   facts_fewer f = record { lanes = λ k l. f.lanes k (omega arith); tops = λ k l. f.tops k (omega arith) }
 
-  pub index_fewer : {stops ends : List (List ℕ)} {s : ℕ} → StopIndex n stops ends s → StopIndex m stops ends s
+  pub index_fewer : {stops : List (List ℕ)} {ends : List GroupEnd} {s : ℕ} → StopIndex n stops ends s → StopIndex m stops ends s
   index_fewer x = record { room = omega (arith, x.room); group_room = x.group_room; lasts = x.lasts }
 
 -- The index of tables that are as long as before.
-pub index_kept : {n : ℕ} {stops ends stops' ends' : List (List ℕ)} {s s' : ℕ} → StopIndex n stops ends s → length stops' ≡ length stops → length ends' ≡ length ends
+pub index_kept : {n : ℕ} {stops stops' : List (List ℕ)} {ends ends' : List GroupEnd} {s s' : ℕ} → StopIndex n stops ends s → length stops' ≡ length stops → length ends' ≡ length ends
     → Ends ends' (view stop_in stops' s') → StopIndex n stops' ends' s'
 index_kept x l k e = record { room = omega (arith, x.room, l); group_room = omega (arith, x.group_room, k); lasts = e }
 

@@ -1,4 +1,5 @@
 -- The searches over levels, whatever test and load they go by.
+use Rattle.std.proofs.Common.{None, Option, Some}
 use Prim.Native.Nat.{ℕ, suc, ◌+◌, ◌-◌, ◌*◌, ◌≤◌, ◌<◌}
 use mathlib.Core.Path.{◌≡◌, refl, ap, sym, ◌∙◌}
 use mathlib.Core.Bool.{Bool, true, false}
@@ -11,8 +12,6 @@ use Rattle.base.proofs.Bools.{never, pick_true, pick_false}
 use Rattle.routes.specs.Levels.{STAGGER_STEP, lowest, lighter, lightest, levels_in}
 use Rattle.routes_levels.specs.Laying.{level_answer}
 pub use Rattle.routes_levels.specs.Search.{least_of, best_from, Best}
-use Rattle.routes_levels.specs.declared.levels.Found.{Found as LevelFound}
-use Rattle.routes_levels.specs.declared.levels.Found.TheVariants.{None, At}
 
 -- The levels from one on: none, or that one and those from the next on.
 levels_none : (x top : ℕ) → leb (x + STAGGER_STEP) top ≡ false → levels_in x top ≡ 0
@@ -40,7 +39,7 @@ lighter_left : (load : ℕ → ℕ) (x : ℕ) (f : Found) → load x ≤ MISSING
 lighter_left load x none few h = absurd (omega arith)
 lighter_left load x (at y) few h = pick_false (leb (load x) (load y)) _ _ (lt-leb (load x) (load y) h)
 
-module _ (ok : ℕ → Bool) (load : ℕ → ℕ) (base count k : ℕ) (best : LevelFound) (least : ℕ) (h : Best ok load base count k best least) (some : 0 < k) (in_reach : k ≤ count) where
+module _ (ok : ℕ → Bool) (load : ℕ → ℕ) (base count k : ℕ) (best : Option ℕ) (least : ℕ) (h : Best ok load base count k best least) (some : 0 < k) (in_reach : k ≤ count) where
   abbrev x : ℕ
   x = base + STAGGER_STEP * (k - 1)
 
@@ -69,7 +68,7 @@ module _ (ok : ℕ → Bool) (load : ℕ → ℕ) (base count k : ℕ) (best : L
         let l' : least_of load before < load x = omega arith in
         kept (unrolled ∙ pick_true (ok x) _ _ t ∙ lighter_left load x before few' l')
 
-    pub best_lighter : here ≤ least → Best ok load base count (k - 1) (At x) here
+    pub best_lighter : here ≤ least → Best ok load base count (k - 1) (Some x) here
     best_lighter l =
         let e = h.lightly in
         let l' : load x ≤ least_of load before = omega arith in
@@ -83,7 +82,7 @@ best_start ok load base count k e =
     let f : best_from ok load base count k ≡ none = ap (lightest ok load (base + STAGGER_STEP * k)) z in
     record { level = sym (ap level_answer f); lightly = sym (ap (least_of load) f) }
 
-pub best_all : (ok : ℕ → Bool) (load : ℕ → ℕ) (base count k : ℕ) (best : LevelFound) (least : ℕ) → Best ok load base count k best least → k ≤ 0
+pub best_all : (ok : ℕ → Bool) (load : ℕ → ℕ) (base count k : ℕ) (best : Option ℕ) (least : ℕ) → Best ok load base count k best least → k ≤ 0
     → best ≡ level_answer (lightest ok load base count)
 unfolding best_from
 best_all ok load base count k best least h l =
@@ -92,7 +91,7 @@ best_all ok load base count k best least h l =
     h.level ∙ (λ w. level_answer (lightest ok load (from w) (all w)))
 
 -- What an answer says was found.
-pub found_at : (f : Found) (l : ℕ) → At l ≡ level_answer f → f ≡ at l
+pub found_at : (f : Found) (l : ℕ) → Some l ≡ level_answer f → f ≡ at l
 found_at none l e = never cc
 found_at (at y) l e = ap at (cc)
 

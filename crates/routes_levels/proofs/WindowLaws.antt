@@ -1,4 +1,5 @@
 -- Windows of levels: what a level counted or a claim marked does to each weight, and what the weights tell.
+use Rattle.std.proofs.Common.{Option, Some}
 use Prim.Native.Nat.{ℕ, zero, suc, ◌+◌, ◌-◌, ◌*◌, ◌/◌, ◌≤◌, ◌<◌}
 use mathlib.Core.Path.{◌≡◌, refl, ap, sym, ◌∙◌}
 use mathlib.Core.Bool.{Bool, true, false, not, ◌&&◌, ◌||◌}
@@ -18,8 +19,6 @@ use Rattle.routes.specs.Stops.{near}
 use Rattle.routes.specs.Levels.{Stop, STAGGER_STEP, levels_in, lowest, lightest, load_at, unclaimed, free_level}
 use Rattle.routes_levels.specs.Laying.{level_answer}
 use Rattle.routes_levels.specs.Search.{CLAIMED, counted, weigh, near_one, load_in, open_in, free_in, Weighed, Walked, Best}
-use Rattle.routes_levels.specs.declared.levels.Found.{Found as LevelFound}
-use Rattle.routes_levels.specs.declared.levels.Found.TheVariants.{At}
 use Rattle.routes_levels.proofs.Searches.{best_passed, best_heavier, best_lighter}
 
 -- A level counted.
@@ -152,9 +151,6 @@ pub along_start : (free : ℕ → Bool) (start size : ℕ) → lowest free start
 along_start free start size = let z : start ≡ start + 2 * 0 = omega arith in let n : size ≡ size - 0 = omega arith in λ w. lowest free (z w) (n w)
 
 module _ (free : ℕ → Bool) (start size j : ℕ) where
-  pub along_none : size ≤ j → lowest free (start + STAGGER_STEP * j) (size - j) ≡ none
-  along_none h = let z : size - j ≡ 0 = omega arith in ap (lowest free (start + 2 * j)) z
-
   module _ (h : j < size) where
     more : size - j ≡ suc (size - (j + 1))
     more = omega arith
@@ -239,7 +235,7 @@ weighed row lane loads more start long counts marks = record { weights = each }
         marks j l ∙ (λ w. weigh (twice (near_one lane x (length lane)) w) (counts j l w))
 
 -- The lightest level along a window, from the highest down.
-module _ (row lane loads : List ℕ) (start base count k j : ℕ) (level : LevelFound) (least : ℕ) (few : length row < MISSING) (w : Weighed row lane start loads)
+module _ (row lane loads : List ℕ) (start base count k j : ℕ) (level : Option ℕ) (least : ℕ) (few : length row < MISSING) (w : Weighed row lane start loads)
     (s : start ≡ base + STAGGER_STEP * k) (some : 0 < j) (within : j ≤ length loads) (reach : k + j ≤ count)
     (b : Best (open_in lane) (load_in row) base count (k + j) level least) where
   abbrev there : ℕ
@@ -251,7 +247,7 @@ module _ (row lane loads : List ℕ) (start base count k j : ℕ) (level : Level
   weight : get_or loads (j - 1) 0 ≡ weigh (not (open_in lane there)) (load_in row there)
   weight = w.weights (j - 1) (omega arith) ∙ ap (λ x. weigh (not (open_in lane x)) (load_in row x)) at_there
 
-  down : (l : LevelFound) (n : ℕ) → Best (open_in lane) (load_in row) base count (k + j - 1) l n → Best (open_in lane) (load_in row) base count (k + (j - 1)) l n
+  down : (l : Option ℕ) (n : ℕ) → Best (open_in lane) (load_in row) base count (k + j - 1) l n → Best (open_in lane) (load_in row) base count (k + (j - 1)) l n
   down l n h = let z : k + (j - 1) ≡ k + j - 1 = omega arith in rw z h
 
   pub window_passed : get_or loads (j - 1) 0 ≡ CLAIMED → Best (open_in lane) (load_in row) base count (k + (j - 1)) level least
@@ -267,13 +263,10 @@ module _ (row lane loads : List ℕ) (start base count k j : ℕ) (level : Level
         let f = load_few row lane there _ weight few in
         down level least (best_heavier (open_in lane) (load_in row) base count (k + j) level least b (omega arith) reach o.0 (get_or loads (j - 1) 0) o.1 (omega arith) l)
 
-    pub window_lighter : get_or loads (j - 1) 0 ≤ least → Best (open_in lane) (load_in row) base count (k + (j - 1)) (At (start + STAGGER_STEP * (j - 1))) (get_or loads (j - 1) 0)
+    pub window_lighter : get_or loads (j - 1) 0 ≤ least → Best (open_in lane) (load_in row) base count (k + (j - 1)) (Some (start + STAGGER_STEP * (j - 1))) (get_or loads (j - 1) 0)
     window_lighter l =
         let o = unclaimed_there in
-        rw at_there (down (At there) (get_or loads (j - 1) 0) (best_lighter (open_in lane) (load_in row) base count (k + j) level least b (omega arith) reach o.0 (get_or loads (j - 1) 0) o.1 l))
-
-pub window_done : {ok : ℕ → Bool} {load : ℕ → ℕ} {base count : ℕ} (k j : ℕ) {level : LevelFound} {least : ℕ} → j ≤ 0 → Best ok load base count (k + j) level least → Best ok load base count k level least
-window_done k j h b = let z : k ≡ k + j = omega arith in rw z b
+        rw at_there (down (Some there) (get_or loads (j - 1) 0) (best_lighter (open_in lane) (load_in row) base count (k + j) level least b (omega arith) reach o.0 (get_or loads (j - 1) 0) o.1 l))
 
 -- The row and the lane of a list of stops.
 module _ {row lane : List ℕ} {ss : List Stop} {p l r : ℕ} (h : Walked row lane ss p l r) where

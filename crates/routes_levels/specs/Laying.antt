@@ -1,5 +1,5 @@
 -- How the code of stops and levels holds its taps and stops. No rule stands here.
-use Rattle.std.specs.Prelude.{ℕ, suc, ◌%◌, ◌≤◌, ◌<◌, ◌≡◌, true, false, eqb, length, get_or}
+use Rattle.std.specs.Prelude.{ℕ, suc, ◌%◌, ◌≤◌, ◌<◌, ◌≡◌, true, false, eqb, length, get_or, Option, None, Some}
 use mathlib.Core.List.{List, [], Memᴰ}
 use Rattle.sheet.specs.Table.{MISSING}
 use Rattle.base.specs.Lists.{Found, none, at}
@@ -10,11 +10,9 @@ use Rattle.board.specs.Demands.{PageLanes, lane_of}
 use Rattle.board.specs.Rows.{row_top}
 use Rattle.base.specs.Views.{view}
 use Rattle.board.specs.Tables.{WireFacts, tap_in}
-use Rattle.board.specs.Index.{link}
 use Rattle.routes.specs.Levels.{Level, dropped, shared, own, Stop, previous_stop, level_with_base, lane_for}
 use Rattle.routes.specs.Tables.{GroupFacts, stop_in}
-use Rattle.routes_levels.specs.declared.levels.Found.{Found as LevelFound}
-use Rattle.routes_levels.specs.declared.levels.Found.TheVariants.{None, At}
+use Rattle.routes_levels.specs.declared.laying.GroupEnd.{GroupEnd}
 use Rattle.routes.specs.declared.levels.Level.{Level as LevelHeld}
 use Rattle.routes.specs.declared.levels.Level.TheVariants.{Dropped, Shared, Own}
 
@@ -36,11 +34,10 @@ pub record GroupFits (nodes facts groups : List (List ℕ)) (g : ℕ) : Type 0 w
   pub wire : g < length facts
   pub source : field facts g 2 < length nodes
 
--- The first m rows of a table of taps name groups that fit. Each tap is of a wire of its own, so they are few (S12).
-pub record TapsFit (nodes facts groups taps : List (List ℕ)) (m : ℕ) : Type 0 where
-  pub room : m ≤ length taps
-  pub few : m ≤ WIRES_MOST
-  pub fits : (k : ℕ) → k < m → GroupFits nodes facts groups (field taps k 1)
+-- The taps name groups that fit. Each tap is of a wire of its own, so they are few (S12).
+pub record TapsFit (nodes facts groups taps : List (List ℕ)) : Type 0 where
+  pub few : length taps ≤ WIRES_MOST
+  pub fits : (k : ℕ) → k < length taps → GroupFits nodes facts groups (field taps k 1)
 
 -- The row whose number stands behind a packed key.
 abbrev pub row_at : List (List ℕ) → ℕ → List ℕ
@@ -59,26 +56,30 @@ pub record Tabled (b : Board) (ts : List Tap) (ps : List PageLanes) (nodes facts
   pub lanes_few : (p g l : ℕ) → lane_of ps p g ≡ at l → l < MISSING
 
 -- A level that may not be there, and a stop's level, as the code answers them.
-abbrev pub level_answer : Found → LevelFound
+abbrev pub level_answer : Found → Option ℕ
 level_answer none = None
-level_answer (at l) = At l
+level_answer (at l) = Some l
 
 abbrev pub stop_answer : Level → LevelHeld
 stop_answer dropped = Dropped
 stop_answer (shared l) = Shared l
 stop_answer (own l) = Own l
 
--- Where the group's last kept stop has this base: its level. Column 1 is the link of its base, column 2 its level.
-abbrev pub kept_end : List ℕ → ℕ → Found
-kept_end end base = elim (eqb (get_or end 1 0) (suc base)) [ true ↦ at (get_or end 2 0) | false ↦ none ]
+-- The ends of a group without a stop.
+abbrev pub no_end : GroupEnd
+no_end = record { previous = None; kept = None }
 
--- The last stops of each group, in the row of its first wire: column 0 is the link of the last stop's x, the others say the last kept one.
-pub record Ends (ends : List (List ℕ)) (ss : List Stop) : Type 0 where
-  pub previous : (g : ℕ) → g < length ends → field ends g 0 ≡ link (previous_stop ss g)
-  pub kept : (g base : ℕ) → g < length ends → level_with_base ss g base ≡ kept_end (get_or ends g []) base
+-- Where the group's last kept stop has this base: its level.
+abbrev pub kept_end : GroupEnd → ℕ → Found
+kept_end end base = elim end.kept [ Some k ↦ elim (eqb k.base base) [ true ↦ at k.level | false ↦ none ] | None ↦ none ]
+
+-- The last stops of each group, in the row of its first wire: the last stop's x, and the last kept one.
+pub record Ends (ends : List GroupEnd) (ss : List Stop) : Type 0 where
+  pub previous : (g : ℕ) → g < length ends → (get_or ends g no_end).previous ≡ level_answer (previous_stop ss g)
+  pub kept : (g base : ℕ) → g < length ends → level_with_base ss g base ≡ kept_end (get_or ends g no_end) base
 
 -- The first s stops with their groups' ends, and room for n stops.
-pub record StopIndex (n : ℕ) (stops ends : List (List ℕ)) (s : ℕ) : Type 0 where
+pub record StopIndex (n : ℕ) (stops : List (List ℕ)) (ends : List GroupEnd) (s : ℕ) : Type 0 where
   pub room : n ≤ length stops
   pub group_room : WIRES_MOST ≤ length ends
   pub lasts : Ends ends (view stop_in stops s)

@@ -8,6 +8,7 @@ use Rattle.board.specs.Board.{field}
 use Rattle.base.specs.Views.{view}
 use Rattle.routes.specs.Tables.{stop_in}
 use Rattle.routes.specs.Levels.{Level, dropped, shared, own, Stop, kept_at}
+use Rattle.routes_levels.specs.declared.laying.GroupEnd.{GroupEnd}
 use Rattle.routes_levels.specs.Laying.{Ends, ROWS_MOST, LANES_MOST}
 
 -- The runs of a page are those of its rows, and then those of its lanes.
@@ -75,7 +76,7 @@ pub record Onward (row lane : ℕ) (nexts nexts' : List ℕ) : Type 0 where
   pub others : (j : ℕ) → (j ≡ row → ⊥) → (j ≡ lane → ⊥) → get_or nexts' j 0 ≡ get_or nexts j 0
 
 -- What a stop laid leaves: its group's ends, and its level in the runs.
-pub record StopLaid (p row lane : ℕ) (stops ends : List (List ℕ)) (starts nexts nexts' xs' : List ℕ) (s : ℕ) : Type 0 where
+pub record StopLaid (p row lane : ℕ) (stops : List (List ℕ)) (ends : List GroupEnd) (starts nexts nexts' xs' : List ℕ) (s : ℕ) : Type 0 where
   pub lasts : Ends ends (view stop_in stops s)
   pub held : PageRuns p (view stop_in stops s) starts nexts' xs'
   pub onward : Onward row (lane_key lane) nexts nexts'

@@ -1,24 +1,21 @@
 // Stops: the first pass of `lay_bus`, which lays a stop for each row of each group, with its level.
 ghost use Rattle.std.specs.Prelude.{◌≡◌, List, [], ◌∷◌, suc, ◌<◌, ◌≤◌, ◌+◌, ◌-◌, length, get_or};
-ghost use Rattle.sheet.specs.Table.{MISSING};
-ghost use Rattle.base.specs.Lists.{Found as FoundX};
+ghost use Rattle.base.specs.Lists.{Found};
 ghost use Rattle.base.specs.Growing.{run_in, Growing};
 ghost use Rattle.board.specs.Board.{Board, field};
 ghost use Rattle.board.specs.Rows.{row_top};
 ghost use Rattle.board.specs.Demands.{PageLanes};
 ghost use Rattle.base.specs.Views.{view};
 ghost use Rattle.board.specs.Tables.{tap_in};
-ghost use Rattle.board.specs.Index.{link};
 ghost use Rattle.routes.specs.Stops.{new_row, stop_x};
 ghost use Rattle.routes.specs.Levels.{Level as StopsLevel, Stop, kept_at, level_with_base, level_of, stop_for, stops_of};
 ghost use Rattle.routes.specs.Tables.{stop_in};
 ghost use Rattle.routes_levels.specs.Laying.{level_answer, stop_answer, kept_end, Ends, StopIndex, LaidFits, LaidFacts, WIRES_MOST, ROWS_MOST, LANES_MOST};
 ghost use Rattle.routes_levels.specs.Pages.{KEYS, lane_key, levels_on, claims_on, NoneFrom, PageRuns, StopLaid, RoomFor, Wide, Used, OnePage};
 
-use crate::levels::{Found, is_near};
-use crate::pages::{KEYS, count_taps, find_in_runs, keep_level, page_end};
+use crate::levels::is_near;
+use crate::pages::{KEYS, LevelRuns, count_taps, page_end};
 use crate::stops::group_of;
-use base::numbers::MISSING;
 use base::rows::WorkRow;
 use base::runs::sum_up;
 use routes::levels::Level;
@@ -26,6 +23,7 @@ use routes::levels::Level;
 // The most wires, and so the most groups.
 pub const WIRES_MOST: usize = 8_192;
 
+// Stays (C interface): stops are rows of numbers, in work space that the caller lends.
 // How a stop's row says that it has its level: not at all, from the last kept stop, or its own.
 pub const KIND_DROPPED: u32 = 0;
 
@@ -33,45 +31,47 @@ pub const KIND_SHARED: u32 = 1;
 
 pub const KIND_OWN: u32 = 2;
 
-// T4: a stop's base; `previous` is one more than the previous stop's, or 0.
-fn stop_x(previous: u32, x: u32) -> u32
-    requires { x < MISSING }
-    ensures { (result < MISSING) × ((f : FoundX) → previous ≡ link f → result ≡ stop_x f x) }
+// The last stops of a group: the x of the last one, and the last one that was kept.
+#[derive(Clone, Copy)]
+pub struct GroupEnd {
+    pub previous: Option<u32>,
+    pub kept: Option<KeptStop>,
+}
+
+// A kept stop: its base and its level.
+#[derive(Clone, Copy)]
+pub struct KeptStop {
+    pub base: u32,
+    pub level: u32,
+}
+
+// T4: a stop's base, by the previous stop's.
+fn stop_x(previous: Option<u32>, x: u32) -> u32
+    ensures { (f : Found) → previous ≡ level_answer f → result ≡ stop_x f x }
 {
-    if previous == 0 {
-        return x;
+    match previous {
+        Some(p) if is_near(x, p) => p,
+        _ => x,
     }
-    let p = previous - 1;
-    if is_near(x, p) {
-        return p;
-    }
-    x
 }
 
 // The level of a stop at `base`: that of the group's last kept stop where that has this base, else one that the finder gives.
-fn level_of(
-    starts: &[u32],
-    nexts: &[u32],
-    xs: &[u32],
-    end: [u32; 4],
-    tap: [u32; 8],
-    lane: u32,
-    base: u32,
-    top: u32,
-) -> Level
-    requires growing { Growing KEYS starts.now nexts.now xs.now × (length xs.now < MISSING) }
-    requires tap_bound { ((tap_in tap).row < ROWS_MOST) × (lane < LANES_MOST) × (base < MISSING) }
-    ensures { (b : Board) (ss : List Stop) → run_in starts.now nexts.now xs.now (tap_in tap).row ≡ levels_on ss (tap_in tap).page (tap_in tap).row
-        → run_in starts.now nexts.now xs.now (lane_key lane) ≡ claims_on ss (tap_in tap).page lane
+fn level_of(runs: &LevelRuns, end: GroupEnd, tap: [u32; 8], lane: u32, base: u32, top: u32) -> Level
+    requires growing { Growing KEYS runs.now.starts runs.now.nexts runs.now.xs }
+    requires tap_bound { ((tap_in tap).row < ROWS_MOST) × (lane < LANES_MOST) }
+    ensures { (b : Board) (ss : List Stop) → run_in runs.now.starts runs.now.nexts runs.now.xs (tap_in tap).row ≡ levels_on ss (tap_in tap).page (tap_in tap).row
+        → run_in runs.now.starts runs.now.nexts runs.now.xs (lane_key lane) ≡ claims_on ss (tap_in tap).page lane
         → level_with_base ss (tap_in tap).group base ≡ kept_end end base → top ≡ row_top b (tap_in tap).page (tap_in tap).row
         → result ≡ stop_answer (level_of b ss lane base (tap_in tap)) }
 {
-    if end[1] == base + 1 {
-        return Level::Shared(end[2]);
+    if let Some(kept) = end.kept {
+        if kept.base == base {
+            return Level::Shared(kept.level);
+        }
     }
-    match find_in_runs(starts, nexts, xs, tap[2], lane, base, top) {
-        Found::At(level) => Level::Own(level),
-        Found::None => Level::Dropped,
+    match runs.find(tap[2], lane, base, top) {
+        Some(level) => Level::Own(level),
+        None => Level::Dropped,
     }
 }
 
@@ -80,39 +80,38 @@ fn stop_row(tap: [u32; 8], lane: u32, base: u32, level: Level) -> [u32; 8]
     ensures { (v : StopsLevel) → level ≡ stop_answer v
         → stop_in result ≡ record { page = (tap_in tap).page; lane = lane; group = (tap_in tap).group; row = (tap_in tap).row; base = base; level = v } }
 {
-    match level {
-        Level::Dropped => [tap[0], lane, tap[1], tap[2], base, 0, KIND_DROPPED, 0],
-        Level::Shared(l) => [tap[0], lane, tap[1], tap[2], base, l, KIND_SHARED, 0],
-        Level::Own(l) => [tap[0], lane, tap[1], tap[2], base, l, KIND_OWN, 0],
-    }
+    let (l, kind) = match level {
+        Level::Dropped => (0, KIND_DROPPED),
+        Level::Shared(l) => (l, KIND_SHARED),
+        Level::Own(l) => (l, KIND_OWN),
+    };
+    [tap[0], lane, tap[1], tap[2], base, l, kind, 0]
 }
 
 // The level that a stop is kept at, or none.
-fn kept_at(level: Level) -> Found
+fn kept_at(level: Level) -> Option<u32>
     ensures { (v : StopsLevel) → level ≡ stop_answer v → result ≡ level_answer (kept_at v) }
 {
     match level {
-        Level::Dropped => Found::None,
-        Level::Shared(l) => Found::At(l),
-        Level::Own(l) => Found::At(l),
+        Level::Dropped => None,
+        Level::Shared(l) | Level::Own(l) => Some(l),
     }
 }
 
 // Group `g` has a stop more, the last one from here on.
-fn note_end(ends: &mut [[u32; 4]], g: usize, base: u32, level: Level)
-    requires { (g < length ends.old) × (base < MISSING) }
+fn note_end(ends: &mut [GroupEnd], g: usize, base: u32, level: Level)
+    requires { g < length ends.old }
     ensures { (ss : List Stop) (s : Stop) → s.group ≡ g → s.base ≡ base → level ≡ stop_answer s.level
         → Ends ends.old ss → Ends ends.new (s ∷ ss) }
 {
-    match kept_at(level) {
-        Found::At(l) => {
-            ends[g] = [base + 1, base + 1, l, 0];
-        }
-        Found::None => {
-            let end = ends[g];
-            ends[g] = [base + 1, end[1], end[2], 0];
-        }
-    }
+    let kept = match kept_at(level) {
+        Some(l) => Some(KeptStop { base, level: l }),
+        None => ends[g].kept,
+    };
+    ends[g] = GroupEnd {
+        previous: Some(base),
+        kept,
+    };
 }
 
 // Lays the stop of a tap that is the first of its group on its row, in a lane and under a row's top: one more of `s` stops.
@@ -121,26 +120,24 @@ fn lay_stop(
     lane: u32,
     top: u32,
     stops: &mut [WorkRow],
-    ends: &mut [[u32; 4]],
-    starts: &[u32],
-    nexts: &mut [u32],
-    xs: &mut [u32],
+    ends: &mut [GroupEnd],
+    runs: &mut LevelRuns,
     s: usize,
 )
-    requires stop_index { StopIndex (s + 1) stops.old ends.old s × ((tap_in tap).group < WIRES_MOST) × ((tap_in tap).x < MISSING) }
-    requires page_runs { PageRuns (tap_in tap).page (view stop_in stops.old s) starts.now nexts.old xs.old × RoomFor (tap_in tap).row lane starts.now nexts.old }
-    ensures stop_laid { StopLaid (tap_in tap).page (tap_in tap).row lane stops.new ends.new starts.now nexts.old nexts.new xs.new (s + 1) }
+    requires stop_index { StopIndex (s + 1) stops.old ends.old s × ((tap_in tap).group < WIRES_MOST) }
+    requires page_runs { PageRuns (tap_in tap).page (view stop_in stops.old s) runs.old.starts runs.old.nexts runs.old.xs × RoomFor (tap_in tap).row lane runs.old.starts runs.old.nexts }
+    ensures starts_kept { runs.new.starts ≡ runs.old.starts }
+    ensures stop_laid { StopLaid (tap_in tap).page (tap_in tap).row lane stops.new ends.new runs.old.starts runs.old.nexts runs.new.nexts runs.new.xs (s + 1) }
     ensures s_after { (b : Board) → top ≡ row_top b (tap_in tap).page (tap_in tap).row
         → view stop_in stops.new (s + 1) ≡ (stop_for b (view stop_in stops.old s) lane (tap_in tap) ∷ view stop_in stops.old s) }
 {
     let g = group_of(tap);
     let end = ends[g];
-    let x = tap[4];
-    let base = stop_x(end[0], x);
-    let level = level_of(starts, nexts, xs, end, tap, lane, base, top);
+    let base = stop_x(end.previous, tap[4]);
+    let level = level_of(runs, end, tap, lane, base, top);
     stops[s] = stop_row(tap, lane, base, level);
     note_end(ends, g, base, level);
-    keep_level(nexts, xs, tap[2], lane, level);
+    runs.keep(tap[2], lane, level);
 }
 
 // Whether the tap in row `k` is the first of its group on its row.
@@ -148,15 +145,7 @@ fn is_new_row(laid: &[WorkRow], k: usize) -> bool
     requires { k < length laid.now }
     ensures { result ≡ new_row (view tap_in laid.now k) (tap_in (get_or laid.now k [])) }
 {
-    if k == 0 {
-        return true;
-    }
-    let before = laid[k - 1];
-    let tap = laid[k];
-    if before[1] != tap[1] {
-        return true;
-    }
-    before[2] != tap[2]
+    k == 0 || laid[k - 1][1] != laid[k][1] || laid[k - 1][2] != laid[k][2]
 }
 
 // Lays the stop of the tap in row `k`, where it is the first of its group on its row: how many stops there are then.
@@ -166,16 +155,15 @@ fn lay_tap(
     laid: &[WorkRow],
     k: usize,
     stops: &mut [WorkRow],
-    ends: &mut [[u32; 4]],
-    starts: &[u32],
-    nexts: &mut [u32],
-    xs: &mut [u32],
+    ends: &mut [GroupEnd],
+    runs: &mut LevelRuns,
     s: usize,
 ) -> usize
     requires laid_fits { LaidFits facts.now groups.now laid.now (k + 1) }
     requires stop_index { StopIndex (k + 1) stops.old ends.old s × (s ≤ k) }
-    requires page_runs { PageRuns (field laid.now k 0) (view stop_in stops.old s) starts.now nexts.old xs.old × RoomFor (field laid.now k 2) (field groups.now (field laid.now k 1) 4) starts.now nexts.old }
-    ensures stop_laid { StopLaid (field laid.now k 0) (field laid.now k 2) (field groups.now (field laid.now k 1) 4) stops.new ends.new starts.now nexts.old nexts.new xs.new result }
+    requires page_runs { PageRuns (field laid.now k 0) (view stop_in stops.old s) runs.old.starts runs.old.nexts runs.old.xs × RoomFor (field laid.now k 2) (field groups.now (field laid.now k 1) 4) runs.old.starts runs.old.nexts }
+    ensures starts_kept { runs.new.starts ≡ runs.old.starts }
+    ensures stop_laid { StopLaid (field laid.now k 0) (field laid.now k 2) (field groups.now (field laid.now k 1) 4) stops.new ends.new runs.old.starts runs.old.nexts runs.new.nexts runs.new.xs result }
     ensures upper_bound { (result ≤ k + 1) × ((b : Board) (ps : List PageLanes)
         → LaidFacts b ps facts.now groups.now laid.now (k + 1)
         → view stop_in stops.old s ≡ stops_of b ps (view tap_in laid.now k)
@@ -188,17 +176,7 @@ fn lay_tap(
     let g = group_of(tap);
     let w = tap[7] as usize;
     let target = facts[w][3] as usize;
-    lay_stop(
-        tap,
-        groups[g][4],
-        facts[target][1],
-        stops,
-        ends,
-        starts,
-        nexts,
-        xs,
-        s,
-    );
+    lay_stop(tap, groups[g][4], facts[target][1], stops, ends, runs, s);
     s + 1
 }
 
@@ -210,16 +188,14 @@ fn fill_page(
     a: usize,
     e: usize,
     stops: &mut [WorkRow],
-    ends: &mut [[u32; 4]],
-    starts: &[u32],
-    nexts: &mut [u32],
-    xs: &mut [u32],
+    ends: &mut [GroupEnd],
+    runs: &mut LevelRuns,
     s: usize,
 ) -> usize
     requires laid_fits { LaidFits facts.now groups.now laid.now e × OnePage laid.now a e × (a ≤ e) }
     requires stop_index { StopIndex e stops.old ends.old s × (s ≤ a) }
-    requires page_runs { PageRuns (field laid.now a 0) (view stop_in stops.old s) starts.now nexts.old xs.old }
-    requires wide { Wide groups.now laid.now a (e - a) starts.now × Used groups.now laid.now a 0 starts.now nexts.old }
+    requires page_runs { PageRuns (field laid.now a 0) (view stop_in stops.old s) runs.old.starts runs.old.nexts runs.old.xs }
+    requires wide { Wide groups.now laid.now a (e - a) runs.old.starts × Used groups.now laid.now a 0 runs.old.starts runs.old.nexts }
     ensures stop_index_2 { StopIndex e stops.new ends.new result × NoneFrom (suc (field laid.now a 0)) (view stop_in stops.new result) }
     ensures upper_bound { (result ≤ e) × ((b : Board) (ps : List PageLanes)
         → LaidFacts b ps facts.now groups.now laid.now e
@@ -227,12 +203,8 @@ fn fill_page(
         → view stop_in stops.new result ≡ stops_of b ps (view tap_in laid.now e)) }
 {
     let mut count = s;
-    let mut k = a;
-    while k < e {
-        count = lay_tap(
-            facts, groups, laid, k, stops, ends, starts, nexts, xs, count,
-        );
-        k += 1;
+    for k in a..e {
+        count = lay_tap(facts, groups, laid, k, stops, ends, runs, count);
     }
     count
 }
@@ -245,7 +217,7 @@ fn lay_page(
     a: usize,
     e: usize,
     stops: &mut [WorkRow],
-    ends: &mut [[u32; 4]],
+    ends: &mut [GroupEnd],
     s: usize,
 ) -> usize
     requires laid_fits { LaidFits facts.now groups.now laid.now e × OnePage laid.now a e × (a ≤ e) }
@@ -260,31 +232,31 @@ fn lay_page(
     let mut starts = [0u32; KEYS + 1];
     count_taps(groups, laid, a, e, &mut starts);
     sum_up(&mut starts, KEYS + 1);
-    let mut nexts = starts;
-    let mut xs = [0u32; 2 * WIRES_MOST];
-    fill_page(
-        facts, groups, laid, a, e, stops, ends, &starts, &mut nexts, &mut xs, s,
-    )
+    let mut runs = LevelRuns {
+        starts,
+        nexts: starts,
+        xs: [0u32; 2 * WIRES_MOST],
+    };
+    fill_page(facts, groups, laid, a, e, stops, ends, &mut runs, s)
 }
 
-// Lays the stops of the first `n` laid taps, page by page.
+// Lays the stops of the laid taps, page by page.
 fn fill_stops(
     facts: &[WorkRow],
     groups: &[WorkRow],
     laid: &[WorkRow],
-    n: usize,
     stops: &mut [WorkRow],
-    ends: &mut [[u32; 4]],
+    ends: &mut [GroupEnd],
 ) -> usize
-    requires { LaidFits facts.now groups.now laid.now n × StopIndex n stops.old ends.old 0 }
-    ensures { (result ≤ n) × ((b : Board) (ps : List PageLanes)
-        → LaidFacts b ps facts.now groups.now laid.now n
-        → view stop_in stops.new result ≡ stops_of b ps (view tap_in laid.now n)) }
+    requires { LaidFits facts.now groups.now laid.now (length laid.now) × StopIndex (length laid.now) stops.old ends.old 0 }
+    ensures { (result ≤ length laid.now) × ((b : Board) (ps : List PageLanes)
+        → LaidFacts b ps facts.now groups.now laid.now (length laid.now)
+        → view stop_in stops.new result ≡ stops_of b ps (view tap_in laid.now (length laid.now))) }
 {
     let mut count: usize = 0;
     let mut k: usize = 0;
-    while k < n {
-        let e = page_end(laid, n, k);
+    while k < laid.len() {
+        let e = page_end(laid, k);
         count = lay_page(facts, groups, laid, k, e, stops, ends, count);
         k = e;
     }
@@ -296,14 +268,17 @@ pub fn lane_stops(
     facts: &[WorkRow],
     groups: &[WorkRow],
     laid: &[WorkRow],
-    n: usize,
     stops: &mut [WorkRow],
 ) -> usize
-    requires { LaidFits facts.now groups.now laid.now n × (n ≤ length stops.old) }
-    ensures { (result ≤ n) × ((b : Board) (ps : List PageLanes)
-        → LaidFacts b ps facts.now groups.now laid.now n
-        → view stop_in stops.new result ≡ stops_of b ps (view tap_in laid.now n)) }
+    requires { LaidFits facts.now groups.now laid.now (length laid.now) × (length laid.now ≤ length stops.old) }
+    ensures { (result ≤ length laid.now) × ((b : Board) (ps : List PageLanes)
+        → LaidFacts b ps facts.now groups.now laid.now (length laid.now)
+        → view stop_in stops.new result ≡ stops_of b ps (view tap_in laid.now (length laid.now))) }
 {
-    let mut ends = [[0u32; 4]; WIRES_MOST];
-    fill_stops(facts, groups, laid, n, stops, &mut ends)
+    let none = GroupEnd {
+        previous: None,
+        kept: None,
+    };
+    let mut ends = [none; WIRES_MOST];
+    fill_stops(facts, groups, laid, stops, &mut ends)
 }

@@ -8,39 +8,23 @@ use base::numbers::REROUTER_SIZE;
 // Levels go upward by this: a rerouter apart.
 pub const STAGGER_STEP: u32 = 2;
 
-// A level, or none.
-#[derive(Clone, Copy)]
-pub enum Found {
-    None,
-    At(u32),
-}
-
 // T4: whether two x are less than 2 apart.
 pub fn is_near(x: u32, p: u32) -> bool
     ensures { result ≡ near x p }
 {
-    if x < p {
-        return p - x < REROUTER_SIZE;
-    }
-    x - p < REROUTER_SIZE
+    x.abs_diff(p) < REROUTER_SIZE
 }
 
 // Whether a rerouter at `level` ends within the row.
 pub fn is_within(level: u32, top: u32) -> bool
     ensures { result ≡ leb (level + STAGGER_STEP) top }
 {
-    if top < level {
-        return false;
-    }
-    STAGGER_STEP <= top - level
+    STAGGER_STEP <= top.saturating_sub(level)
 }
 
 // V3: how many levels there are from a base up to a top.
 pub fn levels_in(base: u32, top: u32) -> u32
     ensures { result ≡ levels_in base top }
 {
-    if top < base {
-        return 0;
-    }
-    (top - base) / STAGGER_STEP
+    top.saturating_sub(base) / STAGGER_STEP
 }

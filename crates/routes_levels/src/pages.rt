@@ -10,7 +10,7 @@ ghost use Rattle.routes_levels.specs.Laying.{level_answer, stop_answer, PlacesFi
 ghost use Rattle.routes_levels.specs.Pages.{KEYS, lane_key, claim_of, levels_on, claims_on, Grown, Runs, RoomFor, Onward, share, OnePage};
 
 use crate::finding::find_level;
-use crate::levels::Found;
+use crate::laying::WIRES_MOST;
 use crate::stops::group_of;
 use base::growing::put;
 use base::rows::WorkRow;
@@ -44,78 +44,74 @@ pub fn count_taps(groups: &[WorkRow], laid: &[WorkRow], a: usize, e: usize, coun
     ensures by_index { (k : ℕ) → get_or counts.new k 0 ≡ share groups.now laid.now a k (e - a) }
     ensures by_index_2 { (n : ℕ) → sums (λ j. get_or counts.new j 0) n ≤ 2 * (e - a) }
 {
-    let mut i = a;
-    while i < e {
+    for i in a..e {
         let tap = laid[i];
         let g = group_of(tap);
         count_key(counts, tap[2] as usize);
         count_key(counts, lane_key(groups[g][4]));
-        i += 1;
     }
 }
 
 // Where the page of the a-th tap ends.
-pub fn page_end(laid: &[WorkRow], n: usize, a: usize) -> usize
-    requires { (a < n) × (n ≤ length laid.now) }
-    ensures { (a < result) × (result ≤ n) × OnePage laid.now a result × (result < n → field laid.now result 0 ≡ field laid.now a 0 → ⊥) }
+pub fn page_end(laid: &[WorkRow], a: usize) -> usize
+    requires { a < length laid.now }
+    ensures { (a < result) × (result ≤ length laid.now) × OnePage laid.now a result × (result < length laid.now → field laid.now result 0 ≡ field laid.now a 0 → ⊥) }
 {
     let page = laid[a][0];
-    let mut e = a + 1;
-    while e < n {
+    for e in a + 1..laid.len() {
         if laid[e][0] != page {
             return e;
         }
-        e += 1;
     }
-    e
+    laid.len()
 }
 
-// The level of a stop on a row and in a lane, by what their runs hold.
-pub fn find_in_runs(
-    starts: &[u32],
-    nexts: &[u32],
-    xs: &[u32],
-    row: u32,
-    lane: u32,
-    base: u32,
-    top: u32,
-) -> Found
-    requires growing { Growing KEYS starts.now nexts.now xs.now × (length xs.now < MISSING) }
-    requires row_bound { (row < ROWS_MOST) × (lane < LANES_MOST) × (base < MISSING) }
-    ensures { (ss : List Stop) (p : ℕ) → run_in starts.now nexts.now xs.now row ≡ levels_on ss p row
-        → run_in starts.now nexts.now xs.now (lane_key lane) ≡ claims_on ss p lane → result ≡ level_answer (find_level ss p lane row base top) }
-{
-    let r = row as usize;
-    let k = lane_key(lane);
-    let row_start = starts[r] as usize;
-    let row_end = nexts[r] as usize;
-    let lane_start = starts[k] as usize;
-    let lane_end = nexts[k] as usize;
-    find_level(
-        &xs[row_start..row_end],
-        &xs[lane_start..lane_end],
-        base,
-        top,
-    )
+// The runs of a page: where each starts, where its next level goes, and the levels.
+#[derive(Drop)]
+pub struct LevelRuns {
+    pub starts: [u32; KEYS + 1],
+    pub nexts: [u32; KEYS + 1],
+    pub xs: [u32; 2 * WIRES_MOST],
 }
 
-// A kept stop's level goes to the run of its row, an own level to that of its lane too.
-pub fn keep_level(nexts: &mut [u32], xs: &mut [u32], row: u32, lane: u32, level: Level)
-    requires row_bound { (row < ROWS_MOST) × (lane_key lane < length nexts.old) × (length xs.old < MISSING) }
-    requires row_in_bounds { (get_or nexts.old row 0 < length xs.old) × (get_or nexts.old (lane_key lane) 0 < length xs.old) }
-    ensures onward { Onward row (lane_key lane) nexts.old nexts.new }
-    ensures runs { (v : StopsLevel) (starts : List ℕ) (rows lanes rows' lanes' : ℕ → List ℕ) → level ≡ stop_answer v
-        → Runs rows lanes starts nexts.old xs.old → RoomFor row lane starts nexts.old → Grown row (kept_at v) rows rows' → Grown lane (claim_of v) lanes lanes'
-        → Runs rows' lanes' starts nexts.new xs.new }
-{
-    match level {
-        Level::Dropped => {}
-        Level::Shared(l) => {
-            put(nexts, xs, row as usize, l);
-        }
-        Level::Own(l) => {
-            put(nexts, xs, row as usize, l);
-            put(nexts, xs, lane_key(lane), l);
+impl LevelRuns {
+    // The level of a stop on a row and in a lane, by what their runs hold.
+    pub fn find(&self, row: u32, lane: u32, base: u32, top: u32) -> Option<u32>
+        requires growing { Growing KEYS self.now.starts self.now.nexts self.now.xs }
+        requires row_bound { (row < ROWS_MOST) × (lane < LANES_MOST) }
+        ensures { (ss : List Stop) (p : ℕ) → run_in self.now.starts self.now.nexts self.now.xs row ≡ levels_on ss p row
+            → run_in self.now.starts self.now.nexts self.now.xs (lane_key lane) ≡ claims_on ss p lane → result ≡ level_answer (find_level ss p lane row base top) }
+    {
+        let r = row as usize;
+        let k = lane_key(lane);
+        let xs: &[u32] = &self.xs;
+        find_level(
+            &xs[self.starts[r] as usize..self.nexts[r] as usize],
+            &xs[self.starts[k] as usize..self.nexts[k] as usize],
+            base,
+            top,
+        )
+    }
+
+    // A kept stop's level goes to the run of its row, an own level to that of its lane too.
+    pub fn keep(&mut self, row: u32, lane: u32, level: Level)
+        requires row_bound { (row < ROWS_MOST) × (lane < LANES_MOST) }
+        requires row_in_bounds { (get_or self.old.nexts row 0 < length self.old.xs) × (get_or self.old.nexts (lane_key lane) 0 < length self.old.xs) }
+        ensures starts_kept { self.new.starts ≡ self.old.starts }
+        ensures onward { Onward row (lane_key lane) self.old.nexts self.new.nexts }
+        ensures runs { (v : StopsLevel) (starts : List ℕ) (rows lanes rows' lanes' : ℕ → List ℕ) → level ≡ stop_answer v
+            → Runs rows lanes starts self.old.nexts self.old.xs → RoomFor row lane starts self.old.nexts → Grown row (kept_at v) rows rows' → Grown lane (claim_of v) lanes lanes'
+            → Runs rows' lanes' starts self.new.nexts self.new.xs }
+    {
+        match level {
+            Level::Dropped => {}
+            Level::Shared(l) => {
+                put(&mut self.nexts, &mut self.xs, row as usize, l);
+            }
+            Level::Own(l) => {
+                put(&mut self.nexts, &mut self.xs, row as usize, l);
+                put(&mut self.nexts, &mut self.xs, lane_key(lane), l);
+            }
         }
     }
 }

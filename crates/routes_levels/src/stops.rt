@@ -19,18 +19,6 @@ use base::sort::sort_rows;
 // A lane whose source and taps span less is already a short hop.
 pub const MIN_LANE_TRAVEL: u32 = 6;
 
-pub fn lesser(a: u32, b: u32) -> u32
-    ensures { result ≡ min a b }
-{
-    if a < b { a } else { b }
-}
-
-fn greater(a: u32, b: u32) -> u32
-    ensures { result ≡ max a b }
-{
-    if a < b { b } else { a }
-}
-
 // T1: whether the source anchor of group `g` is unplaced, or taps and source lie far enough apart.
 pub fn long_enough(nodes: &[Record], facts: &[WorkRow], groups: &[WorkRow], g: usize) -> bool
     requires { GroupFits nodes.now facts.now groups.now g }
@@ -43,8 +31,8 @@ pub fn long_enough(nodes: &[Record], facts: &[WorkRow], groups: &[WorkRow], g: u
     if x == MISSING {
         return true;
     }
-    let low = lesser(x, groups[g][5]);
-    let high = greater(x, groups[g][6]);
+    let low = x.min(groups[g][5]);
+    let high = x.max(groups[g][6]);
     MIN_LANE_TRAVEL <= high - low
 }
 
@@ -55,10 +43,7 @@ fn is_laid(nodes: &[Record], facts: &[WorkRow], groups: &[WorkRow], g: usize) ->
         → Tabled b ts ps nodes.now facts.now groups.now
         → Memᴰ t ts → t.group ≡ g → result ≡ is_laid b ts ps t }
 {
-    if groups[g][4] == MISSING {
-        return false;
-    }
-    long_enough(nodes, facts, groups, g)
+    groups[g][4] != MISSING && long_enough(nodes, facts, groups, g)
 }
 
 // The group of a tap's row, which has eight numbers.
@@ -74,20 +59,17 @@ fn pick_laid(
     facts: &[WorkRow],
     groups: &[WorkRow],
     taps: &[WorkRow],
-    m: usize,
     laid: &mut [WorkRow],
 ) -> usize
-    requires taps_fit { TapsFit nodes.now facts.now groups.now taps.now m }
-    requires m_in_bounds { m ≤ length laid.old }
-    ensures upper_bound { result ≤ m }
+    requires taps_fit { TapsFit nodes.now facts.now groups.now taps.now }
+    requires room { length taps.now ≤ length laid.old }
+    ensures upper_bound { result ≤ length taps.now }
     ensures laid_after { (b : Board) (ps : List PageLanes)
-        → Tabled b (view tap_in taps.now m) ps nodes.now facts.now groups.now
-        → take result laid.new ≡ map tap_row (keep (is_laid b (view tap_in taps.now m) ps) (view tap_in taps.now m)) }
+        → Tabled b (view tap_in taps.now (length taps.now)) ps nodes.now facts.now groups.now
+        → take result laid.new ≡ map tap_row (keep (is_laid b (view tap_in taps.now (length taps.now)) ps) (view tap_in taps.now (length taps.now))) }
 {
     let mut n: usize = 0;
-    let mut k = m;
-    while 0 < k {
-        k -= 1;
+    for k in (0..taps.len()).rev() {
         let tap = taps[k];
         if is_laid(nodes, facts, groups, group_of(tap)) {
             laid[n] = tap;
@@ -109,41 +91,38 @@ fn pack_place(tap: [u32; 8], i: usize) -> u64
     (group * 4_096 + (tap[2] % 4_096) as u64) * NUMBERS + i as u64
 }
 
-// The packed places of the first n rows.
-fn fill_keys(rows: &[WorkRow], n: usize, keys: &mut [u64])
-    requires { (n ≤ length rows.now) × (n ≤ length keys.old) × (n ≤ WIRES_MOST) }
-    ensures { Numbered keys.new n }
+// The packed places of the rows.
+fn fill_keys(rows: &[WorkRow], keys: &mut [u64])
+    requires { (length rows.now ≡ length keys.old) × (length rows.now ≤ WIRES_MOST) }
+    ensures { Numbered keys.new (length rows.now) }
 {
-    let mut i: usize = 0;
-    while i < n {
-        keys[i] = pack_place(rows[i], i);
-        i += 1;
+    for (i, row) in rows.iter().enumerate() {
+        keys[i] = pack_place(*row, i);
     }
 }
 
 // Copies the rows whose numbers stand behind the keys.
-fn copy_along(keys: &[u64], n: usize, from: &[WorkRow], to: &mut [WorkRow])
-    requires n_in_bounds { (n ≤ length keys.now) × (n ≤ length to.old) }
-    requires by_index { (p : ℕ) → p < n → get_or keys.now p 0 % WIRES_MOST < length from.now }
-    ensures { take n to.new ≡ map (row_at from.now) (take n keys.now) }
+fn copy_along(keys: &[u64], from: &[WorkRow], to: &mut [WorkRow])
+    requires room { length keys.now ≤ length to.old }
+    requires by_index { (p : ℕ) → p < length keys.now → get_or keys.now p 0 % WIRES_MOST < length from.now }
+    ensures { take (length keys.now) to.new ≡ map (row_at from.now) keys.now }
 {
-    let mut p: usize = 0;
-    while p < n {
-        to[p] = from[(keys[p] % NUMBERS) as usize];
-        p += 1;
+    for (i, key) in keys.iter().enumerate() {
+        to[i] = from[(*key % NUMBERS) as usize];
     }
 }
 
-// Copies the first n rows nearly in the order of T2: by page, group and row. Sorting them all the way then hardly moves a row.
-fn bring_near(from: &[WorkRow], n: usize, to: &mut [WorkRow])
-    requires { (n ≤ length from.now) × (n ≤ length to.old) × (n ≤ WIRES_MOST) }
-    ensures { sorted_rows (take n to.new) ≡ sorted_rows (take n from.now) }
+// Copies the rows nearly in the order of T2: by page, group and row. Sorting them all the way then hardly moves a row.
+fn bring_near(from: &[WorkRow], to: &mut [WorkRow])
+    requires { (length from.now ≤ length to.old) × (length from.now ≤ WIRES_MOST) }
+    ensures { sorted_rows (take (length from.now) to.new) ≡ sorted_rows from.now }
 {
-    let mut keys = [0u64; 8192];
+    let mut places = [0u64; 8192];
     let mut spare = [0u64; 8192];
-    fill_keys(from, n, &mut keys);
-    sort_keys(&mut keys[..n], &mut spare);
-    copy_along(&keys, n, from, to);
+    let keys = &mut places[..from.len()];
+    fill_keys(from, keys);
+    sort_keys(keys, &mut spare);
+    copy_along(keys, from, to);
 }
 
 // The taps of the laid groups in the order of laying, in the first rows of `laid`: how many there are.
@@ -152,19 +131,18 @@ pub fn lay_taps(
     facts: &[WorkRow],
     groups: &[WorkRow],
     taps: &[WorkRow],
-    m: usize,
     laid: &mut [WorkRow],
     spare: &mut [WorkRow],
 ) -> usize
-    requires taps_fit { TapsFit nodes.now facts.now groups.now taps.now m }
-    requires m_in_bounds { (m ≤ length laid.old) × (m ≤ length spare.old) }
-    ensures upper_bound { result ≤ m }
+    requires taps_fit { TapsFit nodes.now facts.now groups.now taps.now }
+    requires room { (length taps.now ≤ length laid.old) × (length taps.now ≤ length spare.old) }
+    ensures upper_bound { result ≤ length taps.now }
     ensures result_after { (b : Board) (ps : List PageLanes)
-        → Tabled b (view tap_in taps.now m) ps nodes.now facts.now groups.now
-        → view tap_in laid.new result ≡ laid_taps b (view tap_in taps.now m) ps }
+        → Tabled b (view tap_in taps.now (length taps.now)) ps nodes.now facts.now groups.now
+        → view tap_in laid.new result ≡ laid_taps b (view tap_in taps.now (length taps.now)) ps }
 {
-    let n = pick_laid(nodes, facts, groups, taps, m, spare);
-    bring_near(spare, n, laid);
+    let n = pick_laid(nodes, facts, groups, taps, spare);
+    bring_near(&spare[..n], laid);
     sort_rows(&mut laid[..n], spare);
     n
 }

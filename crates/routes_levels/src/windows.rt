@@ -6,7 +6,7 @@ ghost use Rattle.routes.specs.Levels.{STAGGER_STEP, lowest};
 ghost use Rattle.routes_levels.specs.Laying.{level_answer};
 ghost use Rattle.routes_levels.specs.Search.{counted, weigh, near_one, load_in, open_in, free_in, picked, Weighed, Best};
 
-use crate::levels::{Found, STAGGER_STEP, is_near};
+use crate::levels::{STAGGER_STEP, is_near};
 use base::numbers::{MISSING, REROUTER_SIZE};
 
 // What a claimed level weighs: more than any load.
@@ -15,7 +15,7 @@ pub const CLAIMED: u32 = MISSING;
 // The lightest level so far and its load, which is that of a claimed level where there is none.
 #[derive(Clone, Copy)]
 pub struct Lightest {
-    pub level: Found,
+    pub level: Option<u32>,
     pub load: u32,
 }
 
@@ -43,10 +43,8 @@ fn count_levels(row: &[u32], start: u32, loads: &mut [u32])
     requires { (length row.now < MISSING) × ((j : ℕ) → j < length loads.old → get_or loads.old j 0 ≡ 0) }
     ensures { (j : ℕ) → j < length loads.old → get_or loads.new j 0 ≡ load_in row.now (start + STAGGER_STEP * j) }
 {
-    let mut i: usize = 0;
-    while i < row.len() {
-        count_level(loads, start, row[i]);
-        i += 1;
+    for level in row {
+        count_level(loads, start, *level);
     }
 }
 
@@ -78,10 +76,8 @@ fn mark_claim(loads: &mut [u32], start: u32, claim: u32)
 fn mark_claims(lane: &[u32], start: u32, loads: &mut [u32])
     ensures { (j : ℕ) → j < length loads.old → get_or loads.new j 0 ≡ weigh (near_one lane.now (start + STAGGER_STEP * j) (length lane.now)) (get_or loads.old j 0) }
 {
-    let mut i: usize = 0;
-    while i < lane.len() {
-        mark_claim(loads, start, lane[i]);
-        i += 1;
+    for claim in lane {
+        mark_claim(loads, start, *claim);
     }
 }
 
@@ -94,75 +90,65 @@ pub fn weigh_window(row: &[u32], lane: &[u32], start: u32, loads: &mut [u32])
     mark_claims(lane, start, loads);
 }
 
-// V3: the lowest free level of the first `size` of a window, or none.
-pub fn lowest_in(loads: &[u32], start: u32, size: u32) -> Found
-    requires { (size ≤ length loads.now) × (start + STAGGER_STEP * size ≤ MISSING) }
-    ensures { (row lane : List ℕ) → Weighed row lane start loads.now → result ≡ level_answer (lowest (free_in row lane) start size) }
+// V3: the lowest free level of a window, or none.
+pub fn lowest_in(loads: &[u32], start: u32) -> Option<u32>
+    requires { start + STAGGER_STEP * length loads.now ≤ MISSING }
+    ensures { (row lane : List ℕ) → Weighed row lane start loads.now → result ≡ level_answer (lowest (free_in row lane) start (length loads.now)) }
 {
-    let mut j: u32 = 0;
+    // Stays (no plainer): the scope names this form, a loop that yields by break.
+    let mut j = 0;
     let found = loop {
-        if size <= j {
-            break Found::None;
+        if loads.len() <= j {
+            break None;
         }
-        if loads[j as usize] == 0 {
-            break Found::At(start + STAGGER_STEP * j);
+        if loads[j] == 0 {
+            break Some(start + STAGGER_STEP * j as u32);
         }
         j += 1;
     };
     found
 }
 
-// V7: the lightest of the first `size` levels of a window and of those above it, of equals the lowest. It goes from the highest down, so that the last one
-// taken is the lowest.
-pub fn lightest_in(loads: &[u32], start: u32, size: u32, best: Lightest) -> Lightest
-    requires { (size ≤ length loads.now) × (start + STAGGER_STEP * size ≤ MISSING) }
-    ensures { (row lane : List ℕ) (base count k : ℕ) → length row < MISSING → Weighed row lane start loads.now → start ≡ base + STAGGER_STEP * k → k + size ≤ count
-        → Best (open_in lane) (load_in row) base count (k + size) best.level best.load → Best (open_in lane) (load_in row) base count k result.level result.load }
+// V7: the lightest of the levels of a window and of those above it, of equals the lowest. It goes from the highest down, so that the last one taken is the lowest.
+pub fn lightest_in(loads: &[u32], start: u32, best: Lightest) -> Lightest
+    requires { start + STAGGER_STEP * length loads.now ≤ MISSING }
+    ensures { (row lane : List ℕ) (base count k : ℕ) → length row < MISSING → Weighed row lane start loads.now → start ≡ base + STAGGER_STEP * k → k + length loads.now ≤ count
+        → Best (open_in lane) (load_in row) base count (k + length loads.now) best.level best.load → Best (open_in lane) (load_in row) base count k result.level result.load }
 {
     let mut level = best.level;
     let mut least = best.load;
-    let mut j = size;
-    while 0 < j {
-        j -= 1;
-        let load = loads[j as usize];
-        if load != CLAIMED {
-            if load <= least {
-                level = Found::At(start + STAGGER_STEP * j);
-                least = load;
-            }
+    for j in (0..loads.len()).rev() {
+        let load = loads[j];
+        if load != CLAIMED && load <= least {
+            level = Some(start + STAGGER_STEP * j as u32);
+            least = load;
         }
     }
-    Lightest {
-        level: level,
-        load: least,
-    }
+    Lightest { level, load: least }
 }
 
-// V3, V7: of the first `size` levels of a window the lowest free one, else the lightest that can be claimed, or none.
-pub fn pick_in(loads: &[u32], start: u32, size: u32) -> Found
-    requires { (size ≤ length loads.now) × (start + STAGGER_STEP * size ≤ MISSING) }
-    ensures { (row lane : List ℕ) → length row < MISSING → Weighed row lane start loads.now → result ≡ level_answer (picked row lane start size) }
+// V3, V7: of the levels of a window the lowest free one, else the lightest that can be claimed, or none.
+pub fn pick_in(loads: &[u32], start: u32) -> Option<u32>
+    requires { start + STAGGER_STEP * length loads.now ≤ MISSING }
+    ensures { (row lane : List ℕ) → length row < MISSING → Weighed row lane start loads.now → result ≡ level_answer (picked row lane start (length loads.now)) }
 {
-    if let Found::At(level) = lowest_in(loads, start, size) {
-        return Found::At(level);
+    if let Some(level) = lowest_in(loads, start) {
+        return Some(level);
     }
     let none = Lightest {
-        level: Found::None,
+        level: None,
         load: CLAIMED,
     };
-    let best = lightest_in(loads, start, size, none);
-    best.level
+    lightest_in(loads, start, none).level
 }
 
-// `claim_column`'s test: no claim of the lane overlaps the span of 2 at `level`.
+// `claim_column`'s test: no claim of the lane overlaps the span of 2 at `level`. It goes on after a hit, so that the compiler takes several claims at a time.
 pub fn is_unclaimed(lane: &[u32], level: u32) -> bool
     ensures { result ≡ open_in lane.now level }
 {
     let mut hit = false;
-    let mut i: usize = 0;
-    while i < lane.len() {
-        hit = is_near(level, lane[i]) | hit;
-        i += 1;
+    for claim in lane {
+        hit |= is_near(level, *claim);
     }
     !hit
 }

@@ -1,5 +1,6 @@
 -- Deliveries counted by the rows of the bus wires.
-use Rattle.std.proofs.Common.{◌≡◌, ℕ, suc, ◌+◌, ◌≤◌, Bool, true, false, not, eqb, List, [], ◌∷◌, ◌++◌, length, get_or, sym, refl, ap, ◌∙◌, add-one, arith, eq-eqb, ne_eqb}
+use Rattle.std.proofs.Common.{◌≡◌, ℕ, zero, suc, ◌+◌, ◌≤◌, Bool, true, false, not, eqb, List, [], ◌∷◌, ◌++◌, length, get_or, take, count_by, sym, refl, ap, ◌∙◌, add-one, arith, ne_eqb}
+use Rattle.std.proofs.lemmas.List.Sums.{count_by_more_yes, count_by_more_no}
 use mathlib.Core.List.Memᴰ
 use Rattle.sheet.specs.Table.{MISSING}
 use Rattle.base.specs.Lists.{keep}
@@ -45,14 +46,12 @@ rows_deliver (w ∷ l) old h f =
     ap (λ r. length (keep names_wire r)) (view_more (λ row. row) (written_over wire_row l old) (length l) (wire_row w) (omega arith))
     ∙ counted w (view (λ row. row) (written_over wire_row l old) (length l)) l (names_wire_lem w (f w (Memᴰ.head refl))) (rows_deliver l old (omega arith) (λ v m. f v (Memᴰ.tail m)))
 
--- One row more, counted or passed over.
-module _ (rows : List (List ℕ)) (i count : ℕ) (so_far : count ≡ delivery_rows rows i) where
-  pub one_delivers : (get_or (get_or rows i []) 4 0 ≡ MISSING → ⊥) → count + 1 ≡ delivery_rows rows (i + 1)
-  one_delivers h =
-      rw (add-one i, add-one count)
-      (sym (ap length (keep_yes names_wire (get_or rows i []) (view (λ row. row) rows i) (ap not (ne_eqb (get_or (get_or rows i []) 4 0) MISSING h))) ∙ ap suc (sym so_far)))
-
-  pub one_passed : get_or (get_or rows i []) 4 0 ≡ MISSING → count ≡ delivery_rows rows (i + 1)
-  one_passed h =
-      rw (add-one i)
-      (so_far ∙ sym (ap length (keep_no names_wire (get_or rows i []) (view (λ row. row) rows i) (ap not (eq-eqb (get_or (get_or rows i []) 4 0) MISSING h)))))
+-- The deliveries of the first rows, as the library counts them.
+pub deliveries_counted : (rows : List (List ℕ)) (k : ℕ) → k ≤ length rows → count_by names_wire (take k rows) ≡ delivery_rows rows k
+deliveries_counted rows zero h = refl
+deliveries_counted rows (suc k) h =
+    ap (λ n. count_by names_wire (take n rows)) (sym (add-one k)) ∙ go (names_wire (get_or rows k [])) refl (deliveries_counted rows k (omega arith))
+  where
+    go : (t : Bool) → names_wire (get_or rows k []) ≡ t → count_by names_wire (take k rows) ≡ delivery_rows rows k → count_by names_wire (take (k + 1) rows) ≡ delivery_rows rows (suc k)
+    go true t ih = count_by_more_yes names_wire rows k [] (omega arith) t ∙ add-one _ ∙ ap suc ih ∙ sym (ap length (keep_yes names_wire (get_or rows k []) (view (λ row. row) rows k) t))
+    go false t ih = count_by_more_no names_wire rows k [] (omega arith) t ∙ ih ∙ sym (ap length (keep_no names_wire (get_or rows k []) (view (λ row. row) rows k) t))

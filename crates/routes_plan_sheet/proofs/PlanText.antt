@@ -15,7 +15,7 @@ use Rattle.routes_plan_sheet.specs.declared.plan_sheet.Totals.{Totals}
 use Rattle.routes.proofs.Rows.{RerouterFits, EndFit, CarriesFit, WireFits, rerouter_back}
 use Rattle.routes.specs.PlanSheet.{line, numbered, lane_line, rerouter_line, wire_line, port_line, end_fields, carries_fields, plan_sheet, total_line}
 use Rattle.routes_plan_sheet.proofs.Lines.{letter_port}
-use Rattle.routes_plan_sheet.specs.Fields.{rerouter_line_in, wire_text, wire_text_in, port_line_in, lane_line_in, letter_of, lines_in, total_text, plan_text}
+use Rattle.routes_plan_sheet.specs.Fields.{rerouter_line_in, wire_text, wire_text_in, port_line_in, lane_line_in, letter_of, total_text, plan_text}
 
 -- Lines by rows are lines by elements, where each row gives its element's line.
 pub numbered_rows {ℓ} : {A : Type ℓ} (row : A → List ℕ) (oneIn : ℕ → List ℕ → List ℕ) (one : ℕ → A → List ℕ) (Fits : A → Type 0)
@@ -88,14 +88,14 @@ plan_text_lem b ps bus laid pages rerouters wires ports t h =
     (λ i. pages_eq i ++ (rerouters_eq i ++ wires_eq i ++ (ports_eq i ++ total_text (h.total i))))
     ∙ ap (λ l. numbered lane_line 0 ps ++ l) (append_assoc (numbered rerouter_line 0 (reverse bus.rerouters)) (numbered wire_line 0 (reverse bus.wires)) (numbered port_line 0 bus.ports ++ total_line b bus laid))
   where
-    pages_eq : lines_in lane_line_in pages (length ps) ≡ numbered lane_line 0 ps
+    pages_eq : numbered lane_line_in 0 (take (length ps) pages) ≡ numbered lane_line 0 ps
     pages_eq = ap (numbered lane_line_in 0) h.lanes ∙ numbered_rows page_row lane_line_in lane_line (λ _. Unit {0}) lane_line_lem ps (λ x m. tt) 0
 
-    rerouters_eq : lines_in rerouter_line_in rerouters (length bus.rerouters) ≡ numbered rerouter_line 0 (reverse bus.rerouters)
+    rerouters_eq : numbered rerouter_line_in 0 (take (length bus.rerouters) rerouters) ≡ numbered rerouter_line 0 (reverse bus.rerouters)
     rerouters_eq = ap (numbered rerouter_line_in 0) h.rerouter_rows ∙ numbered_rows rerouter_row rerouter_line_in rerouter_line RerouterFits rerouter_line_lem (reverse bus.rerouters) h.rerouters_fit 0
 
-    wires_eq : lines_in wire_text_in wires (length bus.wires) ≡ numbered wire_line 0 (reverse bus.wires)
+    wires_eq : numbered wire_text_in 0 (take (length bus.wires) wires) ≡ numbered wire_line 0 (reverse bus.wires)
     wires_eq = ap (numbered wire_text_in 0) h.bus_wires ∙ numbered_rows wire_row wire_text_in wire_line WireFits wire_line_lem (reverse bus.wires) h.wires_fit 0
 
-    ports_eq : lines_in port_line_in ports (length bus.ports) ≡ numbered port_line 0 bus.ports
+    ports_eq : numbered port_line_in 0 (take (length bus.ports) ports) ≡ numbered port_line 0 bus.ports
     ports_eq = ap (numbered port_line_in 0) h.suppressed ∙ numbered_rows port_row port_line_in port_line (λ _. Unit {0}) port_line_lem bus.ports (λ x m. tt) 0

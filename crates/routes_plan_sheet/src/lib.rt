@@ -6,39 +6,23 @@ use base::rows::{BusWireRow, PageRow, PortRow, RerouterRow};
 
 pub mod plan_sheet;
 
-ghost use Rattle.std.specs.Prelude.{◌≡◌, ◌-◌, ◌<◌, ◌≤◌, List, length};
+ghost use Rattle.std.specs.Prelude.{◌≡◌, ◌<◌, ◌≤◌, List, length};
+ghost use Rattle.std.specs.List.{count_by};
 ghost use Rattle.sheet.specs.Written.{Wrote};
 ghost use Rattle.board.specs.Board.{Board};
 ghost use Rattle.board.specs.Demands.{PageLanes};
 ghost use Rattle.routes_plan_sheet.specs.Fields.{PlanFits};
 ghost use Rattle.routes.specs.Plan.{finished, laid_groups};
 ghost use Rattle.routes.specs.PlanSheet.{plan_sheet};
-ghost use Rattle.routes_plan_sheet.specs.Held.{delivery_rows, totals_of, PlanHeld};
+ghost use Rattle.routes_plan_sheet.specs.Held.{names_wire, totals_of, PlanHeld};
 
 use crate::plan_sheet::{Totals, put_plan};
 
-// How many of the first k bus wires are deliveries: those that name a wire.
-fn count_deliveries(bus_wires: &[BusWireRow], k: usize) -> usize
-    requires { k ≤ length bus_wires.now }
-    ensures { (result ≡ delivery_rows bus_wires.now k) × (result ≤ k) }
+// How many bus wires are deliveries: those that name a wire.
+fn count_deliveries(bus_wires: &[BusWireRow]) -> usize
+    ensures { (result ≡ count_by names_wire bus_wires.now) × (result ≤ length bus_wires.now) }
 {
-    let mut count: usize = 0;
-    let mut i: usize = 0;
-    while i < k {
-        let wire = bus_wires[i][4];
-        i += 1;
-        if wire != MISSING {
-            count += 1;
-        }
-    }
-    count
-}
-
-// a less b, and 0 where b is more.
-fn less(a: usize, b: usize) -> usize
-    ensures { result ≡ a - b }
-{
-    if a < b { 0 } else { a - b }
+    bus_wires.iter().filter(|wire| wire[4] != MISSING).count()
 }
 
 // P6: the counts of the last line.
@@ -46,12 +30,11 @@ fn totals(n: usize, k: usize, deliveries: usize, wires: usize, groups: usize) ->
     requires { (n < 4294967295) × (k < 4294967295) × (deliveries ≤ k) × (wires < 4294967295) × (groups < 4294967295) }
     ensures { result ≡ totals_of n k deliveries wires groups }
 {
-    let direct = less(wires, deliveries);
     Totals {
         rerouters: n as u32,
         bus_wires: k as u32,
         deliveries: deliveries as u32,
-        direct: direct as u32,
+        direct: wires.saturating_sub(deliveries) as u32,
         laid: groups as u32,
     }
 }
@@ -76,7 +59,15 @@ pub fn write_plan(
         → PlanHeld b ps answers.now p rerouters.now n bus_wires.now k ports.now u wires groups
         → Wrote out.old 0 (plan_sheet b ps (finished b ps) (laid_groups b ps)) out.new result }
 {
-    let deliveries = count_deliveries(bus_wires, k);
+    let bus_wires = &bus_wires[..k];
+    let deliveries = count_deliveries(bus_wires);
     let t = totals(n, k, deliveries, wires, groups);
-    put_plan(out, answers, p, rerouters, n, bus_wires, k, ports, u, t)
+    put_plan(
+        out,
+        &answers[..p],
+        &rerouters[..n],
+        bus_wires,
+        &ports[..u],
+        t,
+    )
 }

@@ -1,20 +1,22 @@
 -- Laws of the loops: entries written from the front of a table, one store a turn.
-use Prim.Native.Nat.{ℕ, suc, ◌+◌, ◌-◌, ◌≤◌, ◌<◌}
+use Prim.Native.Nat.{ℕ, zero, suc, ◌+◌, ◌-◌, ◌≤◌, ◌<◌}
 use native.Mathlib.Omega.{arith}
 use native.Mathlib.Numerals.{add-one}
 use mathlib.Core.Path.{◌≡◌, refl, sym, ap, ◌∙◌}
 use mathlib.Core.Bool.{Bool, true, false, not, ◌&&◌}
 use mathlib.Core.List.{List, [], ◌∷◌, ◌++◌, map, map-id, map-append, append-nil, append_assoc}
 use lib.Dec.{eqb}
-use lib.ListN.{length, get_or, take, drop, set, length-set, length-append, length-map, take-append-drop, drop_of_length-le}
-use lib.Seq.{take-suc-set, drop-set-lt, drop-drop, length-take-le, drop-cons, get_or-take}
+use lib.ListN.{length, get_or, take, drop, set, length-set, length-drop, length-map, take-append-drop, drop_of_length-le}
+use lib.Seq.{take-suc-set, drop-set-lt, drop-drop, length-take-le, drop-cons, get_or-take, get_or-drop, take-suc}
 use Rattle.sheet.specs.Table.{MISSING}
 use borrow.Author.Tests.{eq-eqb, ne_eqb, not-true, not-false}
 use Rattle.base.proofs.Bools.{clash}
+use Rattle.base.proofs.Views.{map_snoc}
+use Rattle.base.specs.Views.{view}
 use Rattle.routes.specs.Bus.{BusWire, port, rerouter, onward, delivery, Port}
 use Rattle.routes.specs.Buffers.{port_row, wire_in, port_in}
 use Rattle.routes_ports.specs.Ports.{sent_to, targets}
-use Rattle.routes_ports.specs.Settling.{delivers_in, wires_from, key_port, again, unique, ports_over}
+use Rattle.routes_ports.specs.Settling.{delivers_in, wires_from, key_port, again, unique, ports_over, Settleable}
 use Rattle.routes_ports.proofs.SetLaws.{unique_again, unique_last, keys_same}
 
 -- n entries are written over `old`, which are read as the first of `front`, and `rest` is still to be.
@@ -28,13 +30,6 @@ pub record Filled {A B : Type 0} (read : A → B) (front : List B) (old now : Li
 module _ {A B : Type 0} (read : A → B) where
   pub filled_none : (front : List B) (old : List A) → length front ≤ length old → Filled read front old old 0 front
   filled_none front old h = record { fits = h; long = refl; count = omega arith; rows = refl; kept = refl }
-
-  -- Behind n entries that stand already.
-  pub filled_behind : (old : List A) (rest : List B) (n k : ℕ) → k ≡ n → n + length rest ≤ length old → Filled read (map read (take n old) ++ rest) old old k rest
-  filled_behind old rest n k e h =
-      let long : length (map read (take n old) ++ rest) ≡ n + length rest
-      = length-append (map read (take n old)) rest ∙ ap (λ k. k + length rest) (length-map (take n old) read ∙ length-take-le n old (omega arith)) in
-      rw e (record { fits = omega arith; long = refl; count = sym long; rows = refl; kept = refl })
 
 module _ {A B : Type 0} {read : A → B} {front : List B} {old now : List A} {n : ℕ} {rest : List B} (f : Filled read front old now n rest) where
   pub filled_room : (x : B) (more : List B) → rest ≡ x ∷ more → n < length now
@@ -94,25 +89,39 @@ module _ (r : List ℕ) (ws : List BusWire) where
       go true true h = refl
 
 -- The targets of the bus wires that are left, row by row.
-module _ (table : List (List ℕ)) (from : ℕ) where
-  abbrev pub sent_from : ℕ → List Port
-  sent_from left = targets (wires_from table from left)
+module _ (table : List (List ℕ)) where
+  abbrev pub sent_below : ℕ → List Port
+  sent_below left = targets (view wire_in table left)
 
   module _ (left : ℕ) (h : 0 < left) where
     abbrev row : List ℕ
-    row = get_or table (from + (left - 1)) []
+    row = get_or table (left - 1) []
 
-    unrolled : wires_from table from left ≡ wire_in row ∷ wires_from table from (left - 1)
-    unrolled = let e : left ≡ suc (left - 1) = omega arith in ap (wires_from table from) e
+    unrolled : view wire_in table left ≡ wire_in row ∷ view wire_in table (left - 1)
+    unrolled = let e : left ≡ suc (left - 1) = omega arith in ap (view wire_in table) e
 
-    pub sent_next : delivers_in row ≡ true → (key : ℕ) → key_port key ≡ port_in (get_or row 2 0 ∷ get_or row 3 0 ∷ []) → sent_from left ≡ key_port key ∷ sent_from (left - 1)
-    sent_next d key e = ap targets unrolled ∙ (row_sent row (wires_from table from (left - 1)) d ∙ ap {B = List Port} (λ p. p ∷ sent_from (left - 1)) (sym e))
+    pub sent_next : delivers_in row ≡ true → (key : ℕ) → key_port key ≡ port_in (get_or row 2 0 ∷ get_or row 3 0 ∷ []) → sent_below left ≡ key_port key ∷ sent_below (left - 1)
+    sent_next d key e = ap targets unrolled ∙ (row_sent row (view wire_in table (left - 1)) d ∙ ap {B = List Port} (λ p. p ∷ sent_below (left - 1)) (sym e))
 
-    pub sent_same : delivers_in row ≡ false → sent_from left ≡ sent_from (left - 1)
-    sent_same d = ap targets unrolled ∙ row_kept row (wires_from table from (left - 1)) d
+    pub sent_same : delivers_in row ≡ false → sent_below left ≡ sent_below (left - 1)
+    sent_same d = ap targets unrolled ∙ row_kept row (view wire_in table (left - 1)) d
 
-  pub sent_done : (left : ℕ) → left ≤ 0 → sent_from left ≡ []
-  sent_done left h = let e : left ≡ 0 = omega arith in ap sent_from e
+  pub sent_done : (left : ℕ) → left ≤ 0 → sent_below left ≡ []
+  sent_done left h = let e : left ≡ 0 = omega arith in ap sent_below e
+
+-- The bus wires of a part of the table.
+part_below : (table : List (List ℕ)) (from n k : ℕ) → k ≤ n → view wire_in (take n (drop from table)) k ≡ wires_from table from k
+part_below table from n zero h = refl
+part_below table from n (suc k) h =
+    let row : get_or (take n (drop from table)) k [] ≡ get_or table (from + k) [] = get_or-take n (drop from table) k [] (omega arith) ∙ get_or-drop from table k [] in
+    let below = part_below table from n k (omega arith) in λ w. wire_in (row w) ∷ below w
+
+pub part_gathered : {table : List (List ℕ)} {from to : ℕ} {ports : List (List ℕ)} {u : ℕ} → Settleable table from to ports u
+    → targets (view wire_in (take (to - from) (drop from table)) (length (take (to - from) (drop from table)))) ≡ targets (wires_from table from (to - from))
+part_gathered {table} {from} {to} s =
+    let n : ℕ = to - from in
+    let long : length (take n (drop from table)) ≡ n = length-take-le n (drop from table) (omega (arith, length-drop from table, s.rising, s.written)) in
+    ap targets (ap (view wire_in (take n (drop from table))) long ∙ part_below table from n n (omega arith))
 
 -- What the tests of a row say.
 pub sent_nowhere : (r : List ℕ) → get_or r 3 0 ≡ MISSING → false ≡ delivers_in r
@@ -128,25 +137,13 @@ module _ (r : List ℕ) (h : get_or r 3 0 ≡ MISSING → ⊥) where
 drop_next : {A : Type 0} (l : List A) (i : ℕ) (d : A) → i < length l → drop i l ≡ get_or l i d ∷ drop (i + 1) l
 drop_next l i d h = rw (add-one i) (drop-cons l i d h)
 
--- The ports handed in, row by row.
-module _ (ports : List (List ℕ)) (u : ℕ) where
-  abbrev pub handed_from : ℕ → List Port
-  handed_from i = map port_in (drop i (take u ports))
-
-  pub handed_length : u ≤ length ports → length (handed_from 0) ≡ u
-  handed_length h = length-map (take u ports) port_in ∙ length-take-le u ports h
-
-  pub handed_next : u ≤ length ports → (i : ℕ) → i < u → (key : ℕ) → key_port key ≡ port_in (get_or (get_or ports i []) 0 0 ∷ get_or (get_or ports i []) 1 0 ∷ [])
-      → handed_from i ≡ key_port key ∷ handed_from (i + 1)
-  handed_next h i k key e =
-      let inside : i < length (take u ports) = omega (arith, length-take-le u ports h) in
-      ap (map port_in) (drop_next (take u ports) i [] inside)
-      ∙ (ap (λ r. port_in r ∷ handed_from (i + 1)) (get_or-take u ports i [] k) ∙ ap {B = List Port} (λ p. p ∷ handed_from (i + 1)) (sym e))
-
-  pub handed_done : u ≤ length ports → (i : ℕ) → u ≤ i → handed_from i ≡ []
-  handed_done h i k =
-      let outside : length (take u ports) ≤ i = omega (arith, length-take-le u ports h) in
-      ap (map port_in) (drop_of_length-le (take u ports) outside)
+-- One port more has its key.
+pub keyed_more : (ports : List (List ℕ)) (keys : List ℕ) (i key : ℕ) → i < length ports → i < length keys
+    → key_port key ≡ port_in (get_or (get_or ports i []) 0 0 ∷ get_or (get_or ports i []) 1 0 ∷ []) → map key_port (take i keys) ≡ map port_in (take i ports)
+    → map key_port (take (i + 1) (set keys i key)) ≡ map port_in (take (i + 1) ports)
+keyed_more ports keys i key inside room e so_far =
+    rw (add-one i, take-suc-set keys i key room, take-suc ports i [] inside, map_snoc key_port (take i keys) key, map_snoc port_in (take i ports) (get_or ports i []), so_far)
+    (ap {B = List Port} (λ p. map port_in (take i ports) ++ (p ∷ [])) e)
 
 -- The keys in order, each port once.
 module _ (keys : List ℕ) where

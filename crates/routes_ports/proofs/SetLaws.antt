@@ -1,12 +1,12 @@
 -- The set of suppressed ports: sorting ports and leaving out repetitions gives it.
-use Prim.Native.Nat.{ℕ, ◌+◌, ◌-◌, ◌/◌, ◌%◌}
+use Prim.Native.Nat.{ℕ, ◌+◌, ◌-◌, ◌/◌, ◌%◌, ◌≤◌}
 use native.Mathlib.Omega.{arith}
 use mathlib.Core.Path.{◌≡◌, refl, sym, ap, ◌∙◌}
 use mathlib.Core.Bool.{Bool, true, false, ◌&&◌, ◌||◌}
-use mathlib.Core.List.{List, [], ◌∷◌, ◌++◌, map}
+use mathlib.Core.List.{List, [], ◌∷◌, ◌++◌, map, map-append}
 use lib.Dec.{eqb, ltb}
 use lib.ListN.{length, take}
-use lib.Seq.{take_at}
+use lib.Seq.{length-take-le, take-append-add, take-append-le}
 use borrow.Author.Tests.{lt-ltb, le-ltb, eq-eqb, ne_eqb}
 use Rattle.base.specs.Sort.{inserted, sorted, lex_less, sorted_keys}
 use Rattle.base.proofs.SortLaws.{inserted_past, inserted_here, lex_order, Compared, below, same, above, compared}
@@ -155,12 +155,17 @@ keys_once keys old more h =
     ap unique (sorted-map ltb port_less key_port keys_less keys ∙ ap (sorted port_less) h) ∙ (unique_sorted (more ++ old) ∙ suppress-append [] old more)
 
 -- The whole: keys gathered from bus wires, those of the ports handed in behind them, all sorted and read without repetitions.
-pub settled_once : (wires : List (List ℕ)) (from to : ℕ) (ports : List (List ℕ)) (u n : ℕ) (gathered keys sorted' rest : List ℕ)
-    → map key_port (take n gathered) ≡ targets (wires_from wires from (to - from)) → map key_port (take (n + u) keys) ≡ map key_port (take n gathered) ++ ports_held ports u
-    → length sorted' ≡ n + u → sorted' ≡ sorted_keys (take (n + u) keys) → unique (map key_port (take (n + u) (sorted' ++ rest))) ≡ settled wires from to ports u
-settled_once wires from to ports u n gathered keys sorted' rest g a long s =
-    ap (λ r. unique (map key_port r)) (take_at sorted' rest (n + u) long ∙ s)
-    ∙ keys_once (take (n + u) keys) (ports_held ports u) (targets (wires_from wires from (to - from))) (a ∙ ap (λ r. r ++ ports_held ports u) g)
+pub settled_once : (wires : List (List ℕ)) (from to : ℕ) (ports : List (List ℕ)) (u n : ℕ) (gathered added tail sorted' : List ℕ) → n ≤ length gathered → u ≤ length ports → u ≤ length added
+    → map key_port (take n gathered) ≡ targets (wires_from wires from (to - from)) → map key_port (take (length (take u ports)) added) ≡ ports_held ports u
+    → sorted' ≡ sorted_keys (take (n + u) (take n gathered ++ (added ++ tail))) → unique (map key_port sorted') ≡ settled wires from to ports u
+settled_once wires from to ports u n gathered added tail sorted' room given long g a s =
+    let front : n ≡ length (take n gathered) = sym (length-take-le n gathered room) in
+    let keys : take (n + u) (take n gathered ++ (added ++ tail)) ≡ take n gathered ++ take (length (take u ports)) added =
+    ap (λ k. take (k + u) (take n gathered ++ (added ++ tail))) front ∙ take-append-add (take n gathered) (added ++ tail) u
+    ∙ ap (λ l. take n gathered ++ l) (take-append-le u added tail long ∙ ap (λ k. take k added) (sym (length-take-le u ports given))) in
+    ap (λ r. unique (map key_port r)) s
+    ∙ keys_once (take (n + u) (take n gathered ++ (added ++ tail))) (ports_held ports u) (targets (wires_from wires from (to - from)))
+    (ap (map key_port) keys ∙ map-append key_port (take n gathered) (take (length (take u ports)) added) ∙ (λ i. g i ++ a i))
 
 -- A set of ports is ascending, and is its own set.
 abbrev Under : Port → List Port → Type 0

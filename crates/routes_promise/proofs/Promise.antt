@@ -1,11 +1,13 @@
 -- Demand 3 of the rows that `route` leaves in the buffers.
 use Prim.Native.Nat.{ℕ, ◌*◌}
-use mathlib.Core.Path.{◌≡◌, refl, sym, ◌∙◌}
+use mathlib.Core.Path.{◌≡◌, refl, sym, ap, ◌∙◌}
 use mathlib.Core.Bool.{Bool, ◌&&◌}
 use mathlib.Core.List.{List}
 use lib.Dec.{leb}
 use lib.ListN.{length}
 use borrow.Author.Tests.{leb-true}
+use Rattle.std.proofs.Common.{Result, Ok, Err}
+use Rattle.base.specs.declared.refusal.Refusal.{Refusal}
 use Rattle.sheet.specs.Table.{library_most}
 use Rattle.board.specs.Board.{Board}
 use Rattle.board.specs.Planning.{Planning, refused, lanes_for, planning, records}
@@ -20,8 +22,8 @@ use Rattle.routes.specs.Tables.{written_over}
 use Rattle.routes.specs.Plan.{finished, laid_groups}
 use Rattle.routes.specs.Route.{routed_by, fits_plan, routed}
 use Rattle.routes_ports.specs.Settling.{ports_over}
-use Rattle.routes_gutter.specs.declared.bus.BusPlan.{BusPlan}
-use Rattle.routes_gutter.specs.declared.bus.BusPlan.TheVariants.{Refused, Laid}
+use Rattle.routes_gutter.specs.declared.laying.BusLaid.{BusLaid}
+use Rattle.routes_gutter.specs.Calls.{bus_laid}
 use Rattle.routes_calls.specs.Route.{plan_fits, route_call, PlanCalled}
 use Rattle.routes_promise.specs.Promise.{Promised, RoutePromised}
 use Rattle.routes_promise.proofs.ReadBack.{done_promised}
@@ -34,26 +36,27 @@ pub rows_counted : {b : Board} (bus : Bus) (old old_wires oldPorts : List (List 
 rows_counted {b} bus old old_wires oldPorts {rerouters} {bus_wires} {ports} {n} {k} {u} r w p n-is k-is u-is promised =
     rw (r, w, p, n-is, k-is, u-is) promised
 
-module _ (text : List ℕ) (work : List ℕ) (old old_wires oldPorts oldAnswers rerouters bus_wires ports answers : List (List ℕ)) (r : BusPlan) where
+module _ (text : List ℕ) (work : List ℕ) (old old_wires oldPorts oldAnswers rerouters bus_wires ports answers : List (List ℕ)) (r : Result BusLaid Refusal) where
   abbrev fits : Board → Bool
   fits = plan_fits (length old) (length old_wires) (length oldPorts) (length oldAnswers) work
 
-  pub route_demand3 : PlanCalled (route_call text fits) old old_wires oldPorts oldAnswers rerouters bus_wires ports answers r → (n k u g : ℕ) → r ≡ Laid n k u g → RoutePromised text rerouters n bus_wires k ports u
+  pub route_demand3 : PlanCalled (route_call text fits) old old_wires oldPorts oldAnswers rerouters bus_wires ports answers r → (done : BusLaid) → r ≡ Ok done → RoutePromised text rerouters done.bus.rerouters bus_wires done.bus.bus_wires ports done.bus.ports
   unfolding route_call routed fits_plan
-  route_demand3 called n k u g is = go (planning library_most fits text) refl called
+  route_demand3 called done is = go (planning library_most fits text) refl called
     where
-      go : (p : Planning) → planning library_most fits text ≡ p → PlanCalled (routed_by finished p) old old_wires oldPorts oldAnswers rerouters bus_wires ports answers r → RoutePromised text rerouters n bus_wires k ports u
-      go (refused m l) e c = let no : Refused m l ≡ Laid n k u g = sym c.answer ∙ is in never cc
+      go : (p : Planning) → planning library_most fits text ≡ p → PlanCalled (routed_by finished p) old old_wires oldPorts oldAnswers rerouters bus_wires ports answers r → RoutePromised text rerouters done.bus.rerouters bus_wires done.bus.bus_wires ports done.bus.ports
+      go (refused d) e c = let no : Err d ≡ Ok done = sym c.answer ∙ is in never cc
       go (lanes_for b ps) e c =
           let from = lanes_from library_most text fits b ps e in
           let W : ℕ = length b.wires in
           let rest : Bool = leb W (length oldPorts) && (leb (length b.pages) (length oldAnswers) && leb (records b) (shortest work)) in
           let one = and_right (leb (5 * W) (length old)) (leb (6 * W) (length old_wires) && rest) from.fitting in
           let two = and_right (leb (6 * W) (length old_wires)) rest one in
-          let same : Laid (length (finished b ps).rerouters) (length (finished b ps).wires) (length (finished b ps).ports) (laid_groups b ps) ≡ Laid n k u g = sym c.answer ∙ is in
-          let n-is : n ≡ length (finished b ps).rerouters = cc in
-          let k-is : k ≡ length (finished b ps).wires = cc in
-          let u-is : u ≡ length (finished b ps).ports = cc in
+          let same : Ok (bus_laid (finished b ps) (laid_groups b ps)) ≡ Ok done = sym c.answer ∙ is in
+          let whole : bus_laid (finished b ps) (laid_groups b ps) ≡ done = cc in
+          let n-is : done.bus.rerouters ≡ length (finished b ps).rerouters = sym (ap (λ (z : BusLaid). z.bus.rerouters) whole) in
+          let k-is : done.bus.bus_wires ≡ length (finished b ps).wires = sym (ap (λ (z : BusLaid). z.bus.bus_wires) whole) in
+          let u-is : done.bus.ports ≡ length (finished b ps).ports = sym (ap (λ (z : BusLaid). z.bus.ports) whole) in
           record {
             drawn = b;
             accepted = from.accepted;

@@ -7,6 +7,10 @@ use mathlib.Core.List.{List, ◌∷◌}
 use lib.Dec.{leb}
 use lib.ListN.{length, length-append}
 use borrow.Author.Tests.{le-leb, leb-true}
+use Rattle.std.proofs.Common.{Result, Ok, Err}
+use Rattle.base.specs.declared.refusal.Reason.TheVariants.{NoRoom}
+use Rattle.base.specs.declared.refusal.Refusal.{Refusal}
+use Rattle.base.specs.Refusal.{refusal}
 use Rattle.sheet.specs.declared.Counts.{Counts}
 use Rattle.sheet.specs.Table.{library_most}
 use Rattle.base.specs.Lists.{keep, upto}
@@ -20,7 +24,6 @@ use Rattle.board.proofs.Accepting.{sheet_accepted}
 use Rattle.base.proofs.Bools.{and_left, and_right}
 use Rattle.board_plan.specs.TextPlan.{shortest}
 use Rattle.board_plan.specs.PagesPlan.{plan_call, PagesPlanned}
-use Rattle.board_plan.specs.declared.PagesPlan.{PagesPlan}
 use Rattle.board.proofs.Planning.{planning_refused, planning_fine, LanesFrom, lanes_from}
 use Rattle.board_plan.proofs.Calling.{within_library}
 use Rattle.routes.specs.Bus.{Bus}
@@ -33,8 +36,7 @@ use Rattle.routes.proofs.Rows.{written_again}
 use Rattle.routes_corners.specs.Turning.{has_room}
 use Rattle.routes_ports.specs.Settling.{ports_over}
 use Rattle.routes_ports.proofs.Laid.{cornered}
-use Rattle.routes_gutter.specs.declared.bus.BusPlan.{BusPlan}
-use Rattle.routes_gutter.specs.declared.bus.BusPlan.TheVariants.{Refused}
+use Rattle.routes_gutter.specs.declared.laying.BusLaid.{BusLaid}
 use Rattle.routes_gutter.specs.Calls.{bus_answer, bus_fits, lay_call, BusCalled}
 use Rattle.routes.specs.declared.bus.BusCounts.{BusCounts}
 use Rattle.routes_calls.specs.Mini.{holds, bus_given, held_fits, mini_by, mini_fits, mini_call}
@@ -50,9 +52,9 @@ pub planning_all : (most : Counts) (text : List ℕ) (fits : Board → Bool) →
 planning_all most text fits h = go (judged most text) refl
   where
     go : (j : Judged) → judged most text ≡ j → planning most fits text ≡ planning most (λ b. true) text
-    go (Refusals.turned_away n l) e = planning_refused most text fits n l e ∙ sym (planning_refused most text (λ b. true) n l e)
+    go (Refusals.turned_away r) e = planning_refused most text fits r e ∙ sym (planning_refused most text (λ b. true) r e)
     go (board b) e =
-        planning_fine most text fits b e ∙ ap (λ (t : Bool). elim t as (λ _. Planning) [ true ↦ crowding b (plan_lanes b) | false ↦ refused 7 0 ]) (h b e)
+        planning_fine most text fits b e ∙ ap (λ (t : Bool). elim t as (λ _. Planning) [ true ↦ crowding b (plan_lanes b) | false ↦ refused (refusal NoRoom 0) ]) (h b e)
         ∙ sym (planning_fine most text (λ b. true) b e)
 
 -- At most as many wires turn as there are.
@@ -66,7 +68,7 @@ kept_few p (suc n) = go (p n) (kept_few p n)
 
 -- Counts of zero leave room.
 abbrev none : BusCounts
-none = counts_left (Refused 0 0)
+none = record { rerouters = 0; bus_wires = 0; ports = 0 }
 
 none_fits : (rerouters bus_wires ports : List (List ℕ)) (b : Board) → held_fits rerouters bus_wires ports none b ≡ true
 unfolding holds has_room turnable
@@ -101,7 +103,7 @@ long_enough_lem b lent work h =
       ports = leb-true W (length lent.ports) (and_left (leb W (length lent.ports)) (leb (records b) (shortest work)) two);
     }
 
-module _ (text : List ℕ) (planWork layWork miniWork : List ℕ) (before between after : Buffers) (pagesAnswer : PagesPlan) (lanesAnswer cornersAnswer : BusPlan) (named : AsNamed text planWork layWork miniWork before)
+module _ (text : List ℕ) (planWork layWork miniWork : List ℕ) (before between after : Buffers) (pagesAnswer : Result ℕ Refusal) (lanesAnswer cornersAnswer : Result BusLaid Refusal) (named : AsNamed text planWork layWork miniWork before)
     (called : CalledInTurn text planWork layWork miniWork before between after pagesAnswer lanesAnswer cornersAnswer) where
   pages_are : PagesPlanned (decided text) before.answers after.answers pagesAnswer
   unfolding plan_call
@@ -129,17 +131,17 @@ module _ (text : List ℕ) (planWork layWork miniWork : List ℕ) (before betwee
         (λ b e. rw (still_named b e, given b e) refl))) called.lay_mini_bus
 
   -- A text that is turned away.
-  module _ (n l : ℕ) (is : decided text ≡ refused n l) where
-    without_lanes : BusCalled (turned_away n l) before.rerouters before.bus_wires before.ports between.rerouters between.bus_wires between.ports lanesAnswer
+  module _ (r : Refusal) (is : decided text ≡ refused r) where
+    without_lanes : BusCalled (turned_away r) before.rerouters before.bus_wires before.ports between.rerouters between.bus_wires between.ports lanesAnswer
     without_lanes = called_same (ap (routed_by bus_of) is) lanes_are
 
-    no_corners : BusCalled (turned_away n l) between.rerouters between.bus_wires between.ports after.rerouters after.bus_wires after.ports cornersAnswer
+    no_corners : BusCalled (turned_away r) between.rerouters between.bus_wires between.ports after.rerouters after.bus_wires after.ports cornersAnswer
     no_corners =
         called_same (ap (mini_by between.rerouters between.bus_wires between.ports (counts_left lanesAnswer)) is)
         (corners_are (ap length without_lanes.rerouters_are) (ap length without_lanes.wires_are) (ap length without_lanes.ports_are)
-        (λ b e. ap (λ (a : BusPlan). held_fits between.rerouters between.bus_wires between.ports (counts_left a) b) without_lanes.answer ∙ none_fits between.rerouters between.bus_wires between.ports b))
+        (λ b e. ap (λ (a : Result BusLaid Refusal). held_fits between.rerouters between.bus_wires between.ports (counts_left a) b) without_lanes.answer ∙ none_fits between.rerouters between.bus_wires between.ports b))
 
-    pub all_refuse : AllRefuse n l before between after pagesAnswer lanesAnswer cornersAnswer
+    pub all_refuse : AllRefuse r before between after pagesAnswer lanesAnswer cornersAnswer
     unfolding pages_after
     all_refuse =
         let no_pages = subst (λ (p : Planning). PagesPlanned p before.answers after.answers pagesAnswer) is pages_are in
@@ -267,11 +269,11 @@ module _ (text : List ℕ) (planWork layWork miniWork : List ℕ) (before betwee
   three_calls = go (decided text) refl
     where
       go : (p : Planning) → decided text ≡ p → Outcome p before between after pagesAnswer lanesAnswer cornersAnswer
-      go (refused n l) e = all_refuse n l e
+      go (refused d) e = all_refuse d e
       go (lanes_for b ps) e = plan_left b ps e
 
   -- `route`, lent the same buffers and work space as named, leaves the same in them and answers the same.
-  module _ (work : List ℕ) (routed-after : Buffers) (answer : BusPlan)
+  module _ (work : List ℕ) (routed-after : Buffers) (answer : Result BusLaid Refusal)
       (fits : (b : Board) → judged library_most text ≡ board b → plan_fits (length before.rerouters) (length before.bus_wires) (length before.ports) (length before.answers) work b ≡ true)
       (promise : PlanCalled (route_call text (plan_fits (length before.rerouters) (length before.bus_wires) (length before.ports) (length before.answers) work))
       before.rerouters before.bus_wires before.ports before.answers routed-after.rerouters routed-after.bus_wires routed-after.ports routed-after.answers answer) where
@@ -286,9 +288,9 @@ module _ (text : List ℕ) (planWork layWork miniWork : List ℕ) (before betwee
     route_same = go (decided text) refl
       where
         go : (p : Planning) → decided text ≡ p → (routed-after ≡ after) × (answer ≡ route_answer lanesAnswer cornersAnswer)
-        go (refused n l) e =
+        go (refused d) e =
             let r = subst At e route_is in
-            let a = all_refuse n l e in
+            let a = all_refuse d e in
             let s = a.unaltered_still in (
               (λ i. record { rerouters = (r.rerouters_are ∙ sym s.0) i; bus_wires = (r.wires_are ∙ sym s.1) i; ports = (r.ports_are ∙ sym s.2) i; answers = (r.answers_are ∙ sym s.3) i }),
               r.answer ∙ sym (λ i. route_answer (a.without_lanes i) (a.no_corners i)),

@@ -1,8 +1,9 @@
 -- A level found by what is booked, a question weighed, and an item decided: what its cell, its answer and the notes then are. Assumes nothing.
 use Prim.Native.Nat.{ℕ, zero, suc, ◌+◌, ◌-◌, ◌*◌, ◌≤◌, ◌<◌}
 use mathlib.Core.Path.{◌≡◌, refl, ap, sym, subst, ◌∙◌}
+use Rattle.std.proofs.Common.{Option, None, Some, unwrap_or, take, drop, length-take-le, ltb-true, ltb-false}
 use mathlib.Core.Bool.{Bool, true, false, not, ◌&&◌}
-use mathlib.Core.List.{List, ◌∷◌}
+use mathlib.Core.List.{List, ◌∷◌, ◌++◌}
 use native.Mathlib.Omega.{arith}
 use lib.Dec.{eqb, ltb, leb}
 use lib.ListN.{length, get_or, set}
@@ -13,18 +14,15 @@ use Rattle.base.proofs.Bools.{never, and_false, pick_true, pick_false}
 use Rattle.board.specs.Rows.{cells_overlap}
 use Rattle.board.specs.Tables.{held}
 use Rattle.routes.specs.Levels.{lowest, lighter, lightest}
-use Rattle.routes_levels.specs.Laying.{level_answer}
-use Rattle.routes_levels.specs.declared.levels.Found.{Found as LevelFound}
-use Rattle.routes_levels.specs.declared.levels.Found.TheVariants.{None, At}
-use Rattle.routes_levels.proofs.Searches.{found_at, found_none}
 use Rattle.routes_rows.specs.Booking.{cell_of, item_cell, order_at, no_cell}
 use Rattle.routes_rows.specs.Blocked.{count_in, level_no, Spread, NoEnds, NoEndsPast}
-use Rattle.routes_rows.specs.Notes.{row_no, Noted, Begun}
+use Rattle.routes_rows.specs.Notes.{CLASSES, row_no, Noted, NotesFit, Begun}
 use Rattle.routes_rows.specs.Turning.{Entry, corner_y, sink_in, class_in, clear_at, load_at, of_class, level_at, answer_if}
-use Rattle.routes_rows.specs.Entries.{LEVELS_END, level_in, cell_entry, corner_box, corner_entry, entry_for, row_before, span_of, span_for, BlockedBy, level_by, TellsClear, Turnable, Weighed, Laid, Decidable, Decided}
+use Rattle.routes_rows.specs.Entries.{LEVELS_END, level_in, cell_entry, corner_box, corner_entry, entry_for, row_before, span_of, span_for, BlockedBy, BlockedFor, RowFits, level_by, level_told, TellsClear, Askable, Sought, Turnable, Weighed, Laid, Decidable, Decided}
 use Rattle.routes_rows.specs.declared.book.Cell.{Cell}
-use Rattle.routes_rows.proofs.Blocking.{leb-not}
-use Rattle.routes_rows.proofs.NoteLaws.{blocked_kept, past_kept, ends_kept, noted_more, noted_plain}
+use Rattle.routes_rows.proofs.Blocking.{leb-not, part_all, part_first, part_rest, spread_in}
+use Rattle.routes_rows.proofs.Searching.{found_at, found_none, lowest_closed, lightest_closed}
+use Rattle.routes_rows.proofs.NoteLaws.{noted_same, notes_fit, blocked_kept, past_kept, ends_kept, noted_more, noted_plain}
 
 -- ---- a level that is found lies in the span
 lowest_within : (free : ℕ → Bool) (x n l : ℕ) → lowest free x n ≡ at l → (l + 2 ≤ x + 2 * n) × (0 < n)
@@ -69,16 +67,16 @@ module _ (booked : List Entry) (span : Cell) (sink class : ℕ) where
   unfolding level_by
   taken o = pick_true (of_class booked class) none _ o
 
-  pub level_taken : {r : Bool} → r ≡ of_class booked class → r ≡ true → None ≡ level_answer (level_by booked span sink class)
-  level_taken is o = sym (ap level_answer (taken (sym is ∙ o)))
+  pub level_taken : {r : Bool} → r ≡ of_class booked class → r ≡ true → None ≡ level_told (level_by booked span sink class)
+  level_taken is o = sym (ap level_told (taken (sym is ∙ o)))
 
-  pub level_lowest : {r : Bool} {found : LevelFound} {l : ℕ} → r ≡ of_class booked class → r ≡ false → found ≡ level_answer low → found ≡ At l → At l ≡ level_answer (level_by booked span sink class)
-  level_lowest {l = l} is o e q = sym (ap level_answer (ways (at l) (sym is ∙ o) (found_at low l (sym q ∙ e))))
+  pub level_lowest : {r : Bool} {found : Option ℕ} {l : ℕ} → r ≡ of_class booked class → r ≡ false → found ≡ level_told low → found ≡ Some l → Some l ≡ level_told (level_by booked span sink class)
+  level_lowest {l = l} is o e q = sym (ap level_told (ways (at l) (sym is ∙ o) (found_at low l (sym q ∙ e))))
 
-  pub level_lightest : {r : Bool} {found best : LevelFound} → r ≡ of_class booked class → r ≡ false → found ≡ level_answer low → found ≡ None → best ≡ level_answer light → best ≡ level_answer (level_by booked span sink class)
-  level_lightest is o e q f = f ∙ sym (ap level_answer (ways none (sym is ∙ o) (found_none low (sym q ∙ e))))
+  pub level_lightest : {r : Bool} {found best : Option ℕ} → r ≡ of_class booked class → r ≡ false → found ≡ level_told low → found ≡ None → best ≡ level_told light → best ≡ level_told (level_by booked span sink class)
+  level_lightest is o e q f = f ∙ sym (ap level_told (ways none (sym is ∙ o) (found_none low (sym q ∙ e))))
 
-  level_within : (l : ℕ) → At l ≡ level_answer (level_by booked span sink class) → l + 2 ≤ span.x1
+  level_within : (l : ℕ) → Some l ≡ level_told (level_by booked span sink class) → l + 2 ≤ span.x1
   level_within l e = go (of_class booked class) refl low refl (found_at (level_by booked span sink class) l e)
     where
       inside : (l + 2 ≤ span.x0 + 2 * count_in span) × (0 < count_in span) → l + 2 ≤ span.x1
@@ -90,23 +88,7 @@ module _ (booked : List Entry) (span : Cell) (sink class : ℕ) where
       go false o (at k) q is = inside (lowest_within (λ l. eqb (load_at booked sink l) 0 && clear_at booked span.y0 l) span.x0 (count_in span) l (q ∙ sym (ways (at k) o q) ∙ is))
 
 -- where no level is clear none is found
-lowest_closed : (free : ℕ → Bool) (x n : ℕ) → ((k : ℕ) → k < n → free (x + 2 * k) ≡ false) → lowest free x n ≡ none
-lowest_closed free x zero h = refl
-lowest_closed free x (suc n) h =
-    let z : x + 2 * 0 ≡ x = omega arith in
-    let here : free x ≡ false = subst (λ (l : ℕ). free l ≡ false) z (h 0 (omega arith)) in
-    pick_false (free x) (at x) (lowest free (x + 2) n) here
-    ∙ lowest_closed free (x + 2) n (λ k low. let z : x + 2 * suc k ≡ x + 2 + 2 * k = omega arith in subst (λ (l : ℕ). free l ≡ false) z (h (suc k) (omega (arith, low))))
-
-lightest_closed : (ok : ℕ → Bool) (load : ℕ → ℕ) (x n : ℕ) → ((k : ℕ) → k < n → ok (x + 2 * k) ≡ false) → lightest ok load x n ≡ none
-lightest_closed ok load x zero h = refl
-lightest_closed ok load x (suc n) h =
-    let z : x + 2 * 0 ≡ x = omega arith in
-    let here : ok x ≡ false = subst (λ (l : ℕ). ok l ≡ false) z (h 0 (omega arith)) in
-    pick_false (ok x) (lighter load x (lightest ok load (x + 2) n)) (lightest ok load (x + 2) n) here
-    ∙ lightest_closed ok load (x + 2) n (λ k low. let z : x + 2 * suc k ≡ x + 2 + 2 * k = omega arith in subst (λ (l : ℕ). ok l ≡ false) z (h (suc k) (omega (arith, low))))
-
-pub level_closed : (booked : List Entry) (span : Cell) (sink class : ℕ) → ((k : ℕ) → k < count_in span → clear_at booked span.y0 (level_no span k) ≡ false) → None ≡ level_answer (level_by booked span sink class)
+pub level_closed : (booked : List Entry) (span : Cell) (sink class : ℕ) → ((k : ℕ) → k < count_in span → clear_at booked span.y0 (level_no span k) ≡ false) → None ≡ level_told (level_by booked span sink class)
 level_closed booked span sink class h = go (of_class booked class) refl
   where
     free : ℕ → Bool
@@ -118,9 +100,9 @@ level_closed booked span sink class h = go (of_class booked class) refl
     light : lightest (clear_at booked span.y0) (load_at booked sink) span.x0 (count_in span) ≡ none
     light = lightest_closed (clear_at booked span.y0) (load_at booked sink) span.x0 (count_in span) h
 
-    go : (t : Bool) → of_class booked class ≡ t → None ≡ level_answer (level_by booked span sink class)
+    go : (t : Bool) → of_class booked class ≡ t → None ≡ level_told (level_by booked span sink class)
     go true o = level_taken booked span sink class (sym o) refl
-    go false o = level_lightest booked span sink class (sym o) refl (ap level_answer (sym low)) refl (ap level_answer (sym light))
+    go false o = level_lightest booked span sink class (sym o) refl (ap level_told (sym low)) refl (ap level_told (sym light))
 
 level_by_lem : (items : List (List ℕ)) (booked : List Entry) (i : ℕ) → level_at items booked i ≡ level_by booked (span_of items i) (sink_in items i) (class_in items i)
 unfolding level_at level_by
@@ -141,9 +123,9 @@ past_corner : (items : List (List ℕ)) (first i : ℕ) (ends : List ℕ) → fi
 past_corner items first i ends l past = subst (λ (s : Cell). NoEndsPast (count_in s) ends) (pick_false (ltb i first) no_cell (span_of items i) (le-ltb i first l)) past
 
 -- ---- a level told is read again
-pub level_told : (f : Found) → ((l : ℕ) → f ≡ at l → l < LEVELS_END) → level_in (held f) ≡ f
-level_told none few = pick_false (ltb MISSING LEVELS_END) (at MISSING) none (le-ltb MISSING LEVELS_END (omega arith))
-level_told (at l) few = pick_true (ltb l LEVELS_END) (at l) none (lt-ltb l LEVELS_END (few l refl))
+pub told_back : (f : Found) → ((l : ℕ) → f ≡ at l → l < LEVELS_END) → level_in (held f) ≡ f
+told_back none few = pick_false (ltb MISSING LEVELS_END) (at MISSING) none (le-ltb MISSING LEVELS_END (omega arith))
+told_back (at l) few = pick_true (ltb l LEVELS_END) (at l) none (lt-ltb l LEVELS_END (few l refl))
 
 -- ---- a question weighed: by the level found in its span, and told
 module _ (items : List (List ℕ)) (p first : ℕ) (answers : List ℕ) where
@@ -153,17 +135,98 @@ module _ (items : List (List ℕ)) (p first : ℕ) (answers : List ℕ) where
   abbrev answer : Found
   answer = level_at items (row_before items first answers p) here
 
-  pub weighed_by : (notes notes' : List ℕ) (span : Cell) (found : LevelFound) (level : ℕ) → span ≡ span_of items here → span.x1 ≤ MISSING
-      → found ≡ level_answer (level_by (row_before items first answers p) span (sink_in items here) (class_in items here)) → ((g : Found) → found ≡ level_answer g → level ≡ held g)
+  pub weighed_by : (notes notes' : List ℕ) (span : Cell) (found : Option ℕ) (level : ℕ) → span ≡ span_of items here → span.x1 ≤ MISSING
+      → found ≡ level_told (level_by (row_before items first answers p) span (sink_in items here) (class_in items here)) → ((g : Found) → found ≡ level_told g → level ≡ held g)
       → length notes' ≡ length notes → NoEnds notes' → row_no notes' ≡ row_no notes → Noted (row_before items first answers p) (order_at items p - first) notes' → Weighed items p first answers notes notes' level
   weighed_by notes notes' span found level spans top by told long zeros rows noted =
       record { told = told answer is; within = few; long = long; no_ends = zeros; rows = rows; noted = noted }
     where
-      is : found ≡ level_answer answer
-      is = by ∙ ap (λ (s : Cell). level_answer (level_by (row_before items first answers p) s (sink_in items here) (class_in items here))) spans ∙ sym (ap level_answer (level_by_lem items (row_before items first answers p) here))
+      is : found ≡ level_told answer
+      is = by ∙ ap (λ (s : Cell). level_told (level_by (row_before items first answers p) s (sink_in items here) (class_in items here))) spans ∙ sym (ap level_told (level_by_lem items (row_before items first answers p) here))
 
       few : (k : ℕ) → answer ≡ at k → k < LEVELS_END
-      few k q = let h = level_within (row_before items first answers p) span (sink_in items here) (class_in items here) k (sym (ap level_answer q) ∙ sym is ∙ by) in omega (arith, h, top)
+      few k q = let h = level_within (row_before items first answers p) span (sink_in items here) (class_in items here) k (sym (ap level_told q) ∙ sym is ∙ by) in omega (arith, h, top)
+
+  answer_held : (f : Found) → unwrap_or (level_told f) MISSING ≡ held f
+  answer_held none = refl
+  answer_held (at l) = refl
+
+  -- what the calls of a question weighed ask for
+  module _ {n : ℕ} {notes : List ℕ} (able : Turnable items p first n notes answers) where
+    pub askable : Askable items here
+    askable = able.row.asks p (omega arith) able.question
+
+    pub spannable : (order_at items p < length items) × (corner_y items here < 4294967290)
+    spannable = (able.row.ordered p (omega arith), askable.low)
+
+    module _ (span : Cell) (spans : span ≡ span_of items here) where
+      pub few_levels : count_in span ≤ 1000
+      few_levels = let h = askable.few in let e = ap count_in spans in omega (arith, h, e)
+
+      pub blockable : RowFits items p first answers × (count_in span ≤ length notes) × BlockedFor n span (row_before items first answers p) notes
+      blockable =
+          let h = few_levels in
+          let l = able.noted.low.long in
+          (able.row, omega (arith, h, l), subst (λ (s : Cell). BlockedFor n s (row_before items first answers p) notes) (sym spans) able.blocks)
+
+      pub room_in : (count : ℕ) → count ≡ count_in span → (ends : List ℕ) → length ends ≡ length notes → count ≤ length ends
+      room_in count counts ends long = let h = few_levels in let l = able.noted.low.long in omega (arith, h, l, long, counts)
+
+  -- the ends tell of all of the row, are spread, and are cleared behind the decision
+  module _ {n : ℕ} {notes : List ℕ} (able : Turnable items p first n notes answers) (span : Cell) (spans : span ≡ span_of items here) (count : ℕ) (counts : count ≡ count_in span)
+      (ends₁ part : List ℕ) (long : length ends₁ ≡ length notes) (blocks : BlockedBy span (row_before items first answers p) ends₁) (rest : (k : ℕ) → count_in span ≤ k → get_or ends₁ k 0 ≡ get_or notes k 0)
+      (spreads : Spread (length (take count ends₁)) (take count ends₁) part) where
+    abbrev booked : List Entry
+    booked = row_before items first answers p
+
+    abbrev ends₂ : List ℕ
+    ends₂ = part ++ drop count ends₁
+
+    few : count_in span ≤ 1000
+    few = few_levels able span spans
+
+    spread₂ : Spread count ends₁ ends₂
+    spread₂ = spread_in (room_in able span spans count counts ends₁ long) spreads
+
+    past₂ : (k : ℕ) → count_in span ≤ k → get_or ends₂ k 0 ≡ get_or notes k 0
+    past₂ k high = spread₂.rest k (omega (arith, counts, high)) ∙ rest k high
+
+    noted₂ : Noted booked (here - first) ends₂
+    noted₂ = noted_same (spread₂.long ∙ long) (λ k high. let h = few in past₂ k (omega (arith, h, high))) able.noted
+
+    clear₂ : TellsClear span (clear_at booked span.y0) ends₂
+    clear₂ = ends_tell span booked ends₁ ends₂ count (ap (λ (s : Cell). s.y1) spans ∙ sym (ap (λ (s : Cell). s.y0 + 2) spans)) counts blocks spread₂
+
+    pub seekable : (count_in span ≤ 1000) × NotesFit ends₂ × (sink_in items here ≡ MISSING → ⊥) × (class_in items here < CLASSES)
+    seekable = let m = able.row.few p (omega arith) able.question in (few, notes_fit (omega (arith, m)) noted₂, (askable able).has_sink, (askable able).class_few)
+
+    module _ (found : Option ℕ) (ends₃ : List ℕ) (sought : Sought span (sink_in items here) (class_in items here) ends₂ ends₃ found) where
+      pub room : count ≤ length ends₃
+      room = room_in able span spans count counts ends₃ (sought.long ∙ spread₂.long ∙ long)
+
+      module _ (zeros : List ℕ) (same : length zeros ≡ length (take count ends₃)) (none : (k : ℕ) → k < length (take count ends₃) → get_or zeros k 0 ≡ 0) where
+        abbrev ends₄ : List ℕ
+        ends₄ = zeros ++ drop count ends₃
+
+        left : (i : ℕ) → count ≤ i → get_or ends₄ i 0 ≡ get_or ends₃ i 0
+        left i high = part_rest ends₃ count zeros room same i high
+
+        ended : NoEnds ends₄
+        ended i few_i = go (ltb i count) refl
+          where
+            go : (t : Bool) → ltb i count ≡ t → get_or ends₄ i 0 ≡ 0
+            go true e = let b = ltb-true i count e in let l = length-take-le count ends₃ room in part_first ends₃ count zeros room same i b ∙ none i (omega (arith, b, l))
+            go false e =
+                let b = ltb-false i count e in
+                let f = ap count_in spans in
+                left i b ∙ sought.ends i few_i ∙ past₂ i (omega (arith, b, counts)) ∙ able.past i (omega (arith, b, f, counts)) few_i
+
+        pub weighed : {level : ℕ} → level ≡ unwrap_or found MISSING → span.x1 ≤ MISSING → Weighed items p first answers notes ends₄ level
+        weighed {level = level} is top =
+            let h = few in
+            weighed_by notes ends₄ span found level spans top (sought.tells booked (here - first) noted₂ clear₂) (λ g e. is ∙ ap (λ r. unwrap_or r MISSING) e ∙ answer_held g)
+            (part_all ends₃ count zeros room same ∙ sought.long ∙ spread₂.long ∙ long) ended (left 9192 (omega (arith, h, counts)) ∙ sought.rows ∙ past₂ 9192 (omega (arith, h)))
+            (noted_same (part_all ends₃ count zeros room same) (λ i high. left i (omega (arith, h, high, counts))) (sought.noted booked (here - first) noted₂))
 
   -- ---- an item decided: a cell, or a question
   module _ {n : ℕ} {notes notes₁ : List ℕ} (able : Decidable items p first n notes answers) (begun : Begun n notes notes₁) where
@@ -203,7 +266,7 @@ module _ (items : List (List ℕ)) (p first : ℕ) (answers : List ℕ) where
   decided_corner notes notes₁ notes' c level l w laid e =
       let b : ltb here first ≡ false = le-ltb here first l in
       let is : entry_for items first here answer ≡ corner_entry items here answer = pick_false (ltb here first) (cell_entry items here) (corner_entry items here answer) b in
-      let told : level_in level ≡ answer = ap level_in w.told ∙ level_told answer w.within in
+      let told : level_in level ≡ answer = ap level_in w.told ∙ told_back answer w.within in
       let rows = w.rows in
       let more = laid.rows in
       record {

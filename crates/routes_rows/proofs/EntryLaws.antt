@@ -1,25 +1,24 @@
 -- What a row tells, read back from the item whose turn it is: cells that block. Assumes nothing.
-use Prim.Native.Nat.{ℕ, zero, suc, ◌+◌, ◌-◌, ◌*◌, ◌≤◌, ◌<◌}
-use mathlib.Core.Path.{◌≡◌, refl, ap, ap₂, sym, subst, ◌∙◌}
+use Prim.Native.Nat.{ℕ, zero, suc, ◌-◌, ◌≤◌, ◌<◌}
+use mathlib.Core.Path.{◌≡◌, refl, ap, ap₂, sym, ◌∙◌}
 use mathlib.Core.Bool.{Bool, true, false, not, ◌&&◌, ◌||◌}
 use mathlib.Core.List.{List, [], ◌∷◌}
 use native.Mathlib.Omega.{arith}
 use native.Mathlib.Numerals.{add-one}
-use lib.Dec.{eqb, ltb, leb}
+use lib.Dec.{eqb, ltb}
 use lib.ListN.{length, get_or, set}
 use lib.Seq.{get_or-set_other}
-use borrow.Author.Tests.{eqb-true, eqb-false, ne_eqb, ltb-false, lt-ltb, le-ltb, lt-leb}
+use borrow.Author.Tests.{eqb-true, ne_eqb, ltb-false, lt-ltb, le-ltb}
 use Rattle.sheet.specs.Table.{MISSING}
 use Rattle.base.specs.Lists.{keep}
 use Rattle.base.proofs.Bools.{false_first, neither, clash, pick_true, pick_false}
 use Rattle.board.specs.Rows
 use Rattle.board.specs.Rows.{cells_overlap}
-use Rattle.routes.specs.Levels.{levels_in}
 use Rattle.routes_rows.specs.Booking.{cell_of, key_of, order_at, begins, count_after}
 use Rattle.routes_rows.specs.Blocked.{count_in, corner_cell, blocked, Blocks, cell_meets}
-use Rattle.routes_rows.specs.Notes.{load_no, AllPlain}
+use Rattle.routes_rows.specs.Notes.{AllPlain}
 use Rattle.routes_rows.specs.Turning.{Entry, load_at, of_class, entries_on}
-use Rattle.routes_rows.specs.Entries.{level_in, cell_entry, corner_entry, entry_at, seen, row_before, follows_row, entries_meet, BlockedBy, BlockedFor, TellsClear, TellsLoads, RowFits}
+use Rattle.routes_rows.specs.Entries.{level_in, cell_entry, corner_entry, entry_at, seen, row_before, follows_row, entries_meet, BlockedBy, BlockedFor, RowFits}
 use Rattle.routes_rows.specs.declared.book.Cell.{Cell}
 use Rattle.routes_rows.proofs.Blocking.{or_no, or_both, or_more}
 
@@ -28,9 +27,6 @@ pub record Barring (span : Cell) (booked : List Entry) (ends : List ℕ) (left :
   pub long : length ends' ≡ length ends
   pub same : (j : ℕ) → j < count_in span → blocked span ends j || entries_meet booked span j ≡ blocked span ends' j || entries_meet left span j
   pub rest : (j : ℕ) → count_in span ≤ j → get_or ends' j 0 ≡ get_or ends j 0
-
-pub barring_start : (span : Cell) (booked : List Entry) (ends : List ℕ) → Barring span booked ends booked ends
-barring_start span booked ends = record { long = refl; same = λ j low. refl; rest = λ j high. refl }
 
 module _ {span : Cell} {booked : List Entry} {ends : List ℕ} where
   pub barring_next : {e : Entry} {all left : List Entry} {cell : Cell} {ends' ends'' : List ℕ} → all ≡ e ∷ left → cell_of cell ≡ e.cell → Barring span booked ends all ends' → Blocks span (cell_meets cell span) ends' ends'' → Barring span booked ends left ends''
@@ -93,9 +89,6 @@ pub record Back (items : List (List ℕ)) (p key k : ℕ) : Type 0 where
   pub low : k ≤ p
   pub same : key_of items (order_at items k) ≡ key
 
-pub back_start : {items : List (List ℕ)} {p key : ℕ} → key ≡ key_of items (order_at items p) → Back items p key p
-back_start e = record { low = omega arith; same = sym e }
-
 begins_is : (items : List (List ℕ)) (k key : ℕ) → key_of items (order_at items k) ≡ key → begins items k ≡ not (follows_row items k key)
 begins_is items zero key e = refl
 begins_is items (suc k) key e = ap (λ (x : ℕ). not (eqb (key_of items (order_at items k)) x)) e
@@ -155,24 +148,3 @@ row_kept items first answers p fit i v (suc k) later h low = go (begins items (s
         let r : order_at items k < order_at items (suc k) = fit.rising k h t in
         let l : order_at items k < i = omega (arith, r, low) in
         ap₂ (λ (x : Entry) (l : List Entry). x ∷ l) (entry l (ltb (order_at items k) first) refl) (ih (omega (arith, l)))
-
--- ---- a level at hand: what its end and its load tell
-abbrev pub across : ℕ → ℕ → Cell
-across x top = record { x0 = x; x1 = top; y0 = 0; y1 = 0 }
-
-pub open_at : (clear : ℕ → Bool) (load : ℕ → ℕ) (notes : List ℕ) (x top k level : ℕ) (r : Bool) → TellsClear (across x top) clear notes → TellsLoads (across x top) load notes
-    → level ≡ x + 2 * k → k < levels_in x top → r ≡ eqb (load_no notes k) 0 && leb (get_or notes k 0) level → r ≡ eqb (load level) 0 && clear level
-open_at clear load notes x top k level r h g e low is =
-    is ∙ ap₂ (λ s t. eqb s 0 && t) ((g k low).0 ∙ ap load (sym e)) (ap (leb (get_or notes k 0)) e ∙ h k low ∙ ap clear (sym e))
-
--- one level more is not clear
-pub none_clear : (clear : ℕ → Bool) (ends : List ℕ) (x top k level : ℕ) → TellsClear (across x top) clear ends → level ≡ x + 2 * k → k < levels_in x top → level < get_or ends k 0
-    → ((j : ℕ) → j < k → clear (x + 2 * j) ≡ false) → (j : ℕ) → j < k + 1 → clear (x + 2 * j) ≡ false
-none_clear clear ends x top k level h e low beyond before j below = go (eqb j k) refl
-  where
-    here : clear (x + 2 * k) ≡ false
-    here = sym (h k low) ∙ lt-leb (get_or ends k 0) (x + 2 * k) (omega (arith, e, beyond))
-
-    go : (t : Bool) → eqb j k ≡ t → clear (x + 2 * j) ≡ false
-    go true q = let same : j ≡ k = eqb-true j k q in subst (λ (i : ℕ). clear (x + 2 * i) ≡ false) (sym same) here
-    go false q = let other = eqb-false j k q in before j (omega (arith, below, other))

@@ -5,5 +5,6 @@ pub mod Deciding
 pub mod EntryLaws
 pub mod LoadLaws
 pub mod NoteLaws
+pub mod Searching
 pub mod Standings
 pub mod Turns

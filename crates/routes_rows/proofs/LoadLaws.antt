@@ -5,9 +5,12 @@ use mathlib.Core.Bool.{Bool, true, false, ◌&&◌}
 use mathlib.Core.List.{List}
 use native.Mathlib.Omega.{arith}
 use lib.Dec.{eqb}
-use lib.ListN.{length, get_or, set, length-set}
-use lib.Seq.{get_or-set_same, get_or-set_other}
+use lib.ListN.{length, get_or, set, take, drop, length-set, length-drop}
+use lib.Seq.{length-take-le, get_or-take, get_or-drop, get_or-set_same, get_or-set_other}
 use borrow.Author.Tests.{eqb-true, eqb-false, eq-eqb, ne_eqb}
+use borrow.Rule.Slice.PartMut.{put_mid, same_len_mid}
+use Rattle.std.proofs.lemmas.List.{get_or-append_right}
+use Rattle.std.proofs.lemmas.Slice.{take-put_mid, take-put_mid_below, drop-put_mid}
 use Rattle.sheet.specs.Table.{MISSING}
 use Rattle.base.proofs.Bools.{and_left, and_right, false_first}
 use Rattle.routes_rows.specs.Booking.{count_after}
@@ -70,13 +73,31 @@ module _ (level x0 : ℕ) (notes : List ℕ) (j : ℕ) (is : j ≡ (level - x0) 
           get_or-set_other notes (9196 + j) (9196 + k) (get_or notes (9196 + j) 0 + 1) 0 (λ z. other (omega (arith, z)))
           ∙ sym (ap (λ t. count_after t (load_no notes k)) (ne_eqb level (x0 + 2 * k) (λ f. other (omega (arith, e, f)))))
 
--- ---- loads cleared, one more
-pub clear_next : (notes : List ℕ) (k : ℕ) → ((i : ℕ) → i < k → load_no notes i ≡ 0) → 9196 + k < length notes → (i : ℕ) → i < k + 1 → load_no (set notes (9196 + k) 0) i ≡ 0
-clear_next notes k zeros room i h = go (eqb i k) refl
-  where
-    go : (t : Bool) → eqb i k ≡ t → load_no (set notes (9196 + k) 0) i ≡ 0
-    go true q = let same : i ≡ k = eqb-true i k q in (λ j. load_no (set notes (9196 + k) 0) (same j)) ∙ get_or-set_same notes (9196 + k) 0 0 room
-    go false q = let other = eqb-false i k q in get_or-set_other notes (9196 + k) (9196 + i) 0 0 (λ z. other (omega (arith, z))) ∙ zeros i (omega (arith, h, other))
+-- ---- loads cleared, all at once
+pub loads_long : (notes : List ℕ) → NOTES ≤ length notes → length (take 1000 (drop 9196 notes)) ≡ 1000
+loads_long notes room = let d = length-drop 9196 notes in length-take-le 1000 (drop 9196 notes) (omega (arith, d, room))
+
+module _ (notes zeros : List ℕ) (room : NOTES ≤ length notes) (long : length zeros ≡ 1000) where
+  abbrev cleared : List ℕ
+  cleared = put_mid 9196 1000 notes zeros
+
+  pub cleared_only : LoadsOnly notes cleared
+  cleared_only =
+      record {
+        long = same_len_mid 9196 1000 notes zeros (long ∙ sym (loads_long notes room));
+        before = λ k low. sym (get_or-take 9196 cleared k 0 low) ∙ ap (λ (l : List ℕ). get_or l k 0) (take-put_mid_below 9196 1000 notes zeros 9196 (omega arith) (omega (arith, room))) ∙ get_or-take 9196 notes k 0 low;
+        behind = λ k high.
+            let e : 10196 + (k - 10196) ≡ k = omega (arith, high) in
+            ap (λ (i : ℕ). get_or cleared i 0) (sym e) ∙ sym (get_or-drop 10196 cleared (k - 10196) 0) ∙ ap (λ (l : List ℕ). get_or l (k - 10196) 0) (drop-put_mid 9196 1000 notes zeros 10196 (omega arith) (omega (arith, room)) long)
+            ∙ get_or-drop 10196 notes (k - 10196) 0 ∙ ap (λ (i : ℕ). get_or notes i 0) e;
+      }
+
+  pub cleared_loads : ((k : ℕ) → k < 1000 → get_or zeros k 0 ≡ 0) → (k : ℕ) → k < 1000 → load_no cleared k ≡ 0
+  cleared_loads none k low =
+      let front = length-take-le 9196 notes (omega (arith, room)) in
+      let e : 9196 + k - 9196 ≡ k = omega arith in
+      sym (get_or-take 10196 cleared (9196 + k) 0 (omega (arith, low))) ∙ ap (λ (l : List ℕ). get_or l (9196 + k) 0) (take-put_mid 9196 1000 notes zeros 10196 (omega (arith, long)) (omega (arith, room)))
+      ∙ get_or-append_right (take 9196 notes) zeros 9196 (9196 + k) 0 front (omega arith) ∙ ap (λ (i : ℕ). get_or zeros i 0) e ∙ none k low
 
 -- ---- loads counted from the first corner on: those of the first q
 pub record Counting (notes₀ : List ℕ) (sink x0 q : ℕ) (notes : List ℕ) : Type 0 where

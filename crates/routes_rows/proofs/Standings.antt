@@ -7,7 +7,7 @@ use mathlib.Core.List.{List, [], ◌∷◌}
 use native.Mathlib.Omega.{arith}
 use native.Mathlib.Numerals.{add-one}
 use lib.Dec.{eqb, ltb}
-use lib.ListN.{length, get_or, set, length-set}
+use lib.ListN.{length, get_or, set, take, length-set}
 use lib.Seq.{get_or-set_same}
 use borrow.Author.Tests.{ne_eqb, ltb-true, ltb-false, le-ltb}
 use Rattle.sheet.specs.Table.{MISSING}
@@ -24,9 +24,10 @@ use Rattle.routes_rows.specs.Turning.{Entry, sink_x, sink_end, corner_y, sink_in
 use Rattle.routes_rows.specs.Entries.{SLICE_MOST, in_slice, level_in, cell_entry, blank, corner_entry, entry_for, seen, row_before, span_of, span_for, BlockedFor, asked, Askable, RowFits, Decidable, Decided, TurnsFit}
 use Rattle.routes_rows.specs.declared.book.Cell.{Cell}
 use Rattle.routes_rows.proofs.Blocking.{none_beyond}
+use Rattle.routes_rows.proofs.Cells.{Stored, all_taken}
 use Rattle.routes_rows.proofs.EntryLaws.{row_kept}
 use Rattle.routes_rows.proofs.NoteLaws.{low_same, noted_same, noted_more}
-use Rattle.routes_rows.proofs.Deciding.{level_told}
+use Rattle.routes_rows.proofs.Deciding.{told_back}
 
 -- ---- entries that are asked alike: blanks tell nothing
 pub record Alike (b e : List Entry) : Type 0 where
@@ -130,21 +131,13 @@ holds_beyond : (n k : ℕ) (l : List Rows.Cell) (booked : List Entry) (e : Entry
 holds_beyond n k l booked e full h = record { some = λ d t. either_right (cells_overlap e.cell d) (met booked d) (h.some d t); whole = λ few. absurd (omega (arith, few, full)) }
 
 slots_all : (n : ℕ) → n ≤ SLICE_MOST → in_slice n ≡ n
-slots_all n h = go (ltb n SLICE_MOST) refl
-  where
-    go : (t : Bool) → ltb n SLICE_MOST ≡ t → elim t [ true ↦ n | false ↦ SLICE_MOST ] ≡ n
-    go true q = refl
-    go false q = let l = ltb-false n SLICE_MOST q in omega (arith, l, h)
+slots_all n h = omega arith
 
 slots_full : (n : ℕ) → SLICE_MOST ≤ n → in_slice n ≡ SLICE_MOST
-slots_full n h = pick_false (ltb n SLICE_MOST) n SLICE_MOST (le-ltb n SLICE_MOST h)
+slots_full n h = omega arith
 
 slots_most : (n : ℕ) → in_slice n ≤ SLICE_MOST
-slots_most n = go (ltb n SLICE_MOST) refl
-  where
-    go : (t : Bool) → ltb n SLICE_MOST ≡ t → elim t [ true ↦ n | false ↦ SLICE_MOST ] ≤ SLICE_MOST
-    go true e = let h = ltb-true n SLICE_MOST e in omega arith
-    go false e = omega arith
+slots_most n = omega arith
 
 module _ (cells cells' : List Cell) (before : ℕ) (booked : List Entry) (c : Cell) (e : Entry) (is : cell_of c ≡ e.cell) (left : ltb before SLICE_MOST ≡ false → cells' ≡ cells) (h : Holds before (first_cells cells (in_slice before)) booked) where
   abbrev F : List Rows.Cell
@@ -220,9 +213,7 @@ pub record Turning (items : List (List ℕ)) (first p n : ℕ) (cells : List Cel
   pub spans : span ≡ span_for items first (order_at items p)
   pub blocks : Blocks span (cells_meet (first_cells cells counted) span) ends ends₁
   pub decided : Decided items p first ends₁ answers ends' answers' c
-  pub same : length cells' ≡ length cells
-  pub added : first_cells cells' (count_after (ltb before SLICE_MOST) before) ≡ book (ltb before SLICE_MOST) (cell_of c) (first_cells cells before)
-  pub left : ltb before SLICE_MOST ≡ false → cells' ≡ cells
+  pub stores : Stored (ltb before SLICE_MOST) before c cells cells'
   pub next : n' ≡ count_after (ltb 0 c.x1) before
 
 pub before_few : (n before p : ℕ) (t : Bool) → n ≤ p → before ≡ unless t n → before ≤ p
@@ -232,6 +223,13 @@ before_few n before p false h e = omega (arith, e, h)
 pub counted_few : (counted before : ℕ) (t : Bool) → counted ≡ unless t (in_slice before) → counted ≤ SLICE_MOST
 counted_few counted before true e = omega (arith, e)
 counted_few counted before false e = let h = slots_most before in omega (arith, e, h)
+
+-- the cells that an item is held to, of what the slice holds
+pub held_blocks : (cells : List Cell) (counted before : ℕ) (t : Bool) (span : Cell) (ends ends₁ : List ℕ) → length cells ≡ SLICE_MOST → counted ≡ unless t (in_slice before)
+    → Blocks span (cells_meet (first_cells (take counted cells) (length (take counted cells))) span) ends ends₁ → Blocks span (cells_meet (first_cells cells counted) span) ends ends₁
+held_blocks cells counted before t span ends ends₁ room counts h =
+    let low = counted_few counted before t counts in
+    subst (λ (l : List Rows.Cell). Blocks span (cells_meet l span) ends ends₁) (all_taken cells counted (omega (arith, low, room))) h
 
 one_more : (t : Bool) (n : ℕ) → count_after t n ≤ n + 1
 one_more true n = omega arith
@@ -353,7 +351,7 @@ module _ {items : List (List ℕ)} {first m : ℕ} {ends₀ answers₀ : List �
             let l : first ≤ this = ltb-false this first q in
             let there : this - first < length answers = fits.there p (omega arith) l in
             ap (λ (a : List ℕ). seen items first a (suc p)) is
-            ∙ ap₂ (λ (f : Found) (b : List Entry). entry_for items first this f ∷ b) (ap level_in (get_or-set_same answers (this - first) (held level) 0 there) ∙ level_told level (u.decided.within l)) (row_kept items first answers p fits this (held level) p l (omega arith) (omega arith))
+            ∙ ap₂ (λ (f : Found) (b : List Entry). entry_for items first this f ∷ b) (ap level_in (get_or-set_same answers (this - first) (held level) 0 there) ∙ told_back level (u.decided.within l)) (row_kept items first answers p fits this (held level) p l (omega arith) (omega arith))
 
     next_alike : Alike (seen items first answers' (suc p)) (entries_after items first (suc p))
     unfolding entries_after
@@ -363,7 +361,7 @@ module _ {items : List (List ℕ)} {first m : ℕ} {ends₀ answers₀ : List �
     next_slice =
         subst (λ (l : List Entry). Holds n' (first_cells cells' (in_slice n')) l) (sym now_seen)
         (subst (λ (k : ℕ). Holds k (first_cells cells' (in_slice k)) (entry_for items first this level ∷ before_it)) (sym u.next)
-        (holds_next cells cells' before before_it c (entry_for items first this level) u.decided.cell u.left (held_before before u.stood) (ltb before SLICE_MOST) (ltb 0 c.x1) refl refl u.added))
+        (holds_next cells cells' before before_it c (entry_for items first this level) u.decided.cell u.stores.left (held_before before u.stood) (ltb before SLICE_MOST) (ltb 0 c.x1) refl refl u.stores.added))
 
     next_told : answers' ≡ answers_after items first (suc p) answers₀
     unfolding answers_after
@@ -397,7 +395,7 @@ module _ {items : List (List ℕ)} {first m : ℕ} {ends₀ answers₀ : List �
     turned =
         record {
           few = let h = before_few n before p (begins items p) s.few u.stood in let k = one_more (ltb 0 c.x1) before in let e = u.next in omega (arith, h, k, e);
-          room = u.same ∙ s.room;
+          room = u.stores.same ∙ s.room;
           ends_long = u.decided.long ∙ u.blocks.long ∙ s.ends_long;
           answers_long = ap length u.decided.told ∙ answers_long_lem (ltb this first) answers (this - first) (held level) ∙ s.answers_long;
           no_ends = u.decided.no_ends;

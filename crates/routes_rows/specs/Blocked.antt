@@ -1,15 +1,12 @@
 -- How the code finds which of a sink's levels are blocked, all in one walk: for each level the furthest end of the cells that begin before it is over. The levels are those of a span, a cell:
 -- as many corners as stand beside one another from its x0 to its x1, each as high as it is. No rule stands here.
-use Rattle.std.specs.Prelude.{ℕ, zero, suc, ◌+◌, ◌*◌, ◌≤◌, ◌<◌, ◌≡◌, Bool, true, false, ◌||◌, List, ltb, length, get_or}
+use Rattle.std.specs.Prelude.{ℕ, zero, suc, ◌+◌, ◌*◌, ◌≤◌, ◌<◌, ◌≡◌, Bool, false, ◌||◌, List, ltb, length, get_or}
 use Rattle.base.specs.Lists.{any}
 use Rattle.board.specs.Rows
 use Rattle.board.specs.Rows.{cells_overlap, REROUTER_SIZE}
 use Rattle.routes.specs.Levels.{STAGGER_STEP, levels_in}
 use Rattle.routes_rows.specs.Booking.{cell_of}
 use Rattle.routes_rows.specs.declared.book.Cell.{Cell}
-
-abbrev pub larger : ℕ → ℕ → ℕ
-larger a b = elim (ltb a b) [ true ↦ b | false ↦ a ]
 
 -- The levels of a span: how many there are, the k-th, and a corner's cell there.
 abbrev pub count_in : Cell → ℕ

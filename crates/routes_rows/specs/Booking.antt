@@ -69,11 +69,6 @@ abbrev pub first_cells : List Cell → ℕ → List Rows.Cell
 first_cells cells zero = []
 first_cells cells (suc n) = cell_of (get_or cells n no_cell) ∷ first_cells cells n
 
--- So many cells of a slice from a place on, newest first.
-abbrev pub cells_from : List Cell → ℕ → ℕ → List Rows.Cell
-cells_from cells from zero = []
-cells_from cells from (suc n) = cell_of (get_or cells (from + n) no_cell) ∷ cells_from cells from n
-
 -- How many cells count: none where a row begins, or where a brick is asked for.
 abbrev pub unless : Bool → ℕ → ℕ
 unless true n = 0

@@ -1,14 +1,12 @@
 -- How the code decides corners. What is booked on the row at hand is read off the items and the answers; the cells of it that can overlap something stand in a slice besides, as many as it holds. A question
 -- without a corner books a blank, which overlaps nothing and is of no sink and no class. No rule stands here.
-use Rattle.std.specs.Prelude.{ℕ, zero, suc, ◌+◌, ◌-◌, ◌≤◌, ◌<◌, ◌≡◌, Bool, true, false, ◌&&◌, List, [], ◌∷◌, eqb, ltb, leb, length, get_or}
+use Rattle.std.specs.Prelude.{ℕ, zero, suc, ◌+◌, ◌-◌, ◌≤◌, ◌<◌, ◌≡◌, Bool, true, false, ◌&&◌, List, [], ◌∷◌, Option, None, Some, min, eqb, ltb, leb, length, get_or}
 use Rattle.sheet.specs.Table.{MISSING}
 use Rattle.base.specs.Lists.{Found, none, at, any}
 use Rattle.board.specs.Rows
 use Rattle.board.specs.Rows.{cells_overlap, rerouter_cell, REROUTER_SIZE}
 use Rattle.board.specs.Tables.{held}
 use Rattle.routes.specs.Levels.{levels_in, lowest, lightest}
-use Rattle.routes_levels.specs.Laying.{level_answer}
-use Rattle.routes_levels.specs.declared.levels.Found.{Found as LevelFound}
 use Rattle.routes_rows.specs.Blocked.{count_in, level_no, corner_cell, blocked, NoEnds, NoEndsPast}
 use Rattle.routes_rows.specs.Booking.{cell_of, item_cell, key_of, order_at, begins, no_cell}
 use Rattle.routes_rows.specs.Notes.{NOTES, CLASSES, row_no, load_no, AllPlain, NotesLow, Noted}
@@ -20,7 +18,7 @@ abbrev pub SLICE_MOST : ℕ
 SLICE_MOST = 12800
 
 abbrev pub in_slice : ℕ → ℕ
-in_slice n = elim (ltb n SLICE_MOST) [ true ↦ n | false ↦ SLICE_MOST ]
+in_slice n = min n SLICE_MOST
 
 -- The cell of an item that is a cell.
 abbrev pub row_cell : List ℕ → Rows.Cell
@@ -103,6 +101,11 @@ level_by booked span sink class =
           [ at l ↦ at l | none ↦ lightest (clear_at booked span.y0) (load_at booked sink) span.x0 (count_in span) ]
     ]
 
+-- A level, or none, as the code says it.
+abbrev pub level_told : Found → Option ℕ
+level_told none = None
+level_told (at l) = Some l
+
 -- A level is clear where its end does not lie beyond it.
 abbrev pub TellsClear : Cell → (ℕ → Bool) → List ℕ → Type 0
 TellsClear span clear ends = (k : ℕ) → k < count_in span → leb (get_or ends k 0) (level_no span k) ≡ clear (level_no span k)
@@ -134,12 +137,12 @@ asked items first zero = 0
 asked items first (suc p) = suc (order_at items p) - first
 
 -- A level sought in a span, and the notes that are then left behind.
-pub record Sought (span : Cell) (sink class : ℕ) (notes notes' : List ℕ) (r : LevelFound) : Type 0 where
+pub record Sought (span : Cell) (sink class : ℕ) (notes notes' : List ℕ) (r : Option ℕ) : Type 0 where
   pub long : length notes' ≡ length notes
   pub ends : (k : ℕ) → k < 1000 → get_or notes' k 0 ≡ get_or notes k 0
   pub rows : row_no notes' ≡ row_no notes
   pub noted : (booked : List Entry) (most : ℕ) → Noted booked most notes → Noted booked most notes'
-  pub tells : (booked : List Entry) (most : ℕ) → Noted booked most notes → TellsClear span (clear_at booked span.y0) notes → r ≡ level_answer (level_by booked span sink class)
+  pub tells : (booked : List Entry) (most : ℕ) → Noted booked most notes → TellsClear span (clear_at booked span.y0) notes → r ≡ level_told (level_by booked span sink class)
 
 -- What is asked for to answer the question that comes p-th, behind n cells of its row.
 pub record Turnable (items : List (List ℕ)) (p first n : ℕ) (notes answers : List ℕ) : Type 0 where

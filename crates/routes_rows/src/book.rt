@@ -1,9 +1,8 @@
 // The cells booked on a row are a lent slice: the bricks of the row, and the rerouters placed beside it so far. What is asked for on a row is booked there
 // where it is clear of them.
-ghost use Rattle.std.specs.Prelude.{◌≡◌, true, false, ℕ, ◌-◌, ◌<◌, ◌≤◌, ltb, length, set};
+ghost use Rattle.std.specs.Prelude.{◌≡◌, true, false, ℕ, ◌<◌, ◌≤◌, ltb, length};
 ghost use Rattle.board.specs.Rows.{cells_overlap};
-ghost use Rattle.board.specs.Tables.{flag};
-ghost use Rattle.routes_rows.specs.Booking.{cell_of, item_cell, order_at, begins as beginsRow, any_overlaps, clear_of, cells_from, book, flags_after, first_cells, unless, count_after};
+ghost use Rattle.routes_rows.specs.Booking.{cell_of, item_cell, order_at, begins as beginsRow, any_overlaps, clear_of, book, flags_after, first_cells, unless, count_after};
 
 use base::rows::WorkRow;
 
@@ -79,35 +78,29 @@ pub fn count_tested(items: &[WorkRow], p: usize, bricks: usize, n: usize) -> usi
     n
 }
 
-// Whether one of the cells from..to overlaps a cell. All of them are looked at, with no branch on what is found: one that is guessed wrong costs more than a few cells.
-fn any_overlaps(cells: &[Cell], from: usize, to: usize, c: Cell) -> bool
-    requires { (from ≤ to) × (to ≤ length cells.now) }
-    ensures { result ≡ any_overlaps (cells_from cells.now from (to - from)) (cell_of c) }
+// Whether one of several cells overlaps a cell. All of them are looked at, with no branch on what is found: one that is guessed wrong costs more than a few cells.
+fn any_overlaps(cells: &[Cell], c: Cell) -> bool
+    ensures { result ≡ any_overlaps (first_cells cells.now (length cells.now)) (cell_of c) }
 {
-    // Counted from 0, so that the number of turns is known where from and to are a fixed number apart.
-    let count = to - from;
     let mut hit = false;
-    let mut j = 0;
-    while j < count {
-        hit = hit | cells_overlap(cells[from + j], c);
-        j = j + 1;
+    for cell in cells {
+        hit = hit | cells_overlap(*cell, c);
     }
     hit
 }
 
-// Whether a cell is clear of the first n cells: so many at once, the newest first, and those that are left over last.
-fn is_clear(cells: &[Cell], n: usize, c: Cell) -> bool
-    requires { n ≤ length cells.now }
-    ensures { result ≡ clear_of (first_cells cells.now n) (cell_of c) }
+// Whether a cell is clear of several cells: so many at once, the newest first, and those that are left over last.
+fn is_clear(cells: &[Cell], c: Cell) -> bool
+    ensures { result ≡ clear_of (first_cells cells.now (length cells.now)) (cell_of c) }
 {
-    let mut k = n;
+    let mut k = cells.len();
     while k >= CELLS_AT_ONCE {
-        k = k - CELLS_AT_ONCE;
-        if any_overlaps(cells, k, k + CELLS_AT_ONCE, c) {
+        k -= CELLS_AT_ONCE;
+        if any_overlaps(&cells[k..k + CELLS_AT_ONCE], c) {
             return false;
         }
     }
-    !any_overlaps(cells, 0, k, c)
+    !any_overlaps(&cells[..k], c)
 }
 
 // A cell is written behind the first n, where it is to be.
@@ -120,21 +113,8 @@ pub fn append(cells: &mut [Cell], n: usize, c: Cell, yes: bool)
     }
 }
 
-// The flag of the item that comes p-th is set, and how many cells now stand on its row is told.
-fn note(items: &[WorkRow], p: usize, flags: &mut [u8], n: usize, yes: bool) -> usize
-    requires { (p < length items.now) × (order_at items.now p < length flags.old) × (n < 20480) }
-    ensures { (flags.new ≡ set flags.old (order_at items.now p) (flag yes)) × (result ≡ count_after yes n) }
-{
-    let i = items[p][7] as usize;
-    if yes {
-        flags[i] = 1;
-        return n + 1;
-    }
-    flags[i] = 0;
-    n
-}
-
 // Every item is booked in its turn, and its flag tells whether it is. The cells of a row are written over by those of the next.
+// Stays (no plainer): the first m rows say which rows of the whole table come, so the table is not cut to them.
 pub fn book_rows(items: &[WorkRow], m: usize, bricks: usize, flags: &mut [u8])
     requires { (m ≤ length items.now) × (m ≤ 20480) × ((p : ℕ) → p < m → order_at items.now p < length items.now) × ((p : ℕ) → p < m → order_at items.now p < length flags.old) }
     ensures { flags.new ≡ flags_after items.now bricks m flags.old }
@@ -147,14 +127,13 @@ pub fn book_rows(items: &[WorkRow], m: usize, bricks: usize, flags: &mut [u8])
     };
     let mut cells = [none; CELLS_MOST];
     let mut n = 0;
-    let mut p = 0;
-    while p < m {
-        let before = count_before(items, p, n);
-        let tested = count_tested(items, p, bricks, before);
+    for p in 0..m {
+        n = count_before(items, p, n);
+        let tested = count_tested(items, p, bricks, n);
         let c = item_cell(items, p);
-        let yes = is_clear(&cells, tested, c);
-        append(&mut cells, before, c, yes);
-        n = note(items, p, flags, before, yes);
-        p = p + 1;
+        let yes = is_clear(&cells[..tested], c);
+        flags[items[p][7] as usize] = u8::from(yes);
+        append(&mut cells, n, c, yes);
+        n += usize::from(yes);
     }
 }

@@ -31,11 +31,7 @@ fn clear_loads(notes: &mut [u32])
     requires { NOTES ≤ length notes.old }
     ensures { LoadsOnly notes.old notes.new × ((k : ℕ) → k < 1000 → load_no notes.new k ≡ 0) }
 {
-    let mut k: usize = 0;
-    while k < LEVELS_MOST {
-        notes[LOADS + k] = 0;
-        k += 1;
-    }
+    notes[LOADS..LOADS + LEVELS_MOST].fill(0);
 }
 
 // The corners of a sink that are listed, counted at their levels from x0 on.
@@ -43,11 +39,8 @@ fn count_loads(notes: &mut [u32], sink: u32, x0: u32)
     requires { (NOTES ≤ length notes.old) × (listed notes.old ≤ CLASSES) × ((k : ℕ) → k < 1000 → load_no notes.old k ≡ 0) }
     ensures { LoadsOnly notes.old notes.new × ((k : ℕ) → k < 1000 → load_no notes.new k ≡ pair_load notes.old (listed notes.old) sink (x0 + 2 * k)) }
 {
-    let n = notes[COUNT] as usize;
-    let mut q: usize = 0;
-    while q < n {
+    for q in 0..notes[COUNT] as usize {
         let at = PAIRS + 2 * q;
-        q += 1;
         if notes[at] == sink {
             let level = notes[at + 1];
             add_load(notes, x0, level);

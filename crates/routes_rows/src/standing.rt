@@ -2,7 +2,7 @@
 ghost use Rattle.std.specs.Prelude.{◌≡◌, ℕ, ◌<◌, ◌≤◌, length};
 ghost use Rattle.routes_rows.specs.Blocked.{count_in, Blocks};
 ghost use Rattle.routes_rows.specs.Booking.{cell_of, key_of, order_at};
-ghost use Rattle.routes_rows.specs.Entries.{row_cell, level_in, corner_box, entry_at, row_before, follows_row, entries_meet, RowFits};
+ghost use Rattle.routes_rows.specs.Entries.{row_cell, level_in, corner_box, entry_at, row_before, entries_meet, RowFits};
 
 use crate::blocked::block;
 use crate::book::Cell;
@@ -65,18 +65,6 @@ fn key_at(items: &[WorkRow], p: usize) -> u32
     items[i][6]
 }
 
-// Whether the item before the one that comes k-th is of the row with this key.
-fn follows(items: &[WorkRow], k: usize, key: u32) -> bool
-    requires { (k < length items.now) × ((q : ℕ) → q ≤ k → order_at items.now q < length items.now) }
-    ensures { result ≡ follows_row items.now k key }
-{
-    if k == 0 {
-        return false;
-    }
-    let i = items[k - 1][7] as usize;
-    items[i][6] == key
-}
-
 // All that is booked on the row before the item that comes p-th blocks; the newest first.
 pub fn block_row(
     items: &[WorkRow],
@@ -90,9 +78,10 @@ pub fn block_row(
     ensures { Blocks span (entries_meet (row_before items.now first answers.now p) span) ends.old ends.new }
 {
     let key = key_at(items, p);
-    let mut k = p;
-    while follows(items, k, key) {
-        k -= 1;
+    for k in (0..p).rev() {
+        if key_at(items, k) != key {
+            return;
+        }
         block(ends, span, booked_cell(items, k, first, answers));
     }
 }

@@ -1,44 +1,30 @@
 // Corners, row by row: each question is answered by what is booked on its row before it. The cells that block stand in a lent slice.
 ghost use Rattle.std.specs.Prelude.{◌≡◌, List, Bool, false, ◌&&◌, ℕ, ◌+◌, ◌-◌, ◌<◌, ◌≤◌, eqb, ltb, leb, length, get_or};
-ghost use Rattle.base.specs.Lists.{Found as FoundX};
-ghost use Rattle.board.specs.Tables.{held as heldAs};
 ghost use Rattle.routes.specs.Levels.{lowest, lightest};
-ghost use Rattle.routes_levels.specs.Laying.{level_answer};
 ghost use Rattle.routes_rows.specs.Blocked.{count_in, level_no};
 ghost use Rattle.routes_rows.specs.Booking.{order_at, unless, count_after};
 ghost use Rattle.routes_rows.specs.Notes.{NOTES, CLASSES, row_no, NotesFit};
 ghost use Rattle.routes_rows.specs.Turning.{Entry, corner_y, clear_at, load_at, of_class, answers_after};
-ghost use Rattle.routes_rows.specs.Entries.{in_slice, row_before, span_of, span_for, BlockedBy, BlockedFor, level_by, TellsClear, TellsLoads, RowFits, Sought, Turnable, Weighed, Decidable, Decided, TurnsFit};
+ghost use Rattle.routes_rows.specs.Entries.{in_slice, row_before, span_of, span_for, BlockedBy, BlockedFor, level_by, level_told, TellsClear, TellsLoads, RowFits, Sought, Turnable, Weighed, Decidable, Decided, TurnsFit};
 
-use crate::blocked::{block_cells, clear, spread};
+use crate::blocked::{block_cells, spread};
 use crate::book::{Cell, append, count_before, count_tested};
 use crate::loads::{lay, own_loads};
 use crate::notes::{LOADS, begin_row, has_class};
 use crate::standing::{block_row, corner_cell, row_cell};
 use base::numbers::MISSING;
 use base::rows::WorkRow;
-use routes_levels::levels::{Found, STAGGER_STEP, is_within, levels_in};
+use routes_levels::levels::{STAGGER_STEP, levels_in};
 
 // As many cells of a row as the slice holds: as many as a board has bricks, wires and sources. A row with more, by a bus handed in, is walked once more for each of its questions.
 const SLICE_MOST: usize = 12_800;
-
-// Of n cells of a row, how many are in the slice.
-fn slots(n: usize) -> usize
-    ensures { result ≡ in_slice n }
-{
-    if n < SLICE_MOST {
-        return n;
-    }
-    SLICE_MOST
-}
 
 // How many cells of the slice the item that comes p-th is held to, behind n cells of its row: a cell to none.
 fn count_held(items: &[WorkRow], p: usize, first: usize, n: usize) -> usize
     requires { (p < length items.now) × (order_at items.now p < length items.now) }
     ensures { result ≡ unless (ltb (order_at items.now p) first) (in_slice n) }
 {
-    let held = slots(n);
-    count_tested(items, p, first, held)
+    count_tested(items, p, first, n.min(SLICE_MOST))
 }
 
 // The span of question i's levels.
@@ -98,44 +84,41 @@ fn is_open(level: u32, end: u32, load: u32) -> bool
 }
 
 // K5: the lowest level that is unused and clear, or none.
-fn lowest_corner(span: Cell, notes: &[u32]) -> Found
+fn lowest_corner(span: Cell, notes: &[u32]) -> Option<u32>
     requires { (count_in span ≤ 1000) × (NOTES ≤ length notes.now) }
     ensures { (clear : ℕ → Bool) (load : ℕ → ℕ) → TellsClear span clear notes.now → TellsLoads span load notes.now
-        → result ≡ level_answer (lowest (λ l. eqb (load l) 0 && clear l) span.x0 (count_in span)) }
+        → result ≡ level_told (lowest (λ l. eqb (load l) 0 && clear l) span.x0 (count_in span)) }
 {
-    let top = span.x1;
-    let mut level = span.x0;
-    let mut k: usize = 0;
+    let count = levels_in(span.x0, span.x1);
+    // Stays (no plainer): the scope names this form, a loop that yields by break.
+    let mut k = 0;
     let found = loop {
-        if !is_within(level, top) {
-            break Found::None;
+        if count <= k {
+            break None;
         }
-        if is_open(level, notes[k], notes[LOADS + k]) {
-            break Found::At(level);
+        let level = span.x0 + STAGGER_STEP * k;
+        if is_open(level, notes[k as usize], notes[LOADS + k as usize]) {
+            break Some(level);
         }
-        level += STAGGER_STEP;
         k += 1;
     };
     found
 }
 
 // K6: the least loaded level that is clear, or none. It goes from the highest down, so that the last one taken is the lowest.
-fn least_loaded_corner(span: Cell, notes: &[u32]) -> Found
+fn least_loaded_corner(span: Cell, notes: &[u32]) -> Option<u32>
     requires { (count_in span ≤ 1000) × (NOTES ≤ length notes.now) }
     ensures { (clear : ℕ → Bool) (load : ℕ → ℕ) → TellsClear span clear notes.now → TellsLoads span load notes.now
-        → result ≡ level_answer (lightest clear load span.x0 (count_in span)) }
+        → result ≡ level_told (lightest clear load span.x0 (count_in span)) }
 {
-    let base = span.x0;
-    let mut best = Found::None;
+    let mut best = None;
     let mut least = MISSING;
-    let mut k = levels_in(base, span.x1);
-    while 0 < k {
-        k -= 1;
-        let level = base + STAGGER_STEP * k;
+    for k in (0..levels_in(span.x0, span.x1)).rev() {
+        let level = span.x0 + STAGGER_STEP * k;
         if notes[k as usize] <= level {
             let load = notes[LOADS + k as usize];
             if load <= least {
-                best = Found::At(level);
+                best = Some(level);
                 least = load;
             }
         }
@@ -148,54 +131,39 @@ fn has_clear(span: Cell, ends: &[u32]) -> bool
     requires { count_in span ≤ length ends.now }
     ensures { (clear : ℕ → Bool) → TellsClear span clear ends.now → result ≡ false → (k : ℕ) → k < count_in span → clear (level_no span k) ≡ false }
 {
-    let top = span.x1;
-    let mut level = span.x0;
-    let mut k: usize = 0;
-    while is_within(level, top) {
-        if ends[k] <= level {
+    for k in 0..levels_in(span.x0, span.x1) {
+        if ends[k as usize] <= span.x0 + STAGGER_STEP * k {
             return true;
         }
-        level += STAGGER_STEP;
-        k += 1;
     }
     false
 }
 
 // K5, K6: the level of a corner by the ends and the loads, or none.
-fn seek_level(span: Cell, notes: &[u32]) -> Found
+fn seek_level(span: Cell, notes: &[u32]) -> Option<u32>
     requires { (count_in span ≤ 1000) × (NOTES ≤ length notes.now) }
     ensures { (booked : List Entry) (sink class : ℕ) → TellsClear span (clear_at booked span.y0) notes.now → TellsLoads span (load_at booked sink) notes.now
-        → of_class booked class ≡ false → result ≡ level_answer (level_by booked span sink class) }
+        → of_class booked class ≡ false → result ≡ level_told (level_by booked span sink class) }
 {
-    if let Found::At(level) = lowest_corner(span, notes) {
-        return Found::At(level);
+    match lowest_corner(span, notes) {
+        Some(level) => Some(level),
+        None => least_loaded_corner(span, notes),
     }
-    least_loaded_corner(span, notes)
 }
 
 // K5, K6: a corner's level, or none (K7), by what is noted of its row.
-fn corner_level(span: Cell, sink: u32, class: u32, notes: &mut [u32]) -> Found
+fn corner_level(span: Cell, sink: u32, class: u32, notes: &mut [u32]) -> Option<u32>
     requires { (count_in span ≤ 1000) × NotesFit notes.old × (sink ≡ 4294967295 → ⊥) × (class < CLASSES) }
     ensures { Sought span sink class notes.old notes.new result }
 {
     if has_class(notes, class) {
-        return Found::None;
+        return None;
     }
     if !has_clear(span, notes) {
-        return Found::None;
+        return None;
     }
     own_loads(notes, sink, span.x0);
     seek_level(span, notes)
-}
-
-// A level as an answer.
-fn told(found: Found) -> u32
-    ensures { (f : FoundX) → found ≡ level_answer f → result ≡ heldAs f }
-{
-    match found {
-        Found::At(level) => level,
-        Found::None => MISSING,
-    }
 }
 
 // The level of the question that comes p-th, by what is booked before it, of which the ends already tell so much as the slice holds.
@@ -213,11 +181,11 @@ fn weigh(
     let i = items[p][7] as usize;
     let span = span_at(items, i);
     block_rest(items, p, first, answers, n, span, notes);
-    let count = levels_in(span.x0, span.x1);
-    spread(notes, count);
+    let count = levels_in(span.x0, span.x1) as usize;
+    spread(&mut notes[..count]);
     let found = corner_level(span, items[i][3], items[i][4], notes);
-    clear(notes, count);
-    told(found)
+    notes[..count].fill(0);
+    found.unwrap_or(MISSING)
 }
 
 // The item that comes p-th, a question: it is answered, and its corner noted.
@@ -264,13 +232,11 @@ fn count_next(n: usize, c: Cell) -> usize
     requires { n ≤ 4294967295 }
     ensures { result ≡ count_after (ltb 0 c.x1) n }
 {
-    if 0 < c.x1 {
-        return n + 1;
-    }
-    n
+    n + usize::from(0 < c.x1)
 }
 
 // K4 to K7, K9: every question is answered in its turn, by what is booked on its row before it. The cells of a row are written over by those of the next.
+// Stays (no plainer): the first m rows say which rows of the whole table come, so the table is not cut to them.
 pub fn turn_rows(items: &[WorkRow], m: usize, first: usize, notes: &mut [u32], answers: &mut [u32])
     requires { TurnsFit items.now m first notes.old answers.old }
     ensures { answers.new ≡ answers_after items.now first m answers.old }
@@ -283,15 +249,13 @@ pub fn turn_rows(items: &[WorkRow], m: usize, first: usize, notes: &mut [u32], a
     };
     let mut cells = [none; SLICE_MOST];
     let mut n = 0;
-    let mut p = 0;
-    while p < m {
+    for p in 0..m {
         let before = count_before(items, p, n);
         let held = count_held(items, p, first, before);
         let span = span_of(items, p, first);
-        block_cells(&cells, held, span, notes);
+        block_cells(&cells[..held], span, notes);
         let c = decide(items, p, first, before, notes, answers);
         append(&mut cells, before, c, before < SLICE_MOST);
         n = count_next(before, c);
-        p = p + 1;
     }
 }

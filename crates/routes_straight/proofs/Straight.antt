@@ -343,5 +343,5 @@ unfolding routed
 straight_routed most fits text b ps bus laid = go (planning most fits text)
   where
     go : (p : Planning) → routed_by finished p ≡ plan b ps bus laid → Straight bus
-    go (Planning.refused n l) d = never cc
+    go (Planning.refused r) d = never cc
     go (lanes_for c qs) d = let plan-is : finished c qs ≡ bus = cc in rw (← plan-is) (straight_finished c qs)

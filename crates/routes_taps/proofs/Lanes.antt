@@ -1,12 +1,11 @@
 -- What is read of a lane in the tables is what the rules say of it; and what a tap begins.
-use Prim.Native.Nat.{ℕ, zero, suc, ◌+◌, ◌-◌, ◌<◌, min}
+use Prim.Native.Nat.{ℕ, zero, suc, ◌-◌, ◌<◌, min}
 use mathlib.Core.Path.{◌≡◌, refl, ap, sym, subst, ◌∙◌}
 use mathlib.Core.Bool.{Bool, true, false, not, ◌&&◌, ◌||◌}
 use mathlib.Core.List.Memᴰ
 use mathlib.Core.List.{List, [], ◌∷◌, map, Memᴰ}
 use mathlib.Core.Logic.{◌⊎◌, ⊎_elim}
 use native.Mathlib.Omega.{arith}
-use native.Mathlib.Numerals.{add-one}
 use lib.Dec.{eqb, ltb}
 use lib.ListN.{length, get_or, get_or-eq_default}
 use borrow.Author.Tests.{eq-eqb, ne_eqb, eqb-true, lt-ltb, le-ltb, ltb-true, ltb-false}
@@ -21,14 +20,9 @@ use Rattle.base.specs.Views.{view}
 use Rattle.board.specs.Tables.{held, tap_in}
 use Rattle.base.proofs.Bools.{pick_true, pick_false}
 use Rattle.routes.specs.Stops.{new_group, new_row, new_column}
-use Rattle.routes.specs.Levels.{Level, dropped, shared, own, lane_for}
-use Rattle.routes.specs.Rerouters.{source, chain_rotation, level_here}
-use Rattle.routes.specs.Tables.{stop_in}
-use Rattle.routes.specs.Holding.{stop_level_of}
-use Rattle.routes_taps.specs.Taps.{LaneOf, LaneRanges, RowHeld, LaneInRange, lane_read, rotation_over, row_on_page, NewsOf, LowLevel, Tables, ReachedNext}
-use Rattle.routes.specs.declared.levels.Level.{Level as LevelHeld}
-use Rattle.routes_taps.specs.declared.taps.Lane.{Lane}
-use Rattle.routes_taps.specs.declared.taps.Reached.{Reached}
+use Rattle.routes.specs.Levels.{lane_for}
+use Rattle.routes.specs.Rerouters.{source, chain_rotation}
+use Rattle.routes_taps.specs.Taps.{LaneOf, LaneRanges, RowHeld, LaneInRange, lane_read, rotation_over, row_on_page, NewsOf, Tables}
 
 -- The least is over x exactly when all are.
 ltb-min : (x a b : ℕ) → not (ltb x (min a b)) ≡ not (ltb x a) || not (ltb x b)
@@ -159,23 +153,6 @@ pub lane_ranges : (pages nodes wires facts groups : List (List ℕ)) (page group
 lane_ranges pages nodes wires facts groups page group r =
     record { page = λ z. let h = r.page_small in omega arith; lane = λ z. let h = r.lane_small in omega arith; source_y = r.source_room }
 
--- A stop's level, by its kind.
-abbrev level_picked : ℕ → Bool → Bool → Level
-level_picked level zero? one? = elim zero? [ true ↦ dropped | false ↦ elim one? [ true ↦ shared level | false ↦ own level ] ]
-
-level_kind : (r : List ℕ) (zero? one? : Bool) → eqb (get_or r 6 0) 0 ≡ zero? → eqb (get_or r 6 0) 1 ≡ one?
-    → level_picked (get_or r 5 0) zero? one? ≡ (stop_in r).level
-level_kind r z o ez eo = λ i. level_picked (get_or r 5 0) (sym ez i) (sym eo i)
-
-pub level_dropped : (r : List ℕ) → get_or r 6 0 ≡ 0 → dropped ≡ (stop_in r).level
-level_dropped r e = level_kind r true _ (eq-eqb _ 0 e) refl
-
-pub level_shared : (r : List ℕ) → (get_or r 6 0 ≡ 0 → ⊥) → get_or r 6 0 ≡ 1 → shared (get_or r 5 0) ≡ (stop_in r).level
-level_shared r n e = level_kind r false true (ne_eqb _ 0 n) (eq-eqb _ 1 e)
-
-pub level_own : (r : List ℕ) → (get_or r 6 0 ≡ 0 → ⊥) → (get_or r 6 0 ≡ 1 → ⊥) → own (get_or r 5 0) ≡ (stop_in r).level
-level_own r n m = level_kind r false false (ne_eqb _ 0 n) (ne_eqb _ 1 m)
-
 -- What a tap begins that is not the first: the one before it stands in front of the others.
 pub news_after : (laid : List (List ℕ)) (k : ℕ) → (k ≡ 0 → ⊥)
     → NewsOf (view tap_in laid k) (tap_in (get_or laid k []))
@@ -191,47 +168,4 @@ news_after laid k nz =
       group = ap (λ j. new_group (view tap_in laid j) t) (sym e);
       row = ap (λ j. new_row (view tap_in laid j) t) (sym e);
       column = ap (λ j. new_column (view tap_in laid j) t) (sym e);
-    }
-
--- The lane, from what was computed of it.
-pub lane_read_lem : (pages nodes wires facts groups : List (List ℕ)) (page group y rotation row : ℕ) → y ≡ lane_y (field pages page 1) (field facts page 6) (field groups group 4)
-    → rotation ≡ rotation_over (field nodes (field facts group 2) 8) (field groups group 5) → row ≡ row_on_page nodes facts (field facts group 2) page
-    → ◌≡◌ {A = Lane}
-    (record {
-      page = page;
-      lane = field groups group 4;
-      y = y;
-      z = field pages page 2;
-      colour = record { 0 = field nodes (field facts group 2) 1 };
-      rotation = rotation;
-      node = record { 0 = field wires group 1 };
-      port = field wires group 2;
-      source_x = field nodes (field facts group 2) 8;
-      source_y = field nodes (field facts group 2) 9;
-      source_row = row;
-    })
-    (lane_read pages nodes wires facts groups page group)
-lane_read_lem pages nodes wires facts groups page group y rotation row ey er ew =
-    λ i.
-    record {
-      page = page;
-      lane = field groups group 4;
-      y = ey i;
-      z = field pages page 2;
-      colour = record { 0 = field nodes (field facts group 2) 1 };
-      rotation = er i;
-      node = record { 0 = field wires group 1 };
-      port = field wires group 2;
-      source_x = field nodes (field facts group 2) 8;
-      source_y = field nodes (field facts group 2) 9;
-      source_row = ew i;
-    }
-
--- A new row reaches the next stop.
-pub reach_next : (stops : List (List ℕ)) (r : Reached) (fresh : Bool) (level : LevelHeld) → fresh ≡ true → stop_level_of level ≡ (stop_in (get_or stops r.stops [])).level
-    → ReachedNext stops r fresh (record { stops = r.stops + 1; level = level })
-reach_next stops r fresh level y e =
-    record {
-      count = add-one r.stops ∙ sym (pick_true fresh (suc r.stops) r.stops y);
-      newest = λ h low. record { level = e ∙ ap (λ j. level_here (view stop_in stops j)) (sym (add-one r.stops)); range = subst LowLevel (sym e) (low y) };
     }

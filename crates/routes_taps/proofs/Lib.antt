@@ -3,3 +3,4 @@ pub mod Questions
 pub mod Reaching
 pub mod Answering
 pub mod Told
+pub mod Fronts

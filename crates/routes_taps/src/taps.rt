@@ -5,7 +5,7 @@ ghost use Rattle.base.specs.Views.{view};
 ghost use Rattle.board.specs.Tables.{tap_in};
 ghost use Rattle.routes.specs.Tables.{stop_in};
 ghost use Rattle.routes.specs.Holding.{stop_level_of};
-ghost use Rattle.routes_taps.specs.Taps.{rotation_over, row_on_page, LaneInRange, lane_read, tap_read, NewsOf, ReachedNext};
+ghost use Rattle.routes_taps.specs.Taps.{rotation_over, row_on_page, LaneInRange, lane_read, NewsOf, ReachedNext};
 
 use base::ids::NodeId;
 use base::numbers::{BUS_BAND_GUTTER, LANE_PITCH, MISSING};
@@ -14,6 +14,11 @@ use routes::levels::Level;
 
 // R6, R10: how far from its brick a source or gate-side rerouter stands.
 pub const TAP_RESERVE: u32 = 5;
+
+// The kind of a stop's level in its row; any other number is a level of its own.
+pub const KIND_DROPPED: u32 = 0;
+
+pub const KIND_SHARED: u32 = 1;
 
 // One wire that a lane carries, and where its target stands.
 #[derive(Clone, Copy)]
@@ -28,7 +33,8 @@ pub struct Tap {
     pub wire: u32,
 }
 
-// What every rerouter of a group's lane shares, the port that feeds it, and its source anchor: no x where that is unplaced, no row where it is not known.
+// What every rerouter of a group's lane shares, the port that feeds it, and its source anchor: its x is MISSING where that is unplaced, its row where it is not known.
+// Stays (C interface): the anchor's x and row are numbers and no Option, as rows of tables hold them and rows of rerouters take them.
 #[derive(Clone, Copy)]
 pub struct Lane {
     pub page: u32,
@@ -59,6 +65,12 @@ pub struct Reached {
     pub level: Level,
 }
 
+// Before the first tap no stop is reached.
+pub const START: Reached = Reached {
+    stops: 0,
+    level: Level::Dropped,
+};
+
 // R2: the y of a lane, of so many lanes.
 fn lane_y(min_y: u32, lanes: u32, lane: u32) -> u32
     requires { (lane ≤ lanes) × (6 + 2 * (lanes - lane) ≤ min_y) }
@@ -71,10 +83,7 @@ fn lane_y(min_y: u32, lanes: u32, lane: u32) -> u32
 fn chain_rotation(x: u32, low: u32) -> u32
     ensures { result ≡ rotation_over x low }
 {
-    if (x != MISSING) & (x < low) {
-        return 3;
-    }
-    1
+    if (x != MISSING) & (x < low) { 3 } else { 1 }
 }
 
 // G10: the row of the source anchor, where that stands on the page.
@@ -83,9 +92,10 @@ fn source_row(nodes: &[Record], facts: &[WorkRow], s: usize, page: u32) -> u32
     ensures { result ≡ row_on_page nodes.now facts.now s page }
 {
     if nodes[s][10] == page {
-        return facts[s][0];
+        facts[s][0]
+    } else {
+        MISSING
     }
-    MISSING
 }
 
 // The lane of a tap's group.
@@ -108,35 +118,40 @@ pub fn lane_of(
     let x = nodes[s][8];
     let y = lane_y(pages[p][1], facts[p][6], lane);
     let rotation = chain_rotation(x, groups[g][5]);
-    let row = source_row(nodes, facts, s, page);
+    let source_row = source_row(nodes, facts, s, page);
     Lane {
-        page: page,
-        lane: lane,
-        y: y,
+        page,
+        lane,
+        y,
         z: pages[p][2],
         colour: NodeId(nodes[s][1]),
-        rotation: rotation,
+        rotation,
         node: NodeId(wires[g][1]),
         port: wires[g][2],
         source_x: x,
         source_y: nodes[s][9],
-        source_row: row,
+        source_row,
     }
 }
 
-pub fn tap_at(laid: &[WorkRow], k: usize) -> Tap
-    requires { k < length laid.now }
-    ensures { result ≡ tap_read (get_or laid.now k []) }
-{
-    Tap {
-        page: laid[k][0],
-        group: laid[k][1],
-        row: laid[k][2],
-        y: laid[k][3],
-        x: laid[k][4],
-        node: laid[k][5],
-        port: laid[k][6],
-        wire: laid[k][7],
+// A laid tap, from its row.
+impl From<WorkRow> for Tap {
+    ghost use Rattle.routes_taps.specs.Taps.{tap_read};
+
+    ghost from_gives = { λ row t. t ≡ tap_read row };
+
+    fn from(row: WorkRow) -> Tap {
+        let [page, group, row, y, x, node, port, wire] = row;
+        Tap {
+            page,
+            group,
+            row,
+            y,
+            x,
+            node,
+            port,
+            wire,
+        }
     }
 }
 
@@ -163,19 +178,15 @@ pub fn news_at(laid: &[WorkRow], k: usize) -> News
     }
 }
 
-fn level_at(stops: &[WorkRow], j: usize) -> Level
-    requires { j < length stops.now }
-    ensures { stop_level_of result ≡ (stop_in (get_or stops.now j [])).level }
+// The level in a stop's row.
+fn level_of(stop: [u32; 8]) -> Level
+    ensures { stop_level_of result ≡ (stop_in stop).level }
 {
-    let level = stops[j][5];
-    let kind = stops[j][6];
-    if kind == 0 {
-        return Level::Dropped;
+    match stop[6] {
+        KIND_DROPPED => Level::Dropped,
+        KIND_SHARED => Level::Shared(stop[5]),
+        _ => Level::Own(stop[5]),
     }
-    if kind == 1 {
-        return Level::Shared(level);
-    }
-    Level::Own(level)
 }
 
 // A new row reaches the next stop.
@@ -183,13 +194,12 @@ pub fn reach(stops: &[WorkRow], reached: Reached, fresh: bool) -> Reached
     requires { fresh ≡ true → reached.stops < length stops.now }
     ensures { ReachedNext stops.now reached fresh result }
 {
-    let j = reached.stops;
     if fresh {
-        let level = level_at(stops, j);
-        return Reached {
-            stops: j + 1,
-            level: level,
-        };
+        Reached {
+            stops: reached.stops + 1,
+            level: level_of(stops[reached.stops]),
+        }
+    } else {
+        reached
     }
-    reached
 }

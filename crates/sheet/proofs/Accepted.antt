@@ -5,11 +5,14 @@ use mathlib.Core.Bool.{beq}
 use lib.Seq.{set_out}
 use borrow.Author.Tests.{eqb-false, not-true, not-false}
 use Rattle.sheet.specs.declared.Counts.{Counts}
-use Rattle.sheet.specs.declared.line.Cell.{Cell}
-use Rattle.sheet.specs.declared.line.Cell.TheVariants.{Holds, OutOfRange, Malformed}
+use Rattle.sheet.specs.declared.line.CellFault.{CellFault}
+use Rattle.sheet.specs.declared.line.CellFault.TheVariants.{OutOfRange, Malformed}
+use Rattle.sheet.specs.declared.table.Column.{Column}
+use Rattle.sheet.specs.declared.table.Gap.TheVariants.{Never, AsBefore}
+use Rattle.std.specs.Prelude.{Result, Ok, Err}
 use Rattle.sheet.specs.Text.{TAB, NEWLINE, parts}
 use Rattle.sheet.specs.Number.{Number, bad, missing, plus, minus, number}
-use Rattle.sheet.specs.Table.{Column, MISSING, NEVER, AS_BEFORE, ORIGIN, COORDINATE_MOST, ID_MOST, PORT_MOST, HALF_MOST, PAGE_MOST, PAGES, NODES, CHIPS, INNER, EXECS, WIRES, SECTIONS, letters, columns_of}
+use Rattle.sheet.specs.Table.{MISSING, ORIGIN, COORDINATE_MOST, ID_MOST, PORT_MOST, HALF_MOST, PAGE_MOST, PAGES, NODES, CHIPS, INNER, EXECS, WIRES, SECTIONS, letters, columns_of}
 use Rattle.sheet.specs.Record.{allowed, within, present, is_missing, cell_of, Line, unread, row, fields_read, place_of, section_of, empty_row, record_read, line_read}
 use Rattle.sheet.specs.Reading.{lines_read, sheet_lines, row_of, rows_from, section_in, counted, Before, after, no_lines, unreadable, over_most, out_of_range, first, listed, rows, reading}
 use Rattle.sheet.specs.Answer.{counted_all}
@@ -35,11 +38,11 @@ Small [] = Unit {0}
 Small (c ∷ cs) = (c.high < MISSING) × Small cs
 
 -- What a cell holds is a number that may stand there.
-within_held : (low high : ℕ) (fits : Bool) (x v : ℕ) → within low high fits x ≡ Holds v → (low ≤ v) × (v ≤ high)
+within_held : (low high : ℕ) (fits : Bool) (x v : ℕ) → within low high fits x ≡ Ok v → (low ≤ v) × (v ≤ high)
 unfolding within
 within_held low high fits x v e = go (fits && leb low x && leb x high) refl e
   where
-    go : (t : Bool) → (fits && leb low x && leb x high) ≡ t → elim t [ true ↦ Holds x | false ↦ OutOfRange ] ≡ Holds v → (low ≤ v) × (v ≤ high)
+    go : (t : Bool) → (fits && leb low x && leb x high) ≡ t → elim t as (λ _. Result ℕ CellFault) [ true ↦ Ok x | false ↦ Err OutOfRange ] ≡ Ok v → (low ≤ v) × (v ≤ high)
     go true h q =
         let same : x ≡ v = cc in
         let least = leb-true low x (and_right fits (leb low x) (and_left (fits && leb low x) (leb x high) h)) in
@@ -54,7 +57,7 @@ module _ (c : Column) (before : Bool) (v : ℕ) (small : c.high < MISSING) where
       let other : eqb v MISSING ≡ false = ne_eqb v MISSING (λ z. omega arith) in
       (other, record { fitting = rw other a; range = λ z. (l, h) })
 
-  present_held : (n : Number) → allowed c.gap before (is_missing n) ≡ true → present c n ≡ Holds v → (eqb v MISSING ≡ is_missing n) × HeldAt c before v
+  present_held : (n : Number) → allowed c.gap before (is_missing n) ≡ true → present c n ≡ Ok v → (eqb v MISSING ≡ is_missing n) × HeldAt c before v
   unfolding present
   present_held bad a e = never cc
   present_held missing a e =
@@ -64,11 +67,11 @@ module _ (c : Column) (before : Bool) (v : ℕ) (small : c.high < MISSING) where
   present_held (plus w) a e = number_held a (within_held c.low c.high true (c.origin + w) v e)
   present_held (minus w) a e = number_held a (within_held c.low c.high (leb w c.origin) (c.origin - w) v e)
 
-  cell_held : (n : Number) → cell_of c before n ≡ Holds v → (eqb v MISSING ≡ is_missing n) × HeldAt c before v
+  cell_held : (n : Number) → cell_of c before n ≡ Ok v → (eqb v MISSING ≡ is_missing n) × HeldAt c before v
   unfolding cell_of
   cell_held n e = go (allowed c.gap before (is_missing n)) refl e
     where
-      go : (t : Bool) → allowed c.gap before (is_missing n) ≡ t → elim t [ true ↦ present c n | false ↦ Malformed ] ≡ Holds v
+      go : (t : Bool) → allowed c.gap before (is_missing n) ≡ t → elim t as (λ _. Result ℕ CellFault) [ true ↦ present c n | false ↦ Err Malformed ] ≡ Ok v
           → (eqb v MISSING ≡ is_missing n) × HeldAt c before v
       go true a q = present_held n a q
       go false a q = never cc
@@ -92,16 +95,16 @@ fields_held (c ∷ cs) [] before fits k r₀ r small room e = never cc
 fields_held (c ∷ cs) (f ∷ fs) before fits k r₀ r small room e =
     go (cell_of c before (number f)) refl e (λ fits' r'. fields_held cs fs (is_missing (number f)) fits' (suc k) r' r small.1)
   where
-    go : (cell : Cell) → cell_of c before (number f) ≡ cell
+    go : (cell : Result ℕ CellFault) → cell_of c before (number f) ≡ cell
         → elim cell [
-          | Holds v ↦ fields_read cs fs (is_missing (number f)) fits (suc k) (set r₀ k v)
-          | OutOfRange ↦ fields_read cs fs (is_missing (number f)) false (suc k) r₀
-          | Malformed ↦ unread
+          | Ok v ↦ fields_read cs fs (is_missing (number f)) fits (suc k) (set r₀ k v)
+          | Err OutOfRange ↦ fields_read cs fs (is_missing (number f)) false (suc k) r₀
+          | Err Malformed ↦ unread
         ] ≡ row true r
         → ((fits' : Bool) (r' : List ℕ) → suc k + length cs ≤ length r' → fields_read cs fs (is_missing (number f)) fits' (suc k) r' ≡ row true r
         → FieldsHeld cs (is_missing (number f)) fits' (suc k) r' r)
         → FieldsHeld (c ∷ cs) before fits k r₀ r
-    go (Holds v) is q rec =
+    go (Ok v) is q rec =
         let more : suc k + length cs ≤ length (set r₀ k v) = simp length-set (omega arith) in
         let rest = rec fits (set r₀ k v) more q in
         let here : get_or r k 0 ≡ v = rest.kept k (omega arith) ∙ get_or-set_same r₀ k v 0 (omega arith) in
@@ -112,8 +115,8 @@ fields_held (c ∷ cs) (f ∷ fs) before fits k r₀ r small room e =
           long = rest.long ∙ length-set r₀ k v;
           kept = λ j h. rest.kept j (omega arith) ∙ get_or-set_other r₀ k j v 0 (λ z. omega arith);
         }
-    go OutOfRange is q rec = clash (rec false r₀ (omega arith) q).fitting refl
-    go Malformed is q rec = never cc
+    go (Err OutOfRange) is q rec = clash (rec false r₀ (omega arith) q).fitting refl
+    go (Err Malformed) is q rec = never cc
 
 -- A row of an accepted sheet: sixteen numbers, its section, and the numbers of its columns.
 pub record RowHeld (r : List ℕ) : Type 0 where
@@ -307,11 +310,11 @@ abbrev pub COORDINATE_HIGH : ℕ
 COORDINATE_HIGH = ORIGIN + COORDINATE_MOST
 
 module _ {origin low high : ℕ} {before : Bool} {v : ℕ} where
-  never_missing : HeldAt (record { origin = origin; low = low; high = high; gap = NEVER }) before v → Within low high v
+  never_missing : HeldAt (record { origin = origin; low = low; high = high; gap = Never }) before v → Within low high v
   unfolding allowed
   never_missing h = h.range (not-true (eqb v MISSING) h.fitting)
 
-  as_before : HeldAt (record { origin = origin; low = low; high = high; gap = AS_BEFORE }) before v → eqb v MISSING ≡ before
+  as_before : HeldAt (record { origin = origin; low = low; high = high; gap = AsBefore }) before v → eqb v MISSING ≡ before
   unfolding allowed
   as_before h = go before (eqb v MISSING) h.fitting
     where

@@ -1,90 +1,79 @@
 -- What a field holds: the tests of the code are those of the rules.
-use Rattle.std.proofs.Common.{◌≡◌, ℕ, ◌+◌, ◌-◌, ◌<◌, ◌≤◌, Bool, true, false, not, ◌&&◌, leb, List, length, get_or, sym, refl, ap, ◌∙◌, zero-le, le_antisymm, arith, get_or-set_same, ne_eqb, le-leb, leb-true}
-use mathlib.Core.Bool.{beq}
-use lib.Arith.{lt_of_le-ne}
-use borrow.Author.Tests.{lt-leb}
-use Rattle.sheet.specs.declared.line.Cell.{Cell}
-use Rattle.sheet.specs.declared.line.Cell.TheVariants.{Holds, OutOfRange, Malformed}
-use Rattle.sheet.specs.Number.{Number, bad, missing, plus, minus}
+use Rattle.std.proofs.Common.{◌≡◌, ℕ, ◌+◌, ◌-◌, ◌^◌, ◌<◌, ◌≤◌, min, Bool, true, false, ◌&&◌, leb, List, length, get_or, sym, refl, ap, ◌∙◌, arith, get_or-set_same, ne_eqb, le-leb, leb-true, leb-false}
+use Rattle.std.specs.Prelude.{Option, Some, Result, Ok, Err}
 use Rattle.sheet.specs.declared.number.Scanned.{Scanned}
-use Rattle.sheet.specs.declared.number.Scanned.TheVariants.{Bad, Missing, Plus, Minus}
+use borrow.Author.Tests.{lt-leb}
+use Rattle.sheet.specs.declared.line.CellFault.{CellFault}
+use Rattle.sheet.specs.declared.line.CellFault.TheVariants.{OutOfRange, Malformed}
+use Rattle.sheet.specs.declared.table.Column.{Column}
+use Rattle.sheet.specs.Number.{Number, bad, missing, plus, minus}
 use Rattle.sheet.specs.Walk.{number_in, is_gone, is_malformed, row_after}
-use Rattle.sheet.specs.Table.{Column, MISSING, NEVER, AS_BEFORE, SECTIONS, letters}
+use Rattle.sheet.specs.Table.{MISSING, SECTIONS, letters}
 use Rattle.sheet.specs.Record.{allowed, within, present, is_missing, cell_of, place_of}
 use Rattle.base.proofs.Bools.{and_right, clash}
 
-pub allowed_never : (gap : ℕ) (before gone : Bool) → gap ≡ NEVER → not gone ≡ allowed gap before gone
-unfolding allowed
-allowed_never gap before gone e = rw e
-
-pub allowed_pair : (gap : ℕ) (before gone : Bool) → gap ≡ AS_BEFORE → beq before gone ≡ allowed gap before gone
-unfolding allowed
-allowed_pair gap before gone e = rw e
-
-pub allowed_free : (gap : ℕ) (before gone : Bool) → (gap ≡ NEVER → ⊥) → (gap ≡ AS_BEFORE → ⊥) → true ≡ allowed gap before gone
-unfolding allowed
-allowed_free gap before gone n p = rw (ne_eqb gap NEVER n, allowed) (rw (ne_eqb gap AS_BEFORE p))
-
 module _ (low high v : ℕ) where
-  pub within_holds : low ≤ v → v ≤ high → Holds v ≡ within low high true v
+  pub within_holds : low ≤ v → v ≤ high → Ok v ≡ within low high true v
   unfolding within
   within_holds l h = rw (le-leb low v l, le-leb v high h, within)
 
-  pub within_low : (fits : Bool) → v < low → OutOfRange ≡ within low high fits v
+  pub within_low : v < low → Err OutOfRange ≡ within low high true v
   unfolding within
-  within_low true h = rw (lt-leb low v h, within)
-  within_low false h = refl
+  within_low h = rw (lt-leb low v h, within)
 
-  pub within_high : high < v → OutOfRange ≡ within low high true v
+  pub within_high : high < v → Err OutOfRange ≡ within low high true v
   unfolding within
   within_high h = rw (lt-leb v high h, within) (go (leb low v))
     where
-      go : (b : Bool) → OutOfRange ≡ elim (b && false) as (λ _. Cell) [ true ↦ Holds v | false ↦ OutOfRange ]
+      go : (b : Bool) → Err OutOfRange ≡ elim (b && false) as (λ _. Result ℕ CellFault) [ true ↦ Ok v | false ↦ Err OutOfRange ]
       go true = refl
       go false = refl
 
-  pub within-not : OutOfRange ≡ within low high false v
+-- a number that would not fit in 64 bits is out of range either way
+pub within_most : (low high v w : ℕ) → high < 2 ^ 32 → w ≡ min v (2 ^ 64 - 1) → within low high true w ≡ within low high true v
+within_most low high v w h e = go (leb v (2 ^ 64 - 1)) refl
+  where
+    go : (b : Bool) → leb v (2 ^ 64 - 1) ≡ b → within low high true w ≡ within low high true v
+    go true q = let same : w ≡ v = omega (arith, e, leb-true v (2 ^ 64 - 1) q) in rw same
+    go false q = sym (within_high low high w (omega (arith, e, h, leb-false v (2 ^ 64 - 1) q))) ∙ within_high low high v (omega (arith, h, leb-false v (2 ^ 64 - 1) q))
+
+-- a number taken away from the origin
+module _ (low high origin v : ℕ) where
+  pub within_less : (held : ℕ) → v ≤ origin → held ≡ origin - v → within low high true held ≡ within low high (leb v origin) (origin - v)
+  within_less held h e = rw (e, le-leb v origin h)
+
+  pub within_under : origin < v → Err OutOfRange ≡ within low high (leb v origin) (origin - v)
   unfolding within
-  within-not = refl
+  within_under h = rw (lt-leb v origin h, within)
 
-pub cell_allowed : (c : Column) (before : Bool) (n : Number) → allowed c.gap before (is_missing n) ≡ true → present c n ≡ cell_of c before n
-unfolding cell_of
-cell_allowed c before n e = rw (e, cell_of)
+module _ (c : Column) (before : Bool) where
+  pub cell_allowed : (n : Number) → allowed c.gap before (is_missing n) ≡ true → present c n ≡ cell_of c before n
+  unfolding cell_of
+  cell_allowed n e = rw (e, cell_of)
 
-pub cell_not : (c : Column) (before : Bool) (n : Number) → allowed c.gap before (is_missing n) ≡ false → Malformed ≡ cell_of c before n
-unfolding cell_of
-cell_not c before n e = rw (e, cell_of)
+  pub cell_not : (n : Number) → allowed c.gap before (is_missing n) ≡ false → Err Malformed ≡ cell_of c before n
+  unfolding cell_of
+  cell_not n e = rw (e, cell_of)
 
--- what a scanned field holds, by what was scanned
-module _ (c : Column) (before : Bool) (n : Scanned) where
-  pub cell_bad : n ≡ Bad → Malformed ≡ cell_of c before (number_in n)
+  pub cell_bad : Err Malformed ≡ cell_of c before bad
   unfolding cell_of present
-  cell_bad e = rw e (go (allowed c.gap before false))
+  cell_bad = go (allowed c.gap before false)
     where
-      go : (b : Bool) → Malformed ≡ elim b as (λ _. Cell) [ true ↦ Malformed | false ↦ Malformed ]
+      go : (b : Bool) → Err Malformed ≡ elim b as (λ _. Result ℕ CellFault) [ true ↦ Err Malformed | false ↦ Err Malformed ]
       go true = refl
       go false = refl
 
-  pub cell_missing : n ≡ Missing → allowed c.gap before true ≡ true → Holds MISSING ≡ cell_of c before (number_in n)
-  unfolding present
-  cell_missing e a = rw e (cell_allowed c before missing a)
+-- the same as the code asks it, of what was scanned
+module _ (c : Column) (before : Bool) (n : Option Scanned) (x m : Scanned) (some : n ≡ Some x) (is : x ≡ m) where
+  pub cell_standing : true ≡ allowed c.gap before (is_missing (number_in (Some m))) → present c (number_in (Some m)) ≡ cell_of c before (number_in n)
+  cell_standing a = rw (some, is) (cell_allowed c before (number_in (Some m)) (sym a))
 
-  pub cell_plus : (v : ℕ) → n ≡ Plus v → allowed c.gap before false ≡ true
-      → within c.low c.high true (c.origin + v) ≡ cell_of c before (number_in n)
-  unfolding present
-  cell_plus v e a = rw e (cell_allowed c before (plus v) a)
-
-  pub cell_minus : (v : ℕ) → n ≡ Minus v → allowed c.gap before false ≡ true
-      → within c.low c.high (leb v c.origin) (c.origin - v) ≡ cell_of c before (number_in n)
-  unfolding present
-  cell_minus v e a = rw e (cell_allowed c before (minus v) a)
-
-  pub cell_refused : (gone : Bool) → is_missing (number_in n) ≡ gone → allowed c.gap before gone ≡ false → Malformed ≡ cell_of c before (number_in n)
-  cell_refused gone e a = cell_not c before (number_in n) (rw e a)
+  pub cell_fallen : false ≡ allowed c.gap before (is_missing (number_in (Some m))) → Err Malformed ≡ cell_of c before (number_in n)
+  cell_fallen a = rw (some, is) (cell_not c before (number_in (Some m)) (sym a))
 
 -- A field that is not malformed leaves in its row whether it is missing: no number in range stands for a missing one, and one out of range leaves the zero.
 module _ (c : Column) (before : Bool) (under : c.high < MISSING) (r : List ℕ) (k : ℕ) (inside : k < length r) (blank : get_or r k 0 ≡ 0) where
-  abbrev gone_in : Cell → Bool
+  abbrev gone_in : Result ℕ CellFault → Bool
   gone_in held = is_gone (get_or (row_after held r k) k 0)
 
   within_there : (fits : Bool) (v : ℕ) → gone_in (within c.low c.high fits v) ≡ false
@@ -97,7 +86,7 @@ module _ (c : Column) (before : Bool) (under : c.high < MISSING) (r : List ℕ) 
           rw (e, within) (rw (get_or-set_same r k v 0 inside) (ne_eqb v MISSING (λ (q : v ≡ MISSING). omega (arith, under))))
       go false e = rw (e, within) (rw blank)
 
-  not_malformed : {x : Cell} → Malformed ≡ x → is_malformed x ≡ false → ⊥
+  not_malformed : {x : Result ℕ CellFault} → Err Malformed ≡ x → is_malformed x ≡ false → ⊥
   not_malformed e m = clash (ap is_malformed (sym e)) m
 
   left_there : (n : Number) (a : Bool) → allowed c.gap before (is_missing n) ≡ a → is_malformed (cell_of c before n) ≡ false → gone_in (cell_of c before n) ≡ is_missing n
@@ -108,25 +97,14 @@ module _ (c : Column) (before : Bool) (under : c.high < MISSING) (r : List ℕ) 
   left_there (plus v) true e m = ap gone_in (sym (cell_allowed c before (plus v) e)) ∙ within_there true (c.origin + v)
   left_there (minus v) true e m = ap gone_in (sym (cell_allowed c before (minus v) e)) ∙ within_there (leb v c.origin) (c.origin - v)
 
-  pub gone_after : (n : Number) (held : Cell) → held ≡ cell_of c before n → is_malformed held ≡ false → gone_in held ≡ is_missing n
+  pub gone_after : (n : Number) (held : Result ℕ CellFault) → held ≡ cell_of c before n → is_malformed held ≡ false → gone_in held ≡ is_missing n
   gone_after n held e m = ap gone_in e ∙ left_there n (allowed c.gap before (is_missing n)) refl (ap is_malformed (sym e) ∙ m)
 
 -- a letter that is none of the six
 pub no_section : (b : ℕ) → (b ≡ 80 → ⊥) → (b ≡ 78 → ⊥) → (b ≡ 67 → ⊥) → (b ≡ 70 → ⊥) → (b ≡ 88 → ⊥) → (b ≡ 87 → ⊥)
-    → SECTIONS ≡ place_of b letters 0
+    → place_of b letters 0 ≡ SECTIONS
 unfolding place_of
 no_section b p n c f x w =
     rw (ne_eqb b 80 p, place_of)
     (rw (ne_eqb b 78 n, place_of)
     (rw (ne_eqb b 67 c, place_of) (rw (ne_eqb b 70 f, place_of) (rw (ne_eqb b 88 x, place_of) (rw (ne_eqb b 87 w, place_of))))))
-
--- a number up to six that is none of the sections' numbers
-pub past_sections : (s : ℕ) → s ≤ 6 → (s ≡ 0 → ⊥) → (s ≡ 1 → ⊥) → (s ≡ 2 → ⊥) → (s ≡ 3 → ⊥) → (s ≡ 4 → ⊥) → (s ≡ 5 → ⊥) → s ≡ 6
-past_sections s h a b c d e f =
-    let h5 : 0 < s = lt_of_le-ne (zero-le) (λ (p : 0 ≡ s). a (sym p)) in
-    let h4 : 1 < s = lt_of_le-ne h5 (λ (p : 1 ≡ s). b (sym p)) in
-    let h3 : 2 < s = lt_of_le-ne h4 (λ (p : 2 ≡ s). c (sym p)) in
-    let h2 : 3 < s = lt_of_le-ne h3 (λ (p : 3 ≡ s). d (sym p)) in
-    let h1 : 4 < s = lt_of_le-ne h2 (λ (p : 4 ≡ s). e (sym p)) in
-    let h0 : 5 < s = lt_of_le-ne h1 (λ (p : 5 ≡ s). f (sym p)) in
-    le_antisymm h h0

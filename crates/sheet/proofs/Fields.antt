@@ -1,12 +1,13 @@
 -- The fields of a line, and one turn along the fields of a record.
 use Rattle.std.proofs.Common.{◌≡◌, ℕ, suc, ◌+◌, ◌<◌, ◌≤◌, Bool, true, false, cond, eqb, ltb, leb, List, [], ◌∷◌, ◌++◌, length, get_or, drop, sym, refl, ap, ◌∙◌, subst, add-one, arith, length-append, length-drop, length-set, drop_of_length-le, get_or-set_other, drop-drop, ltb-false, ltb-true, le-ltb, lt-ltb, eqb-true, le-leb}
 use borrow.Author.Tests.{lt-leb}
-use Rattle.sheet.specs.declared.line.Cell.{Cell}
-use Rattle.sheet.specs.declared.line.Cell.TheVariants.{Holds, OutOfRange, Malformed}
+use Rattle.sheet.specs.declared.line.CellFault.{CellFault}
+use Rattle.sheet.specs.declared.line.CellFault.TheVariants.{OutOfRange, Malformed}
+use Rattle.sheet.specs.declared.table.Column.{Column}
+use Rattle.std.specs.Prelude.{Option, Result, Ok, Err}
 use Rattle.sheet.specs.declared.number.Scanned.{Scanned}
 use Rattle.sheet.specs.Text.{TAB, NEWLINE, parts, part_of, line_of}
 use Rattle.sheet.specs.Number.{bad, number}
-use Rattle.sheet.specs.Table.{Column}
 use Rattle.sheet.specs.Record.{Line, unread, row, is_missing, allowed, present, cell_of, fields_read}
 use Rattle.sheet.specs.Walk.{has, ended, fields_of, fields_from, line_end, number_in, is_malformed, fits_after, row_after}
 use Rattle.base.proofs.Bools.{never}
@@ -90,11 +91,11 @@ abbrev pub rest_read : List Column → Bool → List ℕ → (before fits : Bool
 rest_read [] there t before fits k r = cond there (row fits r) unread
 rest_read (c ∷ cs) there t before fits k r = fields_from (c ∷ cs) t before fits k r
 
-bad_malformed : (c : Column) (before : Bool) → cell_of c before bad ≡ Malformed
+bad_malformed : (c : Column) (before : Bool) → cell_of c before bad ≡ Err Malformed
 unfolding cell_of present
 bad_malformed c before = go (allowed c.gap before false)
   where
-    go : (b : Bool) → (elim b as (λ _. Cell) [ true ↦ Malformed | false ↦ Malformed ]) ≡ Malformed
+    go : (b : Bool) → (elim b as (λ _. Result ℕ CellFault) [ true ↦ Err Malformed | false ↦ Err Malformed ]) ≡ Err Malformed
     go true = refl
     go false = refl
 
@@ -104,7 +105,7 @@ neither true = refl
 neither false = refl
 
 module _ (c : Column) (before fits : Bool) (k : ℕ) (r : List ℕ) where
-  abbrev cell : List ℕ → Cell
+  abbrev cell : List ℕ → Result ℕ CellFault
   cell f = cell_of c before (number f)
 
   -- a field of a record, and those behind it
@@ -113,11 +114,11 @@ module _ (c : Column) (before fits : Bool) (k : ℕ) (r : List ℕ) where
   unfolding fields_read
   read_one cs f fs = go (cell f) refl
     where
-      go : (x : Cell) → cell f ≡ x → fields_read (c ∷ cs) (f ∷ fs) before fits k r
+      go : (x : Result ℕ CellFault) → cell f ≡ x → fields_read (c ∷ cs) (f ∷ fs) before fits k r
           ≡ cond (is_malformed (cell f)) unread (fields_read cs fs (is_missing (number f)) (fits_after (cell f) fits) (suc k) (row_after (cell f) r k))
-      go (Holds v) e = rw (e, fields_read)
-      go OutOfRange e = rw (e, fields_read)
-      go Malformed e = rw (e, fields_read)
+      go (Ok v) e = rw (e, fields_read)
+      go (Err OutOfRange) e = rw (e, fields_read)
+      go (Err Malformed) e = rw (e, fields_read)
 
   -- too few fields, or too many
   few : (d : Column) (cs : List Column) (f : List ℕ) → fields_read (c ∷ d ∷ cs) (f ∷ []) before fits k r ≡ unread
@@ -235,7 +236,7 @@ opens (d ∷ cs) text at next e n p o =
     let x = ended_field at (drop at text) n (ap ended p ∙ o) in
     (x.0, x.1 ∙ rw (p, e, add-one (at + length (part_of TAB (drop at text)))))
 
-module _ (col : Column) (cs : List Column) (before fits : Bool) (k : ℕ) (r : List ℕ) (text : List ℕ) (at : ℕ) (n : Scanned) (held : Cell) (next : ℕ)
+module _ (col : Column) (cs : List Column) (before fits : Bool) (k : ℕ) (r : List ℕ) (text : List ℕ) (at : ℕ) (n : Option Scanned) (held : Result ℕ CellFault) (next : ℕ)
     (scanned : number_in n ≡ number (field_in cs (drop at text))) (cell : held ≡ cell_of col before (number_in n)) (behind : next ≡ at + length (field_in cs (drop at text)) + 1) where
   abbrev front : List ℕ
   front = drop at text
@@ -269,7 +270,7 @@ module _ (col : Column) (cs : List Column) (before fits : Bool) (k : ℕ) (r : L
 
     some_number : number (field_in cs front) ≡ bad → ⊥
     some_number e =
-        let h : held ≡ Malformed = cell ∙ (ap (cell_of col before) (scanned ∙ e) ∙ bad_malformed col before) in
+        let h : held ≡ Err Malformed = cell ∙ (ap (cell_of col before) (scanned ∙ e) ∙ bad_malformed col before) in
         let no : false ≡ true = sym fine ∙ ap is_malformed h in
         never cc
 
@@ -286,12 +287,12 @@ read_ended cs t before fits k r f l e = go (ended t) refl
     go false n = let no : unread ≡ row f l = rw (n, fields_from) at e in never cc
 
 -- a field takes its own place in the row, and no other
-pub keep_others : (held : Cell) (r : List ℕ) (k j : ℕ) → (j ≡ k → ⊥) → get_or (row_after held r k) j 0 ≡ get_or r j 0
-keep_others (Holds v) r k j n = get_or-set_other r k j v 0 n
-keep_others OutOfRange r k j n = refl
-keep_others Malformed r k j n = refl
+pub keep_others : (held : Result ℕ CellFault) (r : List ℕ) (k j : ℕ) → (j ≡ k → ⊥) → get_or (row_after held r k) j 0 ≡ get_or r j 0
+keep_others (Ok v) r k j n = get_or-set_other r k j v 0 n
+keep_others (Err OutOfRange) r k j n = refl
+keep_others (Err Malformed) r k j n = refl
 
-pub keep-length : (held : Cell) (r : List ℕ) (k : ℕ) → length (row_after held r k) ≡ length r
-keep-length (Holds v) r k = length-set r k v
-keep-length OutOfRange r k = refl
-keep-length Malformed r k = refl
+pub keep-length : (held : Result ℕ CellFault) (r : List ℕ) (k : ℕ) → length (row_after held r k) ≡ length r
+keep-length (Ok v) r k = length-set r k v
+keep-length (Err OutOfRange) r k = refl
+keep-length (Err Malformed) r k = refl

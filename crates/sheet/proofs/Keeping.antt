@@ -1,12 +1,15 @@
 -- The pass that keeps rows: the row of each line behind stands in the lent rows, as far as these reach, and the first line without a row is known.
-use Rattle.std.proofs.Common.{◌≡◌, ℕ, ◌+◌, ◌<◌, ◌≤◌, min, max, Bool, true, false, cond, eqb, ltb, List, [], ◌∷◌, map, length, get_or, drop, set, sym, refl, ap, ◌∙◌, subst, add-zero, arith, length-drop, length-set, drop_of_length-le, get_or-drop, get_or-set_other, get_or-set_same, drop-drop, ltb-false, ltb-true, eqb-true}
+use Rattle.std.proofs.Common.{◌≡◌, ℕ, ◌+◌, ◌<◌, ◌≤◌, min, max, Bool, true, false, cond, eqb, ltb, List, [], ◌∷◌, map, length, get_or, drop, set, sym, refl, ap, ◌∙◌, subst, add-zero, arith, length-drop, length-set, drop_of_length-le, get_or-drop, get_or-set_other, get_or-set_same, drop-drop, ltb-false, ltb-true, eqb-true, Result, Err}
+use Rattle.std.specs.Prelude.{Some}
 use lib.ListN.{length-map}
 use borrow.Author.Tests.{eqb-false}
+use Rattle.base.specs.declared.refusal.Refusal.{Refusal}
+use Rattle.sheet.specs.declared.Survey.{Survey}
 use Rattle.sheet.specs.declared.line.LineAt.{LineAt}
 use Rattle.sheet.specs.Record.{row}
 use Rattle.sheet.specs.Reading.{Reading, refused, rows, sheet_lines, row_of, rows_from}
 use Rattle.sheet.specs.Answer.{front_line, AtLine, AtRow, HeldIf}
-use Rattle.sheet.specs.Walk.{line_end, LineKept}
+use Rattle.sheet.specs.Walk.{line_end, LineKept, survey_of, SurveyedAs}
 use Rattle.base.proofs.Bools.{never}
 use Rattle.sheet.proofs.Lines.{lines_none}
 use Rattle.sheet.proofs.Surveys.{line_read_lem}
@@ -25,12 +28,12 @@ keeping_start text lent =
 
 module _ {text : List ℕ} {lent : List (List ℕ)} {k at rest : ℕ} (w : Keeping text lent k at rest) where
   -- one line more
-  module _ {x : LineAt} {after : List (List ℕ)} (said : LineKept (front_line (sheet_lines (drop at text))) (line_end at (drop at text)) x k lent after) (e : x.read ≡ true) where
+  module _ {x : LineAt} {after : List (List ℕ)} (said : LineKept (front_line (sheet_lines (drop at text))) (line_end at (drop at text)) (Some x) k lent after) where
     next_lines : drop k (sheet_lines text) ≡ row x.fits said.stored ∷ sheet_lines (drop x.next text)
-    next_lines = sym w.here.lines ∙ (line_read_lem text at said.says e).0
+    next_lines = sym w.here.lines ∙ (line_read_lem text at said.says).0
 
     next_line : AtLine text (k + 1) x.next
-    next_line = record { inside = (line_read_lem text at said.says e).2; lines = ap (drop 1) (sym next_lines) ∙ drop-drop 1 k (sheet_lines text) }
+    next_line = record { inside = (line_read_lem text at said.says).2; lines = ap (drop 1) (sym next_lines) ∙ drop-drop 1 k (sheet_lines text) }
 
     row_here : get_or (rows_from text) k [] ≡ said.stored
     unfolding rows_from row_of
@@ -98,5 +101,11 @@ module _ {text : List ℕ} {lent : List (List ℕ)} {k at rest : ℕ} (w : Keepi
           rw same at w.line
 
 -- a refused sheet promises nothing of its rows
-pub held_refused : {r : Reading} {n line : ℕ} {text : List ℕ} {lent : List (List ℕ)} {at : ℕ} → r ≡ refused n line → HeldIf r text lent at
-held_refused {n = n} {line = line} e = λ l d. let q : refused n line ≡ rows l = sym e ∙ d in never cc
+pub held_refused : {r : Reading} {e : Refusal} {text : List ℕ} {lent : List (List ℕ)} {at : ℕ} → r ≡ refused e → HeldIf r text lent at
+held_refused {e = e} p = λ l d. let q : refused e ≡ rows l = sym p ∙ d in never cc
+
+-- what the pass says where it stops at a refusal
+pub surveyed_refused : {r : Reading} {e : Refusal} {text : List ℕ} {lent : List (List ℕ)} {found : Result Survey Refusal} → r ≡ refused e → found ≡ Err e
+    → SurveyedAs r text lent found
+unfolding survey_of
+surveyed_refused p q = (0, q ∙ sym (ap (survey_of 0) p), held_refused p)

@@ -1,18 +1,19 @@
 -- The line at the front of a text, and the lines after it.
-use Rattle.std.proofs.Common.{◌≡◌, ℕ, suc, ◌+◌, ◌<◌, ◌≤◌, Bool, true, false, eqb, List, [], ◌∷◌, ◌++◌, length, get_or, drop, sym, refl, ap, ◌∙◌, arith, length-drop, drop_of_length-le, drop-drop, ne_eqb, eqb-true}
+use Rattle.std.proofs.Common.{◌≡◌, ℕ, suc, ◌+◌, ◌<◌, ◌≤◌, Bool, true, false, eqb, List, [], ◌∷◌, ◌++◌, length, get_or, drop, sym, refl, ap, ◌∙◌, arith, length-drop, drop_of_length-le, drop-cons, drop-drop, ne_eqb, eqb-true}
 use lib.Arith.{lt_of_le-ne}
 use borrow.Author.Tests.{eqb-false}
 use Rattle.sheet.specs.declared.line.LineAt.{LineAt}
+use Rattle.std.specs.Prelude.{Option, Some}
 use Rattle.sheet.specs.Text.{TAB, NEWLINE, parts, part_of, line_of}
-use Rattle.sheet.specs.Table.{SECTIONS, letters, columns_of}
+use Rattle.sheet.specs.Table.{SECTIONS, letters, columns_of, id}
 use Rattle.sheet.specs.Record.{unread, place_of, section_of, fields_read, record_read, line_read, empty_row}
 use Rattle.sheet.specs.Reading.{lines_read, sheet_lines}
 use Rattle.sheet.specs.Answer.{front_line}
-use Rattle.sheet.specs.Walk.{has, ended, fields_of, fields_from, line_end, LineSays, first_column}
+use Rattle.sheet.specs.Walk.{has, ended, fields_of, fields_from, line_end, LineSays, Names}
 use Rattle.base.proofs.Bools.{never, clash}
 use Rattle.sheet.proofs.Parts.{Cut, whole, cut, cut_at, drop_past, parts_free, parts_cut, parts_some, part_free, part_cut, part_short}
 use Rattle.sheet.proofs.Fields.{Front, none, only, tabbed, front_of, fields_only, only_field, fields_tabbed, ended_tabbed, end_tabbed, read_ended}
-use Rattle.sheet.proofs.Columns.{spread, next_column}
+use Rattle.sheet.proofs.Columns.{spread}
 use Rattle.sheet.proofs.Turns.{says_as}
 
 -- the text after the line at its front
@@ -88,8 +89,7 @@ record_empty f = go (eqb (section_of f) SECTIONS) refl
 
     fields : s < SECTIONS → fields_read (columns_of s) [] false true 1 (empty_row s) ≡ unread
     fields h =
-        let x = spread s h in
-        rw (sym x.part ∙ next_column (first_column s) (first_column (suc s)) x.some x.inside)
+        rw (drop-cons (columns_of s) 0 id (spread s h).some)
 
     go : (x : Bool) → eqb s SECTIONS ≡ x → record_read (f ∷ []) ≡ unread
     go true e = record_none f [] (eqb-true s SECTIONS e)
@@ -166,15 +166,22 @@ named t at h = go (front_of t) h
             ∙ (ap record_read (fields_tabbed f u q p) ∙ (record_some f (fields_of u) (rw (part_cut TAB f u p) at h) ∙ rw (n, fields_from)))
         line false n = front_unended (f ++ TAB ∷ u) (ended_tabbed f u q ∙ n) ∙ rw (n, fields_from)
 
--- The same at a place of a text: what is said of the fields is said of the line.
-module _ (text : List ℕ) (at : ℕ) (h : section_of (part_of TAB (drop at text)) < SECTIONS) where
-  pub front_room : at + 1 ≤ length text
-  front_room = omega (arith, section_one (part_of TAB (drop at text)) h, part_short TAB (drop at text), length-drop at text)
+-- The same at a place of a text, where the field there names the section `s`: what is said of the fields is said of the line.
+module _ (text : List ℕ) (at : ℕ) {field : List ℕ} (shown : field ≡ part_of TAB (drop at text)) {s : ℕ} (names : Names (section_of field) (Some s)) where
+  same : section_of (part_of TAB (drop at text)) ≡ s
+  same = ap section_of (sym shown) ∙ names.1
 
-  pub front_says : (s : ℕ) → s ≡ section_of (part_of TAB (drop at text)) → {x : LineAt} {stored : List ℕ}
+  known : section_of (part_of TAB (drop at text)) < SECTIONS
+  known = rw same names.0
+
+  pub front_room : at + 1 ≤ length text
+  front_room = omega (arith, section_one (part_of TAB (drop at text)) known, part_short TAB (drop at text), length-drop at text)
+
+  pub front_says : (x : Option LineAt) (stored : List ℕ)
       → LineSays (fields_from (columns_of s) (drop (at + 2) text) false true 1 (empty_row s)) (line_end (at + 2) (drop (at + 2) text)) x stored
       → LineSays (front_line (sheet_lines (drop at text))) (line_end at (drop at text)) x stored
-  front_says s e said =
-      let n = named (drop at text) at h in
+  front_says x stored said =
+      let n = named (drop at text) at known in
       let place : drop 2 (drop at text) ≡ drop (at + 2) text = drop-drop 2 at text in
-      says_as said (n.fields ∙ rw (place, e)) (λ fits l r. n.ends (ap ended place ∙ read_ended (columns_of s) (drop (at + 2) text) false true 1 (empty_row s) fits l r) ∙ rw place)
+      says_as x stored said (n.fields ∙ rw (place, same))
+      (λ fits l r. n.ends (ap ended place ∙ read_ended (columns_of s) (drop (at + 2) text) false true 1 (empty_row s) fits l r) ∙ rw place)

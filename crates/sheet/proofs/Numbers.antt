@@ -1,58 +1,56 @@
 -- The number that a field writes.
-use Rattle.std.proofs.Common.{◌≡◌, ℕ, suc, ◌+◌, ◌-◌, ◌*◌, ◌%◌, ◌^◌, ◌<◌, ◌≤◌, Bool, true, false, ◌&&◌, eqb, leb, List, [], ◌∷◌, ◌++◌, length, get_or, take, drop, sym, refl, ap, ◌∙◌, zero-le, pow-suc, add-one, arith, drop_of_length-le, take_all, drop-cons, eq-eqb, ne_eqb, le-leb, leb-true}
+use Rattle.std.proofs.Common.{◌≡◌, ℕ, suc, ◌+◌, ◌-◌, ◌*◌, ◌^◌, ◌<◌, ◌≤◌, Bool, true, false, ◌&&◌, eqb, leb, List, [], ◌∷◌, ◌++◌, length, get_or, drop, sym, refl, ap, ◌∙◌, pow-suc, arith, drop_of_length-le, drop-cons, eq-eqb, ne_eqb, le-leb}
+use Rattle.std.specs.Prelude.{Some, None}
 use native.Mathlib.Nat.{pow-le-pow_right}
-use lib.Arith.{lt_of_le-ne}
 use borrow.Author.Tests.{lt-leb}
-use Rattle.base.proofs.Bools.{and_left}
 use Rattle.sheet.specs.Number.{Number, bad, missing, plus, minus, digit, all_digits, value_from, plain, no_leading_zero, unsigned, signed, number, ZERO, NINE, MINUS, digits_most}
-use Rattle.sheet.specs.Walk.{digits_read, negated, DigitSays, FirstDigit}
+use Rattle.sheet.specs.Walk.{plus_in, digits_read, DigitSays}
 
 -- Digits, one after the other.
 
-digit_true : (b : ℕ) → ZERO ≤ b → b ≤ NINE → digit b ≡ true
-digit_true b l h = rw (le-leb ZERO b l, le-leb b NINE h)
+-- what the code tells of a byte
+pub digit_yes : (b : ℕ) → ZERO ≤ b → b ≤ NINE → DigitSays b (Some (b - ZERO))
+digit_yes b l h = (rw (le-leb ZERO b l, le-leb b NINE h), omega arith, omega arith)
 
-digit_high : (b : ℕ) → NINE < b → digit b ≡ false
+pub digit_low : (b : ℕ) → b < ZERO → DigitSays b None
+digit_low b h = rw (lt-leb ZERO b h)
+
+pub digit_high : (b : ℕ) → NINE < b → DigitSays b None
 digit_high b h = rw (le-leb ZERO b (omega arith), lt-leb b NINE h)
 
--- the byte of `0` taken away, in 64 bits: a byte below it gives a number far above nine
-pub digit_says : (b d : ℕ) → b < 256 → d < 2 ^ 64 → (d + ZERO) % 2 ^ 64 ≡ b → DigitSays b d
-digit_says b d h l e = record { yes = yes; no = λ s. no s (leb ZERO b) refl }
-  where
-    yes : d ≤ 9 → (digit b ≡ true) × (d ≡ b - ZERO)
-    yes s = (digit_true b (omega (arith, e, s)) (omega (arith, e, s)), omega (arith, e, s))
+digit_true : (d : ℕ) → d < 10 → digit (ZERO + d) ≡ true
+digit_true d h = rw (le-leb ZERO (ZERO + d) (omega arith), le-leb (ZERO + d) NINE (omega arith))
 
-    no : 9 < d → (x : Bool) → leb ZERO b ≡ x → digit b ≡ false
-    no s true p = digit_high b (omega (arith, e, s, h, l, leb-true ZERO b p))
-    no s false p = rw p
-
-module _ (l : List ℕ) (v i : ℕ) where
-  pub digits_stop : i < length l → digit (get_or l i 0) ≡ false → digits_read v (drop i l) ≡ bad
+-- the digits behind those that wrote `v`
+module _ (l : List ℕ) (v i : ℕ) (h : i < length l) where
+  pub digits_stop : DigitSays (get_or l i 0) None → digits_read v (drop i l) ≡ None
   unfolding digits_read
-  digits_stop h e = rw (drop-cons l i 0 h) (rw (e, digits_read))
+  digits_stop e = rw (drop-cons l i 0 h) (rw (e, digits_read))
 
-  pub digits_more : i < length l → digit (get_or l i 0) ≡ true → digits_read v (drop i l) ≡ digits_read (v * 10 + (get_or l i 0 - ZERO)) (drop (i + 1) l)
+  pub digits_more : (d : ℕ) → DigitSays (get_or l i 0) (Some d) → digits_read v (drop i l) ≡ digits_read (v * 10 + d) (drop (suc i) l)
   unfolding digits_read
-  digits_more h e = rw (drop-cons l i 0 h, add-one i) (rw (e, digits_read))
+  digits_more d e =
+      let n : get_or l i 0 - ZERO ≡ d = omega (arith, e.2) in
+      rw (drop-cons l i 0 h) (rw (e.0, digits_read, n))
 
-  pub digits_end : length l ≤ i → digits_read v (drop i l) ≡ plus v
-  unfolding digits_read
-  digits_end h = rw (drop_of_length-le l {i = i} h)
+pub digits_end : (l : List ℕ) (v i : ℕ) → length l ≤ i → digits_read v (drop i l) ≡ Some v
+unfolding digits_read
+digits_end l v i h = rw (drop_of_length-le l {i = i} h)
 
--- one digit more keeps the value below the next power of ten
-pub value_grows : (k v d : ℕ) → v < 10 ^ k → d ≤ 9 → v * 10 + d < 10 ^ suc k
+-- one digit more keeps the value below the next power of ten, and ten digits fit
+pub value_grows : (k v d : ℕ) → v < 10 ^ k → d < 10 → v * 10 + d < 10 ^ suc k
 value_grows k v d h l = rw (pow-suc 10 k) (omega arith)
 
 pub power_small : (k : ℕ) → k ≤ digits_most → 10 ^ k ≤ 10 ^ digits_most
 power_small k h = pow-le-pow_right (omega arith) h
 
-digits_are : (v : ℕ) (bs : List ℕ) → digits_read v bs ≡ elim (all_digits bs) as (λ _. Number) [ true ↦ plus (value_from v bs) | false ↦ bad ]
+digits_are : (v : ℕ) (bs : List ℕ) → plus_in (digits_read v bs) ≡ elim (all_digits bs) as (λ _. Number) [ true ↦ plus (value_from v bs) | false ↦ bad ]
 unfolding digits_read all_digits value_from
 digits_are v [] = refl
 digits_are v (b ∷ bs) = go (digit b) refl (digits_are (v * 10 + (b - ZERO)) bs)
   where
-    go : (d : Bool) → digit b ≡ d → digits_read (v * 10 + (b - ZERO)) bs ≡ elim (all_digits bs) as (λ _. Number) [ true ↦ plus (value_from (v * 10 + (b - ZERO)) bs) | false ↦ bad ]
-        → digits_read v (b ∷ bs) ≡ elim (all_digits (b ∷ bs)) as (λ _. Number) [ true ↦ plus (value_from v (b ∷ bs)) | false ↦ bad ]
+    go : (d : Bool) → digit b ≡ d → plus_in (digits_read (v * 10 + (b - ZERO)) bs) ≡ elim (all_digits bs) as (λ _. Number) [ true ↦ plus (value_from (v * 10 + (b - ZERO)) bs) | false ↦ bad ]
+        → plus_in (digits_read v (b ∷ bs)) ≡ elim (all_digits (b ∷ bs)) as (λ _. Number) [ true ↦ plus (value_from v (b ∷ bs)) | false ↦ bad ]
     go true e h = rw (e, digits_read) h
     go false e h = rw (e, digits_read)
 
@@ -72,121 +70,108 @@ unfolding unsigned plain
 unsigned_many bs h = rw (lt-leb (length bs) digits_most h, and_last (all_digits bs) (no_leading_zero bs), unsigned)
 
 -- the first byte is no digit
-pub unsigned_other : (bs : List ℕ) → (length bs ≡ 0 → ⊥) → digit (get_or bs 0 0) ≡ false → unsigned bs ≡ bad
+pub unsigned_other : (b : ℕ) (bs : List ℕ) → DigitSays b None → unsigned (b ∷ bs) ≡ bad
 unfolding unsigned plain all_digits
-unsigned_other [] n e = absurd (n refl)
-unsigned_other (b ∷ bs) n e = rw (e, unsigned)
+unsigned_other b bs e = rw (e, unsigned)
 
 -- no zero leads and there are not too many bytes: the digits tell
-unsigned_read : (bs : List ℕ) → no_leading_zero bs ≡ true → length bs ≤ digits_most → unsigned bs ≡ digits_read 0 bs
+unsigned_read : (bs : List ℕ) → no_leading_zero bs ≡ true → length bs ≤ digits_most → unsigned bs ≡ plus_in (digits_read 0 bs)
 unfolding unsigned plain
 unsigned_read bs z q = go (all_digits bs) refl
   where
     short : leb (length bs) digits_most ≡ true
     short = le-leb (length bs) digits_most q
 
-    go : (d : Bool) → all_digits bs ≡ d → unsigned bs ≡ digits_read 0 bs
+    go : (d : Bool) → all_digits bs ≡ d → unsigned bs ≡ plus_in (digits_read 0 bs)
     go true e = rw (e, z, short, unsigned) (sym (digits_are 0 bs ∙ rw e))
     go false e = rw (e, unsigned) (sym (digits_are 0 bs ∙ rw e))
 
 -- a field whose first digit is known
-pub first_digit : (bs : List ℕ) (d : ℕ) → (length bs ≡ 0 → ⊥) → DigitSays (get_or bs 0 0) d → d ≤ 9 → FirstDigit bs d
-first_digit bs d n s l = record { some = lt_of_le-ne zero-le (λ (e : 0 ≡ length bs). n (sym e)); small = l; is = (s.yes l).0; value = (s.yes l).1 }
-
-module _ (bs : List ℕ) (d : ℕ) (f : FirstDigit bs d) where
-  first_byte : get_or bs 0 0 ≡ ZERO + d
-  first_byte = omega (arith, f.value, leb-true ZERO (get_or bs 0 0) (and_left (leb ZERO (get_or bs 0 0)) (leb (get_or bs 0 0) NINE) f.is))
-
-  first_read : digits_read 0 bs ≡ digits_read d (drop 1 bs)
+module _ (d : ℕ) (small : d < 10) where
+  first_read : (bs : List ℕ) → digits_read 0 ((ZERO + d) ∷ bs) ≡ digits_read d bs
   unfolding digits_read
-  first_read = go bs f.some f.is f.value
-    where
-      go : (l : List ℕ) → 0 < length l → digit (get_or l 0 0) ≡ true → d ≡ get_or l 0 0 - ZERO → digits_read 0 l ≡ digits_read d (drop 1 l)
-      go [] h e v = absurd (omega arith)
-      go (b ∷ l) h e v = let z : 0 * 10 + (b - ZERO) ≡ d = omega (arith, v) in rw (e, digits_read) (ap (λ (w : ℕ). digits_read w l) z)
+  first_read bs =
+      let z : 0 * 10 + ((ZERO + d) - ZERO) ≡ d = omega arith in
+      rw (digit_true d small, digits_read) (ap (λ (w : ℕ). digits_read w bs) z)
 
-  pub unsigned_one : length bs ≡ 1 → unsigned bs ≡ plus d
+  pub unsigned_one : (bs : List ℕ) → length bs ≡ 0 → unsigned ((ZERO + d) ∷ bs) ≡ plus d
   unfolding no_leading_zero digits_read
-  unsigned_one e = go bs e first_read (unsigned_read bs)
-    where
-      go : (l : List ℕ) → length l ≡ 1 → digits_read 0 l ≡ digits_read d (drop 1 l) → (no_leading_zero l ≡ true → length l ≤ digits_most → unsigned l ≡ digits_read 0 l) → unsigned l ≡ plus d
-      go [] e r u = absurd (omega arith)
-      go (b ∷ []) e r u = u refl (omega arith) ∙ r
-      go (b ∷ c ∷ l) e r u = absurd (omega arith)
+  unsigned_one [] e = unsigned_read ((ZERO + d) ∷ []) refl (omega arith) ∙ ap plus_in (first_read [])
+  unsigned_one (c ∷ bs) e = absurd (omega arith)
 
-  pub unsigned_zero : (length bs ≡ 1 → ⊥) → d ≡ 0 → unsigned bs ≡ bad
+  pub unsigned_zero : (bs : List ℕ) → (length bs ≡ 0 → ⊥) → d ≡ 0 → unsigned ((ZERO + d) ∷ bs) ≡ bad
   unfolding unsigned plain no_leading_zero
-  unsigned_zero n z = go bs f.some n (omega (arith, first_byte))
-    where
-      go : (l : List ℕ) → 0 < length l → (length l ≡ 1 → ⊥) → get_or l 0 0 ≡ ZERO → unsigned l ≡ bad
-      go [] h n e = absurd (omega arith)
-      go (b ∷ []) h n e = absurd (n refl)
-      go (b ∷ c ∷ l) h n e = rw (eq-eqb b ZERO e, and_middle (all_digits (b ∷ c ∷ l)) (leb (length (b ∷ c ∷ l)) digits_most), unsigned)
+  unsigned_zero [] n z = absurd (n refl)
+  unsigned_zero (c ∷ bs) n z =
+      let e : ZERO + d ≡ ZERO = omega arith in
+      rw (eq-eqb (ZERO + d) ZERO e, and_middle (all_digits ((ZERO + d) ∷ c ∷ bs)) (leb (length ((ZERO + d) ∷ c ∷ bs)) digits_most), unsigned)
 
-  pub unsigned_digits : (d ≡ 0 → ⊥) → length bs ≤ digits_most → unsigned bs ≡ digits_read d (drop 1 bs)
+  pub unsigned_digits : (bs : List ℕ) → (d ≡ 0 → ⊥) → length bs < digits_most → unsigned ((ZERO + d) ∷ bs) ≡ plus_in (digits_read d bs)
   unfolding no_leading_zero
-  unsigned_digits n q = unsigned_read bs (go bs f.some (λ e. n (omega (arith, first_byte, e)))) q ∙ first_read
+  unsigned_digits bs n q = unsigned_read ((ZERO + d) ∷ bs) (go bs) (omega arith) ∙ ap plus_in (first_read bs)
     where
-      go : (l : List ℕ) → 0 < length l → (get_or l 0 0 ≡ ZERO → ⊥) → no_leading_zero l ≡ true
-      go [] h n = absurd (omega arith)
-      go (b ∷ []) h n = refl
-      go (b ∷ c ∷ l) h n = rw (ne_eqb b ZERO n)
+      go : (l : List ℕ) → no_leading_zero ((ZERO + d) ∷ l) ≡ true
+      go [] = refl
+      go (c ∷ l) = rw (ne_eqb (ZERO + d) ZERO (λ (e : ZERO + d ≡ ZERO). n (omega arith)))
 
 -- A number with a sign.
 
-pub signed_none : (bs : List ℕ) → length bs ≡ 0 → signed bs ≡ missing
+-- a number with a `-` in front
+negated : Number → Number
+negated bad = bad
+negated missing = bad
+negated (plus v) = elim (eqb v 0) [ true ↦ bad | false ↦ minus v ]
+negated (minus v) = bad
+
+pub signed_none : (bs : List ℕ) → length bs ≡ 0 → missing ≡ signed bs
 unfolding signed
 signed_none [] e = refl
 signed_none (b ∷ bs) e = absurd (omega arith)
 
-pub signed_some : (bs : List ℕ) → (length bs ≡ 0 → ⊥) → signed bs ≡ negated (unsigned bs)
-unfolding signed unsigned negated
-signed_some [] n = absurd (n refl)
-signed_some (b ∷ bs) n = go (plain (b ∷ bs)) refl (eqb (value_from 0 (b ∷ bs)) 0) refl
-  where
-    go : (x : Bool) → plain (b ∷ bs) ≡ x → (y : Bool) → eqb (value_from 0 (b ∷ bs)) 0 ≡ y → signed (b ∷ bs) ≡ negated (unsigned (b ∷ bs))
-    go true e true f = rw (e, unsigned, signed) (rw (f, negated))
-    go true e false f = rw (e, unsigned, signed) (rw (f, negated))
-    go false e y f = rw (e, unsigned, signed)
+module _ (b : ℕ) (bs : List ℕ) where
+  signed_some : signed (b ∷ bs) ≡ negated (unsigned (b ∷ bs))
+  unfolding signed unsigned negated
+  signed_some = go (plain (b ∷ bs)) refl (eqb (value_from 0 (b ∷ bs)) 0) refl
+    where
+      go : (x : Bool) → plain (b ∷ bs) ≡ x → (y : Bool) → eqb (value_from 0 (b ∷ bs)) 0 ≡ y → signed (b ∷ bs) ≡ negated (unsigned (b ∷ bs))
+      go true e true f = rw (e, unsigned, signed) (rw (f, negated))
+      go true e false f = rw (e, unsigned, signed) (rw (f, negated))
+      go false e y f = rw (e, unsigned, signed)
 
-pub negated_zero : (v : ℕ) → v ≡ 0 → negated (plus v) ≡ bad
-unfolding negated
-negated_zero v e = rw (eq-eqb v 0 e, negated)
+  pub signed_bad : bad ≡ unsigned (b ∷ bs) → bad ≡ signed (b ∷ bs)
+  unfolding negated
+  signed_bad e = sym (signed_some ∙ ap negated (sym e))
 
-pub negated_some : (v : ℕ) → (v ≡ 0 → ⊥) → negated (plus v) ≡ minus v
-unfolding negated
-negated_some v n = rw (ne_eqb v 0 n, negated)
+  pub signed_zero : (v : ℕ) → plus v ≡ unsigned (b ∷ bs) → v ≡ 0 → bad ≡ signed (b ∷ bs)
+  unfolding negated
+  signed_zero v e z = sym (signed_some ∙ (ap negated (sym e) ∙ rw (eq-eqb v 0 z, negated)))
 
--- nor is a sign before what is no digit
-pub signed_other : (bs : List ℕ) → (length bs ≡ 0 → ⊥) → digit (get_or bs 0 0) ≡ false → signed bs ≡ bad
-unfolding negated
-signed_other bs n e = signed_some bs n ∙ ap negated (unsigned_other bs n e)
+  pub signed_minus : (v : ℕ) → plus v ≡ unsigned (b ∷ bs) → (v ≡ 0 → ⊥) → minus v ≡ signed (b ∷ bs)
+  unfolding negated
+  signed_minus v e n = sym (signed_some ∙ (ap negated (sym e) ∙ rw (ne_eqb v 0 n, negated)))
 
 -- A field.
 
-pub number_none : (bs : List ℕ) → length bs ≡ 0 → number bs ≡ bad
+pub number_none : (bs : List ℕ) → length bs ≡ 0 → bad ≡ number bs
 unfolding number
 number_none [] e = refl
 number_none (b ∷ bs) e = absurd (omega arith)
 
-pub number_minus : (bs : List ℕ) → (length bs ≡ 0 → ⊥) → get_or bs 0 0 ≡ MINUS → number bs ≡ signed (take (length bs - 1) (drop 1 bs))
-unfolding number
-number_minus [] n e = absurd (n refl)
-number_minus (b ∷ bs) n e =
-    let one : suc (length bs) - 1 ≡ length bs = omega arith in
-    rw (eq-eqb b MINUS e, number) (ap signed (sym (ap (λ (n : ℕ). take n bs) one ∙ take_all (length bs) bs (omega arith))))
+module _ (b : ℕ) (bs : List ℕ) where
+  pub number_minus : b ≡ MINUS → signed bs ≡ number (b ∷ bs)
+  unfolding number
+  number_minus e = rw (eq-eqb b MINUS e, number)
 
-pub number_plain : (bs : List ℕ) → (length bs ≡ 0 → ⊥) → (get_or bs 0 0 ≡ MINUS → ⊥) → number bs ≡ unsigned bs
-unfolding number
-number_plain [] n e = absurd (n refl)
-number_plain (b ∷ bs) n e = rw (ne_eqb b MINUS e, number)
+  pub number_plain : (b ≡ MINUS → ⊥) → unsigned (b ∷ bs) ≡ number (b ∷ bs)
+  unfolding number
+  number_plain n = rw (ne_eqb b MINUS n, number)
 
 -- a digit is no sign
-pub number_digit : (bs : List ℕ) (d : ℕ) → FirstDigit bs d → number bs ≡ unsigned bs
-number_digit bs d f = number_plain bs (λ (e : length bs ≡ 0). omega (arith, f.some)) (λ (e : get_or bs 0 0 ≡ MINUS). omega (arith, first_byte bs d f))
+pub number_digit : (d : ℕ) (bs : List ℕ) → unsigned ((ZERO + d) ∷ bs) ≡ number ((ZERO + d) ∷ bs)
+number_digit d bs = number_plain (ZERO + d) bs (λ (e : ZERO + d ≡ MINUS). omega arith)
 
-pub number_other : (bs : List ℕ) → (length bs ≡ 0 → ⊥) → digit (get_or bs 0 0) ≡ false → (get_or bs 0 0 ≡ MINUS → ⊥) → number bs ≡ bad
-number_other bs n e m = number_plain bs n m ∙ unsigned_other bs n e
+pub number_other : (b : ℕ) (bs : List ℕ) → DigitSays b None → (b ≡ MINUS → ⊥) → bad ≡ number (b ∷ bs)
+number_other b bs e n = sym (unsigned_other b bs e) ∙ number_plain b bs n
 
 -- A field with a byte that no number has writes none.
 module _ (s : ℕ) (d : digit s ≡ false) (m : eqb s MINUS ≡ false) where

@@ -1,19 +1,22 @@
 -- The rows of an accepted sheet are in range.
-use Rattle.std.proofs.Common.{◌≡◌, ℕ, zero, suc, ◌+◌, ◌-◌, ◌<◌, ◌≤◌, Bool, true, false, ◌&&◌, eqb, leb, List, [], ◌∷◌, map, length, get_or, drop, set, sym, refl, ap, ◌∙◌, subst, inl, inr, add-zero, add-suc, suc-add, one-add, arith, length-set, get_or-drop, get_or-set_other, get_or-set_same, eq-eqb, leb-true}
+use Rattle.std.proofs.Common.{◌≡◌, ℕ, zero, suc, ◌+◌, ◌-◌, ◌<◌, ◌≤◌, Bool, true, false, ◌&&◌, eqb, leb, List, [], ◌∷◌, map, length, get_or, drop, set, sym, refl, ap, ◌∙◌, subst, inl, inr, add-zero, add-suc, suc-add, one-add, arith, length-set, get_or-drop, get_or-set_other, get_or-set_same, leb-true}
 use lib.ListN.{length-map}
-use lib.Seq.{drop-nil, length-slice}
+use lib.Seq.{drop-nil}
 use lib.Arith.{lt_of_le-ne}
 use borrow.Author.Tests.{eqb-false}
 use Rattle.sheet.specs.declared.Counts.{Counts}
-use Rattle.sheet.specs.declared.line.Cell.{Cell}
-use Rattle.sheet.specs.declared.line.Cell.TheVariants.{Holds, OutOfRange, Malformed}
+use Rattle.sheet.specs.declared.line.CellFault.{CellFault}
+use Rattle.sheet.specs.declared.line.CellFault.TheVariants.{OutOfRange, Malformed}
+use Rattle.sheet.specs.declared.table.Column.{Column}
+use Rattle.sheet.specs.declared.table.Gap.{Gap}
+use Rattle.sheet.specs.declared.table.Gap.TheVariants.{Never}
+use Rattle.std.specs.Prelude.{Result, Ok, Err}
 use Rattle.sheet.specs.Text.{parts, TAB, NEWLINE}
 use Rattle.sheet.specs.Number.{Number, bad, missing, plus, minus, number}
-use Rattle.sheet.specs.Table.{Column, MISSING, NEVER, SECTIONS, letters, columns_of, id}
+use Rattle.sheet.specs.Table.{MISSING, SECTIONS, letters, columns_of, id}
 use Rattle.sheet.specs.Record.{Line, unread, row, allowed, within, present, is_missing, cell_of, fields_read, section_of, record_read, line_read, empty_row}
 use Rattle.sheet.specs.Reading.{rows, reading, lines_read, sheet_lines, row_of, section_in, Before, after, no_lines, first, out_of_range, NO_LINE}
 use Rattle.sheet.specs.Range.{Held, InRange}
-use Rattle.sheet.specs.Walk.{all_columns, first_column}
 use Rattle.base.proofs.Bools.{never, and_left, and_right}
 use Rattle.sheet.proofs.Lines.{place_most}
 use Rattle.sheet.proofs.Columns.{spread}
@@ -21,28 +24,28 @@ use Rattle.sheet.proofs.Walks.{accepted, accepted_read, read_at, map-drop}
 
 -- What one field holds.
 
-within_range : (low high : ℕ) (fits : Bool) (v w : ℕ) → within low high fits v ≡ Holds w → (low ≤ w) × (w ≤ high)
+within_range : (low high : ℕ) (fits : Bool) (v w : ℕ) → within low high fits v ≡ Ok w → (low ≤ w) × (w ≤ high)
 unfolding within
 within_range low high fits v w e = go (fits && leb low v && leb v high) refl
   where
     go : (b : Bool) → (fits && leb low v && leb v high) ≡ b → (low ≤ w) × (w ≤ high)
     go true p =
-        let q : Holds v ≡ Holds w = rw (p, within) at e in
+        let q : Ok v ≡ Ok w = rw (p, within) at e in
         let s : v ≡ w = cc in
         (omega (arith, leb-true low v (and_right fits (leb low v) (and_left (fits && leb low v) (leb v high) p))), omega (arith, leb-true v high (and_right (fits && leb low v) (leb v high) p)))
-    go false p = let q : OutOfRange ≡ Holds w = rw (p, within) at e in never cc
+    go false p = let q : Err OutOfRange ≡ Ok w = rw (p, within) at e in never cc
 
-gap_some : (gap : ℕ) (before : Bool) → allowed gap before true ≡ true → gap ≡ NEVER → ⊥
+gap_some : (gap : Gap) (before : Bool) → allowed gap before true ≡ true → gap ≡ Never → ⊥
 unfolding allowed
 gap_some gap before a e =
-    let q : false ≡ true = rw (eq-eqb gap NEVER e, allowed) at a in
+    let q : false ≡ true = rw e at a in
     never cc
 
-cell_held : (c : Column) (before : Bool) (n : Number) (v : ℕ) → cell_of c before n ≡ Holds v → Held c v
+cell_held : (c : Column) (before : Bool) (n : Number) (v : ℕ) → cell_of c before n ≡ Ok v → Held c v
 unfolding cell_of present
 cell_held c before n v e = go (allowed c.gap before (is_missing n)) refl n refl
   where
-    by : (m : Number) → allowed c.gap before (is_missing m) ≡ true → present c m ≡ Holds v → Held c v
+    by : (m : Number) → allowed c.gap before (is_missing m) ≡ true → present c m ≡ Ok v → Held c v
     by bad a p = never cc
     by missing a p = inl (let q : v ≡ MISSING = cc in q, gap_some c.gap before a)
     by (plus w) a p = inr (within_range c.low c.high true (c.origin + w) v p)
@@ -50,7 +53,7 @@ cell_held c before n v e = go (allowed c.gap before (is_missing n)) refl n refl
 
     go : (b : Bool) → allowed c.gap before (is_missing n) ≡ b → (m : Number) → n ≡ m → Held c v
     go true a m p = by n a (rw (a, cell_of) at e)
-    go false a m p = let q : Malformed ≡ Holds v = rw (a, cell_of) at e in never cc
+    go false a m p = let q : Err Malformed ≡ Ok v = rw (a, cell_of) at e in never cc
 
 -- What the fields of a record hold: those from the k-th number on, and the numbers before it as they were.
 pub record Fields (cs : List Column) (k : ℕ) (r r' : List ℕ) : Type 0 where
@@ -81,12 +84,12 @@ wide_stays [] (f ∷ fs) before k r r' e = never cc
 wide_stays (c ∷ cs) [] before k r r' e = never cc
 wide_stays (c ∷ cs) (f ∷ fs) before k r r' e = go (cell_of c before (number f)) refl (λ (v : ℕ). wide_stays cs fs (is_missing (number f)) (suc k) (set r k v) r') (wide_stays cs fs (is_missing (number f)) (suc k) r r')
   where
-    go : (x : Cell) → cell_of c before (number f) ≡ x
+    go : (x : Result ℕ CellFault) → cell_of c before (number f) ≡ x
         → ((v : ℕ) → fields_read cs fs (is_missing (number f)) false (suc k) (set r k v) ≡ row true r' → ⊥)
         → (fields_read cs fs (is_missing (number f)) false (suc k) r ≡ row true r' → ⊥) → ⊥
-    go (Holds v) p h w = h v (rw (p, fields_read) at e)
-    go OutOfRange p h w = w (rw (p, fields_read) at e)
-    go Malformed p h w = let q : unread ≡ row true r' = rw (p, fields_read) at e in never cc
+    go (Ok v) p h w = h v (rw (p, fields_read) at e)
+    go (Err OutOfRange) p h w = w (rw (p, fields_read) at e)
+    go (Err Malformed) p h w = let q : unread ≡ row true r' = rw (p, fields_read) at e in never cc
 
 fields_held : (cs : List Column) (fs : List (List ℕ)) (before : Bool) (k : ℕ) (r r' : List ℕ) → k + length cs ≤ length r → fields_read cs fs before true k r ≡ row true r' → Fields cs k r r'
 unfolding fields_read
@@ -95,13 +98,13 @@ fields_held [] (f ∷ fs) before k r r' h e = never cc
 fields_held (c ∷ cs) [] before k r r' h e = never cc
 fields_held (c ∷ cs) (f ∷ fs) before k r r' h e = go (cell_of c before (number f)) refl (λ (v : ℕ). fields_held cs fs (is_missing (number f)) (suc k) (set r k v) r')
   where
-    go : (x : Cell) → cell_of c before (number f) ≡ x
+    go : (x : Result ℕ CellFault) → cell_of c before (number f) ≡ x
         → ((v : ℕ) → suc k + length cs ≤ length (set r k v) → fields_read cs fs (is_missing (number f)) true (suc k) (set r k v) ≡ row true r' → Fields cs (suc k) (set r k v) r')
         → Fields (c ∷ cs) k r r'
-    go (Holds v) p k' =
+    go (Ok v) p k' =
         fields_more c cs k v r r' (omega arith) (cell_held c before (number f) v p) (k' v (omega (arith, length-set r k v)) (rw (p, fields_read) at e))
-    go OutOfRange p k' = absurd (wide_stays cs fs (is_missing (number f)) (suc k) r r' (rw (p, fields_read) at e))
-    go Malformed p k' = let q : unread ≡ row true r' = rw (p, fields_read) at e in never cc
+    go (Err OutOfRange) p k' = absurd (wide_stays cs fs (is_missing (number f)) (suc k) r r' (rw (p, fields_read) at e))
+    go (Err Malformed) p k' = let q : unread ≡ row true r' = rw (p, fields_read) at e in never cc
 
 -- a record that can be read and is in range
 
@@ -113,8 +116,7 @@ section_most (b ∷ c ∷ f) = omega arith
 
 columns_few : (s : ℕ) → s < SECTIONS → 1 + length (columns_of s) ≤ 16
 columns_few s h =
-    let x = spread s h in
-    omega (arith, x.short, ap length (sym x.part) ∙ length-slice (first_column s) (first_column (suc s)) all_columns x.inside)
+    omega (arith, (spread s h).few)
 
 section_held : (s : ℕ) (fs : List (List ℕ)) (r : List ℕ) → s < SECTIONS → fields_read (columns_of s) fs false true 1 (empty_row s) ≡ row true r → InRange r
 section_held s fs r h e =

@@ -2,7 +2,8 @@
 use Rattle.std.proofs.Common.{◌≡◌, ℕ, zero, suc, ◌+◌, ◌-◌, ◌*◌, ◌/◌, ◌%◌, ◌^◌, ◌<◌, ◌≤◌, Bool, true, false, ◌&&◌, eqb, ltb, leb, List, [], ◌∷◌, ◌++◌, length, get_or, sym, refl, ap, ◌∙◌, subst, pow-suc, arith, length-append, ltb-false, ltb-true, ne_eqb, eqb-true, le-leb, leb-true}
 use lib.ListN.{get_or-append}
 use borrow.Author.Tests.{eqb-false}
-use Rattle.sheet.specs.declared.line.Cell.TheVariants.{Holds}
+use Rattle.sheet.specs.declared.table.Gap.{Gap}
+use Rattle.std.specs.Prelude.{Ok}
 use Rattle.sheet.specs.Number.{missing, plus, minus, digit, all_digits, value_from, no_leading_zero, plain, unsigned, signed, number, ZERO, NINE, MINUS, digits_most}
 use Rattle.sheet.specs.Table.{ORIGIN, MISSING, COORDINATE_MOST, coordinate}
 use Rattle.sheet.specs.Record.{present}
@@ -153,11 +154,11 @@ coordinate_back held h = go (ltb held ORIGIN) refl
         ap (λ (l : List ℕ). coordinate_of (number l)) (coordinate_above held high) ∙ (ap coordinate_of (decimal_back (held - ORIGIN) (omega arith)) ∙ omega arith)
 
 -- and in a sheet's column of coordinates it is held as it was
-pub coordinate_held : (gap held : ℕ) → ORIGIN - COORDINATE_MOST ≤ held → held ≤ ORIGIN + COORDINATE_MOST → present (coordinate gap) (number (coordinate_text held)) ≡ Holds held
+pub coordinate_held : (gap : Gap) (held : ℕ) → ORIGIN - COORDINATE_MOST ≤ held → held ≤ ORIGIN + COORDINATE_MOST → present (coordinate gap) (number (coordinate_text held)) ≡ Ok held
 unfolding present
 coordinate_held gap held l h = go (ltb held ORIGIN) refl
   where
-    go : (b : Bool) → ltb held ORIGIN ≡ b → present (coordinate gap) (number (coordinate_text held)) ≡ Holds held
+    go : (b : Bool) → ltb held ORIGIN ≡ b → present (coordinate gap) (number (coordinate_text held)) ≡ Ok held
     go true e =
         let low : held < ORIGIN = ltb-true held ORIGIN e in
         let same : ORIGIN - (ORIGIN - held) ≡ held = omega arith in

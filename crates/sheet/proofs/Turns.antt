@@ -1,21 +1,22 @@
 -- The loop along the fields of a record: what holds whenever its test is reached, and one turn.
-use Rattle.std.proofs.Common.{◌≡◌, ℕ, zero, suc, ◌+◌, ◌-◌, ◌<◌, ◌≤◌, Bool, true, false, cond, leb, List, [], ◌∷◌, length, get_or, drop, sym, refl, ap, ◌∙◌, add-one, arith, length-drop, drop_of_length-le, drop-cons, ne_eqb, le-leb}
-use lib.ListN.{length-map}
+use Rattle.std.proofs.Common.{◌≡◌, ℕ, zero, suc, ◌+◌, ◌-◌, ◌<◌, ◌≤◌, Bool, true, false, cond, leb, List, [], ◌∷◌, length, get_or, drop, sym, ap, ◌∙◌, add-one, arith, length-drop, drop_of_length-le, drop-cons, ne_eqb, le-leb}
+use Rattle.std.proofs.lemmas.List.{get_or_default}
 use borrow.Author.Tests.{lt-leb}
 use Rattle.sheet.specs.declared.number.Scanned.{Scanned}
-use Rattle.sheet.specs.declared.line.Cell.{Cell}
+use Rattle.sheet.specs.declared.line.CellFault.{CellFault}
+use Rattle.sheet.specs.declared.table.Column.{Column}
+use Rattle.std.specs.Prelude.{Option, None, Some, Result}
 use Rattle.sheet.specs.declared.line.LineAt.{LineAt}
 use Rattle.sheet.specs.Text.{part_of}
 use Rattle.sheet.specs.Number.{number}
-use Rattle.sheet.specs.Table.{Column, MISSING, SECTIONS, columns_of, id}
+use Rattle.sheet.specs.Table.{MISSING, SECTIONS, columns_of, id}
 use Rattle.sheet.specs.Record.{Line, unread, row, empty_row, cell_of}
-use Rattle.sheet.specs.Walk.{column_row, column_in, section_rows, separator_at, ended, fields_from, line_end, line_answer, number_in, is_gone, is_malformed, fits_after, row_after, LineSays}
-use Rattle.base.proofs.Bools.{never}
+use Rattle.sheet.specs.Walk.{separator_at, ended, fields_from, line_end, number_in, is_gone, is_malformed, fits_after, row_after, LineRead, LineSays}
 use Rattle.base.proofs.RunLaws.{zeros_at}
 use Rattle.sheet.proofs.Parts.{part_short}
 use Rattle.sheet.proofs.Cells.{gone_after}
 use Rattle.sheet.proofs.Fields.{rest_read, end_read, Open, sep_before, field_in, turn_malformed, turn_goes, turn_open, keep_others, keep-length}
-use Rattle.sheet.proofs.Columns.{spread, separator_is, row_is_column, sound_column}
+use Rattle.sheet.proofs.Columns.{spread, separator_is, sound_column}
 
 -- the record of section `s` at `at` is what the fields passed leave of it: the columns from the i-th on, over the text from `next` on. The row's i-th number tells
 -- whether the field before is missing, and behind it the row is blank. `next` goes past the text's end by a byte a field at most
@@ -35,7 +36,7 @@ blank_row s (suc j) h = zeros_at 15 j
 
 pub along_start : (text : List ℕ) (at s : ℕ) (r : List ℕ) → s < SECTIONS → at ≤ suc (length text) → r ≡ empty_row s → Along text at s r true at 0
 along_start text at s r h l p =
-    let some : columns_of s ≡ get_or (columns_of s) 0 id ∷ drop 1 (columns_of s) = drop-cons (columns_of s) 0 id (spread s h).fields in
+    let some : columns_of s ≡ get_or (columns_of s) 0 id ∷ drop 1 (columns_of s) = drop-cons (columns_of s) 0 id (spread s h).some in
     let there : is_gone s ≡ false = ne_eqb s MISSING (λ (e : s ≡ MISSING). omega arith) in
     record {
       high = omega arith;
@@ -49,20 +50,28 @@ along_start text at s r h l p =
     }
 
 -- what the field at `next` holds in the i-th column, as the code found it: the part shown, its number, and the cell
-pub record Taken (columns : List (List ℕ)) (text : List ℕ) (s : ℕ) (r : List ℕ) (next i : ℕ) (field : List ℕ) (n : Scanned) (held : Cell) : Type 0 where
-  pub more : i < length columns
-  pub table : columns ≡ section_rows s
-  pub shown : field ≡ part_of (separator_at i (length columns - 1)) (drop next text)
+pub record Taken (text : List ℕ) (s : ℕ) (r : List ℕ) (next i : ℕ) (field : List ℕ) (n : Option Scanned) (held : Result ℕ CellFault) : Type 0 where
+  pub more : i < length (columns_of s)
+  pub shown : field ≡ part_of (separator_at i (length (columns_of s) - 1)) (drop next text)
   pub scanned : number_in n ≡ number field
-  pub cell : held ≡ cell_of (column_in (get_or columns i [])) (is_gone (get_or r i 0)) (number_in n)
+  pub cell : held ≡ cell_of (get_or (columns_of s) i id) (is_gone (get_or r i 0)) (number_in n)
 
--- as many rows as columns
-pub as_many : (columns : List (List ℕ)) (s : ℕ) → columns ≡ section_rows s → length columns ≡ length (columns_of s)
-as_many columns s e = ap length e ∙ length-map (columns_of s) column_row
+pub taken : {columns : List Column} {text : List ℕ} {s : ℕ} {r : List ℕ} {next i sep : ℕ} {field : List ℕ} {n : Option Scanned} {held : Result ℕ CellFault} (none : Column)
+    → columns ≡ columns_of s → i < length columns → sep ≡ separator_at i (length columns - 1) → field ≡ part_of sep (drop next text) → number_in n ≡ number field
+    → held ≡ cell_of (get_or columns i none) (is_gone (get_or r i 0)) (number_in n) → Taken text s r next i field n held
+taken {columns} {text} {s} {r} {next} {i} {n = n} none t h e f g c =
+    let more : i < length (columns_of s) = omega (arith, h, ap length t) in
+    record {
+      more = more;
+      shown = f ∙ ap (λ (b : ℕ). part_of b (drop next text)) (e ∙ ap (λ (l : List Column). separator_at i (length l - 1)) t);
+      scanned = g;
+      cell = c ∙ ap (λ (x : Column). cell_of x (is_gone (get_or r i 0)) (number_in n))
+          (ap (λ (l : List Column). get_or l i none) t ∙ get_or_default (columns_of s) i none id more);
+    }
 
 -- one turn
-module _ {text : List ℕ} {at s : ℕ} {r : List ℕ} {fits : Bool} {next i : ℕ} {columns : List (List ℕ)} {field : List ℕ} {n : Scanned} {held : Cell}
-    (a : Along text at s r fits next i) (f : Taken columns text s r next i field n held) where
+module _ {text : List ℕ} {at s : ℕ} {r : List ℕ} {fits : Bool} {next i : ℕ} {field : List ℕ} {n : Option Scanned} {held : Result ℕ CellFault}
+    (a : Along text at s r fits next i) (f : Taken text s r next i field n held) where
   abbrev left : List Column
   left = drop (suc i) (columns_of s)
 
@@ -72,14 +81,11 @@ module _ {text : List ℕ} {at s : ℕ} {r : List ℕ} {fits : Bool} {next i : �
   abbrev before : Bool
   before = is_gone (get_or r i 0)
 
-  more : i < length (columns_of s)
-  more = omega (arith, f.more, as_many columns s f.table)
-
   few : length (columns_of s) ≤ 15
   few = (spread s a.known).few
 
   next_column : drop i (columns_of s) ≡ column ∷ left
-  next_column = drop-cons (columns_of s) i id more
+  next_column = drop-cons (columns_of s) i id f.more
 
   line_now : fields_from (columns_of s) (drop at text) false true 1 (empty_row s) ≡ fields_from (column ∷ left) (drop next text) before fits (suc i) r
   line_now = a.line ∙ ap (λ (cs : List Column). rest_read cs (leb next (length text)) (drop next text) before fits (suc i) r) next_column
@@ -89,13 +95,13 @@ module _ {text : List ℕ} {at s : ℕ} {r : List ℕ} {fits : Bool} {next i : �
 
   field_now : field ≡ field_in left (drop next text)
   field_now = f.shown
-      ∙ ap (λ (b : ℕ). part_of b (drop next text)) (ap (λ (k : ℕ). separator_at i (k - 1)) (as_many columns s f.table) ∙ separator_is (columns_of s) i)
+      ∙ ap (λ (b : ℕ). part_of b (drop next text)) (separator_is (columns_of s) i)
 
   scanned_now : number_in n ≡ number (field_in left (drop next text))
   scanned_now = f.scanned ∙ ap number field_now
 
   cell_now : held ≡ cell_of column before (number_in n)
-  cell_now = f.cell ∙ ap (λ (x : Column). cell_of x before (number_in n)) (row_is_column columns s i f.table more)
+  cell_now = f.cell
 
   behind_now : next + length field + 1 ≡ next + length (field_in left (drop next text)) + 1
   behind_now = ap (λ (l : List ℕ). next + length l + 1) field_now
@@ -111,10 +117,10 @@ module _ {text : List ℕ} {at s : ℕ} {r : List ℕ} {fits : Bool} {next i : �
   along_turn m r' fits' pr pf =
       let o = turn_open column left before fits (suc i) r text next n held (next + length field + 1) scanned_now cell_now behind_now m in
       let r'' : r' ≡ row_after held r (suc i) = rw (sym (add-one i)) pr in
-      let gone = gone_after column before (sound_column s i a.known more).under r (suc i) (omega (arith, a.size, more, few)) (a.blank (suc i) (omega arith))
+      let gone = gone_after column before (sound_column s i a.known f.more) r (suc i) (omega (arith, a.size, f.more, few)) (a.blank (suc i) (omega arith))
       (number_in n) held cell_now m in
       record {
-        high = omega (arith, more);
+        high = omega (arith, f.more);
         inside = omega (arith, along_inside);
         size = ap length pr ∙ (keep-length held r (i + 1) ∙ a.size);
         section = ap (λ (q : List ℕ). get_or q 0 0) pr ∙ (keep_others held r (i + 1) 0 (λ (e : 0 ≡ i + 1). omega arith) ∙ a.section);
@@ -125,15 +131,6 @@ module _ {text : List ℕ} {at s : ℕ} {r : List ℕ} {fits : Bool} {next i : �
             ∙ rw (add-one i, r'', pf, gone));
         ends = rw (add-one i) (λ (h : Open left text (next + length field + 1)). ends_now (o h).0 ∙ (o h).1);
       }
-
-pub says_row : {r : List ℕ} {s : ℕ} {line : Line} {end : ℕ} (fits : Bool) (next : ℕ) → get_or r 0 0 ≡ s → s < SECTIONS → line ≡ row fits r → end ≡ next
-    → LineSays line end (record { read = true; fits = fits; section = s; next = next }) r
-says_row {r} {s} {line} {end} fits next p k e q =
-    record {
-      answer = rw (e, q, p);
-      holds = λ f l x. let h : row fits r ≡ row f l = sym e ∙ x in cc;
-      known = λ t. k;
-    }
 
 -- no column is left: the record is whole where the text has the byte behind its last field
 module _ {text : List ℕ} {at s : ℕ} {r : List ℕ} {fits : Bool} {next i : ℕ} (a : Along text at s r fits next i) (over : length (columns_of s) ≤ i) where
@@ -147,29 +144,11 @@ module _ {text : List ℕ} {at s : ℕ} {r : List ℕ} {fits : Bool} {next i : �
   along_unended h = line_over ∙ rw (lt-leb next (length text) h)
 
   pub along_done : next ≤ length text
-      → LineSays (fields_from (columns_of s) (drop at text) false true 1 (empty_row s)) (line_end at (drop at text))
-      (record { read = true; fits = fits; section = s; next = next }) r
-  along_done h = says_row {r = r} fits next a.section a.known (line_over ∙ rw (le-leb next (length text) h)) ((rw none_left at a.ends) h)
-
--- a line that can't be read
-pub says_unread : {line : Line} {next : ℕ} {x : LineAt} (r : List ℕ) → line ≡ unread → x ≡ line_answer 0 unread → LineSays line next x r
-says_unread r e p =
-    record {
-      answer = rw e p;
-      holds = λ f l q. let h : unread ≡ row f l = sym e ∙ q in never cc;
-      known = λ t. let h : false ≡ true = sym (ap (λ (y : LineAt). y.read) p) ∙ t in never cc;
-    }
+      → LineRead (fields_from (columns_of s) (drop at text) false true 1 (empty_row s)) (line_end at (drop at text)) (record { fits = fits; section = s; next = next }) r
+  along_done h = record { says = line_over ∙ rw (le-leb next (length text) h); section = a.section; known = a.known; ends = sym ((rw none_left at a.ends) h) }
 
 -- what is said of a line is said of an equal one, which ends where it does if it was read
-pub says_as : {line line' : Line} {next next' : ℕ} {x : LineAt} {stored : List ℕ} → LineSays line next x stored → line' ≡ line
+pub says_as : {line line' : Line} {next next' : ℕ} (x : Option LineAt) (stored : List ℕ) → LineSays line next x stored → line' ≡ line
     → ((fits : Bool) (l : List ℕ) → line ≡ row fits l → next' ≡ next) → LineSays line' next' x stored
-says_as {line} {line'} {next} {next'} {x} {stored} s e n =
-    record {
-      answer = s.answer ∙ (go line n ∙ ap (line_answer next') (sym e));
-      holds = λ f l q. s.holds f l (sym e ∙ q);
-      known = s.known;
-    }
-  where
-    go : (line : Line) → ((fits : Bool) (l : List ℕ) → line ≡ row fits l → next' ≡ next) → line_answer next line ≡ line_answer next' line
-    go unread n = refl
-    go (row fits l) n = rw (n fits l refl)
+says_as None stored s e n = e ∙ s
+says_as (Some x) stored s e n = record { says = e ∙ s.says; section = s.section; known = s.known; ends = s.ends ∙ sym (n x.fits stored s.says) }

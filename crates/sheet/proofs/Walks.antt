@@ -1,17 +1,19 @@
 -- Walking along an accepted sheet, line by line: the rows of `reading` are the rows that the walk meets.
-use Rattle.std.proofs.Common.{◌≡◌, ℕ, zero, suc, ◌+◌, ◌<◌, ◌≤◌, Bool, true, false, eqb, ltb, List, [], ◌∷◌, ◌++◌, map, length, get_or, drop, set, replicate, sym, refl, ap, ◌∙◌, subst, ap₂, add-zero, add-suc, zero-add, add-one, arith, length-drop, drop_of_length-le, get_or-drop, take_all, drop-drop, eqb-true}
+use Rattle.std.proofs.Common.{◌≡◌, ℕ, zero, suc, ◌+◌, ◌<◌, ◌≤◌, Bool, true, false, eqb, ltb, List, [], ◌∷◌, map, length, get_or, drop, set, replicate, sym, refl, ap, ◌∙◌, subst, ap₂, add-zero, add-suc, zero-add, add-one, append-nil, arith, length-drop, drop_of_length-le, get_or-drop, take_all, drop-drop, eqb-true}
 use lib.ListN.{length-map}
 use lib.Seq.{paste, paste-suc}
+use Rattle.base.specs.declared.refusal.Reason.TheVariants.{Unread, TooMany, OutOfRange}
+use Rattle.base.specs.Refusal.{refusal}
 use Rattle.sheet.specs.declared.Counts.{Counts}
 use Rattle.sheet.specs.declared.line.LineAt.{LineAt}
 use Rattle.sheet.specs.Text.{line_of}
 use Rattle.sheet.specs.Record.{Line, unread, row}
 use Rattle.sheet.specs.Reading.{sheet_lines, row_of, rows_from, Before, after, no_lines, unreadable, over_most, out_of_range, first, NO_LINE, refused, rows, refusals, read_lines, reading, listed}
 use Rattle.sheet.specs.Answer.{front_line, row_at, AtLine}
-use Rattle.sheet.specs.Walk.{ended, line_end, line_answer, LineSays, all_read}
+use Rattle.sheet.specs.Walk.{ended, line_end, LineRead, all_read}
 use Rattle.base.proofs.Bools.{never}
 use Rattle.sheet.proofs.Lines.{lines_none, lines_ended, lines_unended}
-use Rattle.sheet.proofs.Surveys.{said_read, line_read_lem, front_read}
+use Rattle.sheet.proofs.Surveys.{line_read_lem, front_read}
 
 -- What an accepted sheet has.
 
@@ -22,9 +24,9 @@ refusals_rows one two three m l e = go (eqb one NO_LINE) refl (eqb two NO_LINE) 
   where
     go : (a : Bool) → eqb one NO_LINE ≡ a → (b : Bool) → eqb two NO_LINE ≡ b → (c : Bool) → eqb three NO_LINE ≡ c
         → (one ≡ NO_LINE) × (two ≡ NO_LINE) × (three ≡ NO_LINE) × (m ≡ l)
-    go false p b q c r = let h : refused 1 one ≡ rows l = rw (p, refusals) at e in never cc
-    go true p false q c r = let h : refused 2 two ≡ rows l = rw q at (rw (p, refusals) at e) in never cc
-    go true p true q false r = let h : refused 3 three ≡ rows l = rw r at (rw q at (rw (p, refusals) at e)) in never cc
+    go false p b q c r = let h : refused (refusal Unread one) ≡ rows l = rw (p, refusals) at e in never cc
+    go true p false q c r = let h : refused (refusal TooMany two) ≡ rows l = rw q at (rw (p, refusals) at e) in never cc
+    go true p true q false r = let h : refused (refusal OutOfRange three) ≡ rows l = rw r at (rw q at (rw (p, refusals) at e)) in never cc
     go true p true q true r = let h : rows m ≡ rows l = rw r at (rw q at (rw (p, refusals) at e)) in (eqb-true one NO_LINE p, eqb-true two NO_LINE q, eqb-true three NO_LINE r, cc)
 
 read_all : (b : Before) (n : ℕ) (ls : List Line) → 0 < n → first unreadable b n ls ≡ NO_LINE → all_read ls ≡ true
@@ -91,24 +93,23 @@ module _ {text : List ℕ} {k at : ℕ} (w : AtLine text k at) (good : all_read 
       map-drop k (sheet_lines text)
       ∙ (ap (map row_of) (read_at k (sheet_lines text) good more).2 ∙ ap (λ (l : List (List ℕ)). here.1 ∷ l) (sym (map-drop (suc k) (sheet_lines text))))
 
-  module _ {x : LineAt} {stored : List ℕ} (said : LineSays (front_line (sheet_lines (drop at text))) (line_end at (drop at text)) x stored) where
-    pub walk_read : x.read ≡ true
-    walk_read = ap (λ (y : LineAt). y.read) (said.answer ∙ ap (line_answer (line_end at (drop at text))) front_here)
+  pub walk_unread : front_line (sheet_lines (drop at text)) ≡ unread → ⊥
+  walk_unread e = let q : unread ≡ row here.0 here.1 = sym e ∙ front_here in never cc
+
+  module _ {x : LineAt} {stored : List ℕ} (said : LineRead (front_line (sheet_lines (drop at text))) (line_end at (drop at text)) x stored) where
+    same_here : row x.fits stored ≡ row here.0 here.1
+    same_here = sym said.says ∙ front_here
 
     stored_here : stored ≡ here.1
-    stored_here = said.holds here.0 here.1 front_here
+    stored_here = let q = same_here in cc
 
     pub walk_stored : drop k (rows_from text) ≡ stored ∷ drop (suc k) (rows_from text)
     walk_stored = rows_here ∙ ap (λ (r : List ℕ). r ∷ drop (suc k) (rows_from text)) (sym stored_here)
 
     pub walk_next : AtLine text (k + 1) x.next
     walk_next =
-        let l = line_read_lem text at said walk_read in
-        let f : x.fits ≡ here.0 = let q : row x.fits stored ≡ row here.0 here.1 = sym (said_read said walk_read).0 ∙ front_here in cc in
-        goes x.next l.2 (l.0 ∙ rw (f, stored_here))
-
-    pub walk_on : at < x.next
-    walk_on = (line_read_lem text at said walk_read).1
+        let l = line_read_lem text at said in
+        goes x.next l.2 (l.0 ∙ ap (λ (y : Line). y ∷ sheet_lines (drop x.next text)) same_here)
 
 -- The walk of a caller, over `row_at`.
 
@@ -181,8 +182,9 @@ fill_step text old now k r h e d =
     rw (e, add-one k) (ap₂ (set (paste old 0 (rows_from text) k)) (sym (zero-add k)) (sym at) ∙ paste-suc old 0 (rows_from text) k [] (omega arith) inside)
 
 -- all rows are filled
-pub fill_all : (text : List ℕ) (old : List (List ℕ)) (n : ℕ) → n ≡ length (sheet_lines text) → paste old 0 (rows_from text) n ≡ rows_from text ++ drop n old
+pub fill_all : (text : List ℕ) (old now : List (List ℕ)) (k : ℕ) → length old ≤ k → length old ≡ length (sheet_lines text) → now ≡ paste old 0 (rows_from text) k → now ≡ rows_from text
 unfolding rows_from
-fill_all text old n e =
-    let l : length (rows_from text) ≤ n = omega (arith, length-map (sheet_lines text) row_of) in
-    rw (zero-add n, take_all n (rows_from text) l)
+fill_all text old now k h e p =
+    let l : length (rows_from text) ≤ k = omega (arith, length-map (sheet_lines text) row_of) in
+    let none : drop k old ≡ [] = drop_of_length-le old {i = k} h in
+    p ∙ rw (zero-add k, take_all k (rows_from text) l, none) (append-nil (rows_from text))

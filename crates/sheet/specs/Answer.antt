@@ -1,10 +1,9 @@
--- What the calls answer: for each case of an answer its number and its values.
-use Rattle.std.specs.Prelude.{◌≡◌, ℕ, suc, ◌+◌, ◌<◌, ◌≤◌, max, true, false, List, [], ◌∷◌, ◌++◌, length, drop, replicate, nat_lt, slice_index, slice_index_or}
+-- What the calls answer: a refusal, or the values of an accepted sheet.
+use Rattle.std.specs.Prelude.{◌≡◌, ℕ, suc, ◌+◌, ◌<◌, ◌≤◌, max, true, false, List, [], ◌∷◌, ◌++◌, length, drop, replicate, nat_lt, slice_index, slice_index_or, Result, Ok, Err}
 use Rattle.sheet.specs.declared.Counts.{Counts}
-use Rattle.sheet.specs.declared.Checked.{Checked}
-use Rattle.sheet.specs.declared.Checked.TheVariants.{Refused, Fine}
-use Rattle.sheet.specs.declared.ReadAnswer.{ReadAnswer}
-use Rattle.sheet.specs.declared.ReadAnswer.TheVariants.{Refused as NotRead, Short, Read}
+use Rattle.base.specs.declared.refusal.Reason.TheVariants.{NoRoom}
+use Rattle.base.specs.declared.refusal.Refusal.{Refusal}
+use Rattle.base.specs.Refusal.{refusal}
 use Rattle.sheet.specs.declared.RowAt.{RowAt}
 use Rattle.sheet.specs.Text.{line_of}
 use Rattle.sheet.specs.Table.{SECTIONS}
@@ -27,20 +26,20 @@ unfolding counted_all
 counts_of l = counts_from (counted_all (replicate SECTIONS 0) l)
 
 -- `check_sheet`
-unfoldable pub checked_of : Reading → Checked
+unfoldable pub checked_of : Reading → Result Counts Refusal
 unfolding counts_of
-checked_of (refused n line) = Refused n line
-checked_of (rows l) = Fine (counts_of l)
+checked_of (refused e) = Err e
+checked_of (rows l) = Ok (counts_of l)
 
--- `read_sheet`, where `lent` rows are lent
-unfoldable pub read_of : ℕ → Reading → ReadAnswer
+-- `read_sheet`, where `lent` rows are lent: E7 where they are fewer than the lines
+unfoldable pub read_of : ℕ → Reading → Result Counts Refusal
 unfolding counts_of
-read_of lent (refused n line) = NotRead n line
-read_of lent (rows l) = elim (nat_lt lent (length l)) [ true ↦ Short | false ↦ Read (counts_of l) ]
+read_of lent (refused e) = Err e
+read_of lent (rows l) = elim (nat_lt lent (length l)) [ true ↦ Err (refusal NoRoom 0) | false ↦ Ok (counts_of l) ]
 
 -- the lent rows as `read_sheet` leaves them: a row for each line and then the old rest, or all as they were
 unfoldable pub rows_after : List (List ℕ) → Reading → List (List ℕ)
-rows_after old (refused n line) = old
+rows_after old (refused e) = old
 rows_after old (rows l) = elim (nat_lt (length old) (length l)) [ true ↦ old | false ↦ l ++ drop (length l) old ]
 
 -- the line at the front of a text, read: no line can be read where there is none

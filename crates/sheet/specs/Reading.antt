@@ -1,5 +1,8 @@
 -- E, what turns a board away: refusals 1 to 3 in their order, each with the first line that meets it.
 use Rattle.std.specs.Prelude.{ℕ, suc, Bool, true, false, not, List, [], ◌∷◌, map, replicate, ◌==◌, nat_le, nat_lt, slice_index, slice_set}
+use Rattle.base.specs.declared.refusal.Reason.TheVariants.{Unread, TooMany, OutOfRange}
+use Rattle.base.specs.declared.refusal.Refusal.{Refusal}
+use Rattle.base.specs.Refusal.{refusal}
 use Rattle.sheet.specs.declared.Counts.{Counts}
 use Rattle.sheet.specs.Text.{NEWLINE, parts}
 use Rattle.sheet.specs.Table.{SECTIONS}
@@ -75,17 +78,17 @@ first p b n (l ∷ ls) = elim (p b l) [ true ↦ n | false ↦ first p (after b 
 abbrev pub listed : Counts → List ℕ
 listed c = c.pages ∷ c.nodes ∷ c.chips ∷ c.inner ∷ c.execs ∷ c.wires ∷ []
 
--- what reading a sheet gives: a refusal's number and line, or a row for each line
+-- what reading a sheet gives: a refusal with its line, or a row for each line
 pub data Reading : Type 0 where
-  refused : (number line : ℕ) → Reading
+  refused : Refusal → Reading
   rows : List (List ℕ) → Reading
 
 -- E9: the first of three refusals that there is, by the first line of each
 unfoldable pub refusals : ℕ → ℕ → ℕ → Reading → Reading
 refusals one two three accepted =
     elim (one == NO_LINE) [
-      | false ↦ refused 1 one
-      | true ↦ elim (two == NO_LINE) [ false ↦ refused 2 two | true ↦ elim (three == NO_LINE) [ false ↦ refused 3 three | true ↦ accepted ] ]
+      | false ↦ refused (refusal Unread one)
+      | true ↦ elim (two == NO_LINE) [ false ↦ refused (refusal TooMany two) | true ↦ elim (three == NO_LINE) [ false ↦ refused (refusal OutOfRange three) | true ↦ accepted ] ]
     ]
 
 -- E9: a refusal is tried on all lines before the next one

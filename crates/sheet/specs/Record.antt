@@ -1,26 +1,30 @@
 -- S, the board sheet: a line is one record. What its fields hold, by its section's table, makes a row of sixteen numbers: the section's number,
 -- the fields in the sheet's order, then zeros.
-use Rattle.std.specs.Prelude.{ℕ, suc, ◌+◌, ◌-◌, Bool, true, false, not, ◌&&◌, List, [], ◌∷◌, replicate, ◌==◌, nat_le, slice_set}
+use Rattle.std.specs.Prelude.{ℕ, suc, ◌+◌, ◌-◌, Bool, true, false, not, ◌&&◌, Result, Ok, Err, List, [], ◌∷◌, replicate, ◌==◌, nat_le, slice_set}
 use Rattle.std.specs.Bool.{beq}
-use Rattle.sheet.specs.declared.line.Cell.{Cell}
-use Rattle.sheet.specs.declared.line.Cell.TheVariants.{Holds, OutOfRange, Malformed}
+use Rattle.sheet.specs.declared.line.CellFault.{CellFault}
+use Rattle.sheet.specs.declared.line.CellFault.TheVariants.{OutOfRange, Malformed}
+use Rattle.sheet.specs.declared.table.Column.{Column}
+use Rattle.sheet.specs.declared.table.Gap.{Gap}
+use Rattle.sheet.specs.declared.table.Gap.TheVariants.{Never, May, AsBefore}
 use Rattle.sheet.specs.Text.{TAB, parts}
 use Rattle.sheet.specs.Number.{Number, bad, missing, plus, minus, number}
-use Rattle.sheet.specs.Table.{Column, MISSING, NEVER, AS_BEFORE, SECTIONS, letters, columns_of}
+use Rattle.sheet.specs.Table.{MISSING, SECTIONS, letters, columns_of}
 
 -- S3: whether a field that is missing (`gone`) or not may stand in a column, after a field that is missing (`before`) or not
-unfoldable pub allowed : ℕ → Bool → Bool → Bool
-allowed gap before gone =
-    elim (gap == NEVER) [ true ↦ not gone | false ↦ elim (gap == AS_BEFORE) [ true ↦ beq before gone | false ↦ true ] ]
+unfoldable pub allowed : Gap → Bool → Bool → Bool
+allowed Never before gone = not gone
+allowed May before gone = true
+allowed AsBefore before gone = beq before gone
 
 -- S11: a number that is held as `v`, if it `fits` and lies in the range
-unfoldable pub within : (low high : ℕ) → Bool → ℕ → Cell
-within low high fits v = elim (fits && nat_le low v && nat_le v high) [ true ↦ Holds v | false ↦ OutOfRange ]
+unfoldable pub within : (low high : ℕ) → Bool → ℕ → Result ℕ CellFault
+within low high fits v = elim (fits && nat_le low v && nat_le v high) [ true ↦ Ok v | false ↦ Err OutOfRange ]
 
-unfoldable pub present : Column → Number → Cell
+unfoldable pub present : Column → Number → Result ℕ CellFault
 unfolding within
-present c bad = Malformed
-present c missing = Holds MISSING
+present c bad = Err Malformed
+present c missing = Ok MISSING
 present c (plus v) = within c.low c.high true (c.origin + v)
 present c (minus v) = within c.low c.high (nat_le v c.origin) (c.origin - v)
 
@@ -31,9 +35,9 @@ is_missing (plus v) = false
 is_missing (minus v) = false
 
 -- S3, S11: what a field holds
-unfoldable pub cell_of : Column → Bool → Number → Cell
+unfoldable pub cell_of : Column → Bool → Number → Result ℕ CellFault
 unfolding allowed present
-cell_of c before n = elim (allowed c.gap before (is_missing n)) [ true ↦ present c n | false ↦ Malformed ]
+cell_of c before n = elim (allowed c.gap before (is_missing n)) [ true ↦ present c n | false ↦ Err Malformed ]
 
 -- a line that can't be read, or a record: whether its numbers are in range, and its row
 pub data Line : Type 0 where
@@ -48,9 +52,9 @@ fields_read [] (f ∷ fs) before fits k r = unread
 fields_read (c ∷ cs) [] before fits k r = unread
 fields_read (c ∷ cs) (f ∷ fs) before fits k r =
     elim (cell_of c before (number f)) [
-      | Holds v ↦ fields_read cs fs (is_missing (number f)) fits (suc k) (slice_set r k v)
-      | OutOfRange ↦ fields_read cs fs (is_missing (number f)) false (suc k) r
-      | Malformed ↦ unread
+      | Ok v ↦ fields_read cs fs (is_missing (number f)) fits (suc k) (slice_set r k v)
+      | Err OutOfRange ↦ fields_read cs fs (is_missing (number f)) false (suc k) r
+      | Err Malformed ↦ unread
     ]
 
 -- the place of a letter among the sections' letters, counted from `s`; SECTIONS where it is none of them

@@ -2,6 +2,9 @@
 -- A coordinate c (x, y, z, down, min_y) is held as c + ORIGIN, so that no number held is negative; a missing field is held as MISSING.
 use Rattle.std.specs.Prelude.{ℕ, ◌+◌, ◌-◌, List, [], ◌∷◌, slice_index_or}
 use Rattle.sheet.specs.declared.Counts.{Counts}
+use Rattle.sheet.specs.declared.table.Column.{Column}
+use Rattle.sheet.specs.declared.table.Gap.{Gap}
+use Rattle.sheet.specs.declared.table.Gap.TheVariants.{Never, May, AsBefore}
 
 abbrev pub ORIGIN : ℕ
 ORIGIN = 2000000
@@ -26,44 +29,31 @@ HALF_MOST = 1000
 abbrev pub PAGE_MOST : ℕ
 PAGE_MOST = 63
 
--- S3: whether a field may be missing: never; it may; exactly when the field before it is (y after x, down after page)
-abbrev pub NEVER : ℕ
-NEVER = 0
-
-abbrev pub MAY : ℕ
-MAY = 1
-
-abbrev pub AS_BEFORE : ℕ
-AS_BEFORE = 2
-
--- one field of a section's table: what is added to its number before it is held, the least and the greatest number held, whether it may be missing
-pub record Column : Type 0 where
-  pub origin : ℕ
-  pub low : ℕ
-  pub high : ℕ
-  pub gap : ℕ
+-- S3: a field may be missing never, or it may, or exactly when the field before it is (y after x, down after page): `Never`, `May`, `AsBefore` of `Gap`.
+-- S11: one field of a section's table, a `Column`: what is added to its number before it is held, the least and the greatest number held, whether it may be
+-- missing.
 
 -- S11: a field whose number is held as it is
-abbrev pub between : ℕ → ℕ → ℕ → Column
+abbrev pub between : ℕ → ℕ → Gap → Column
 between low high gap = record { origin = 0; low = low; high = high; gap = gap }
 
 -- S11: a coordinate
-abbrev pub coordinate : ℕ → Column
+abbrev pub coordinate : Gap → Column
 coordinate gap =
     record { origin = ORIGIN; low = ORIGIN - COORDINATE_MOST; high = ORIGIN + COORDINATE_MOST; gap = gap }
 
 -- S11: an id, a port, a half size, a class
 abbrev pub id : Column
-id = between 0 ID_MOST NEVER
+id = between 0 ID_MOST Never
 
 abbrev pub port : Column
-port = between 0 PORT_MOST NEVER
+port = between 0 PORT_MOST Never
 
 abbrev pub half : Column
-half = between 1 HALF_MOST NEVER
+half = between 1 HALF_MOST Never
 
 abbrev pub class : Column
-class = between 0 2 NEVER
+class = between 0 2 Never
 
 -- S4: the sections' numbers: the order in which they stand in a sheet
 abbrev pub PAGES : ℕ
@@ -94,17 +84,17 @@ letters = 80 ∷ 78 ∷ 67 ∷ 70 ∷ 88 ∷ 87 ∷ []
 
 -- S5: the fields of P: min_y, z
 abbrev pub page_columns : List Column
-page_columns = coordinate MAY ∷ coordinate NEVER ∷ []
+page_columns = coordinate May ∷ coordinate Never ∷ []
 
 -- S6: the fields of N: id, kind, class, pin, half_x, half_y, rotation, x, y, page, down, line
 abbrev pub node_columns : List Column
 node_columns =
-    id ∷ between 0 5 NEVER ∷ class ∷ between 0 1 NEVER ∷ half ∷ half ∷ between 0 3 NEVER
-    ∷ coordinate MAY ∷ coordinate AS_BEFORE ∷ between 0 PAGE_MOST MAY ∷ coordinate AS_BEFORE ∷ between 0 ID_MOST MAY ∷ []
+    id ∷ between 0 5 Never ∷ class ∷ between 0 1 Never ∷ half ∷ half ∷ between 0 3 Never
+    ∷ coordinate May ∷ coordinate AsBefore ∷ between 0 PAGE_MOST May ∷ coordinate AsBefore ∷ between 0 ID_MOST May ∷ []
 
 -- S7: the fields of C: id, parent
 abbrev pub chip_columns : List Column
-chip_columns = id ∷ between 0 ID_MOST MAY ∷ []
+chip_columns = id ∷ between 0 ID_MOST May ∷ []
 
 -- S8: the fields of F: id, chip, class
 abbrev pub inner_columns : List Column

@@ -1,51 +1,43 @@
 -- How the calls inside go along a text: what each says of the text from its place on. They cite the rules; none is a rule.
-use Rattle.std.specs.Prelude.{◌≡◌, ℕ, suc, ◌+◌, ◌-◌, ◌*◌, ◌<◌, ◌≤◌, Bool, true, false, cond, ◌||◌, List, [], ◌∷◌, ◌++◌, map, length, take, ◌==◌, nat_lt, slice_index, slice_set}
+use Rattle.std.specs.Prelude.{◌≡◌, ℕ, suc, ◌+◌, ◌-◌, ◌*◌, ◌<◌, Bool, true, false, cond, ◌||◌, Option, None, Some, Result, Ok, Err, List, [], ◌∷◌, length, ◌==◌, nat_lt, slice_set}
 use Rattle.sheet.specs.declared.number.Scanned.{Scanned}
-use Rattle.sheet.specs.declared.number.Scanned.TheVariants.{Bad, Missing, Plus, Minus}
-use Rattle.sheet.specs.declared.line.Cell.{Cell}
-use Rattle.sheet.specs.declared.line.Cell.TheVariants.{Holds, OutOfRange, Malformed}
+use Rattle.sheet.specs.declared.number.Scanned.TheVariants.{Missing, Plus, Minus}
+use Rattle.sheet.specs.declared.line.CellFault.{CellFault}
+use Rattle.sheet.specs.declared.line.CellFault.TheVariants.{OutOfRange, Malformed}
+use Rattle.sheet.specs.declared.table.Column.{Column}
 use Rattle.sheet.specs.declared.line.LineAt.{LineAt}
-use Rattle.sheet.specs.declared.check.Survey.{Survey}
-use Rattle.sheet.specs.declared.check.Survey.TheVariants.{Refused, Fine}
-use Rattle.sheet.specs.declared.Checked.{Checked}
-use Rattle.sheet.specs.declared.Checked.TheVariants.{Refused as NotFine, Fine as AllFine}
+use Rattle.base.specs.declared.refusal.Reason.TheVariants.{TooMany, OutOfRange as NotInRange}
+use Rattle.base.specs.declared.refusal.Refusal.{Refusal}
+use Rattle.base.specs.Refusal.{refusal}
+use Rattle.sheet.specs.declared.Survey.{Survey}
 use Rattle.sheet.specs.Text.{TAB, NEWLINE, parts, line_of}
 use Rattle.sheet.specs.Number.{Number, bad, missing, plus, minus, digit, ZERO}
-use Rattle.sheet.specs.Table.{Column, MISSING, SECTIONS, tables, columns_of}
+use Rattle.sheet.specs.Table.{MISSING, SECTIONS}
 use Rattle.sheet.specs.Record.{Line, unread, row, fields_read}
-use Rattle.sheet.specs.Reading.{Reading, refused, rows, section_in, NO_LINE}
-use Rattle.sheet.specs.Answer.{counts_from, counts_of}
+use Rattle.sheet.specs.Reading.{Reading, refused, rows, section_in}
+use Rattle.sheet.specs.Answer.{counts_of, HeldIf}
 
--- what a field says, as the code has it
-abbrev pub number_in : Scanned → Number
-number_in Bad = bad
-number_in Missing = missing
-number_in (Plus v) = plus v
-number_in (Minus v) = minus v
+-- what a field says, as the code has it: nothing that can be read is no number
+abbrev pub number_in : Option Scanned → Number
+number_in None = bad
+number_in (Some Missing) = missing
+number_in (Some (Plus v)) = plus v
+number_in (Some (Minus v)) = minus v
 
--- the number that digits write, after those that wrote `v`; bad where a byte is no digit
-unfoldable pub digits_read : ℕ → List ℕ → Number
-digits_read v [] = plus v
-digits_read v (b ∷ bs) = elim (digit b) [ true ↦ digits_read (v * 10 + (b - ZERO)) bs | false ↦ bad ]
+-- the same of a field without a sign
+abbrev pub plus_in : Option ℕ → Number
+plus_in None = bad
+plus_in (Some v) = plus v
 
--- what is said of a byte: the number of a digit, or one above nine
-pub record DigitSays (b d : ℕ) : Type 0 where
-  pub yes : d ≤ 9 → (digit b ≡ true) × (d ≡ b - ZERO)
-  pub no : 9 < d → digit b ≡ false
+-- the number that digits write, after those that wrote `v`; none where a byte is no digit
+unfoldable pub digits_read : ℕ → List ℕ → Option ℕ
+digits_read v [] = Some v
+digits_read v (b ∷ bs) = elim (digit b) [ true ↦ digits_read (v * 10 + (b - ZERO)) bs | false ↦ None ]
 
--- a field whose first byte is the digit of the number `d`
-pub record FirstDigit (field : List ℕ) (d : ℕ) : Type 0 where
-  pub some : 0 < length field
-  pub small : d ≤ 9
-  pub is : digit (slice_index field 0) ≡ true
-  pub value : d ≡ slice_index field 0 - ZERO
-
--- a number with a `-` in front
-unfoldable pub negated : Number → Number
-negated bad = bad
-negated missing = bad
-negated (plus v) = elim (v == 0) [ true ↦ bad | false ↦ minus v ]
-negated (minus v) = bad
+-- what is said of a byte: the number of a digit
+abbrev pub DigitSays : ℕ → Option ℕ → Type 0
+DigitSays b None = digit b ≡ false
+DigitSays b (Some d) = (digit b ≡ true) × (d < 10) × (b ≡ ZERO + d)
 
 -- the byte that ends the field of the i-th column: a tab, or byte 10 after the last
 abbrev pub separator_at : ℕ → ℕ → ℕ
@@ -55,47 +47,26 @@ separator_at i last = cond (nat_lt i last) TAB NEWLINE
 abbrev pub is_gone : ℕ → Bool
 is_gone v = v == MISSING
 
-abbrev pub is_malformed : Cell → Bool
-is_malformed (Holds v) = false
-is_malformed OutOfRange = false
-is_malformed Malformed = true
+-- what a field leaves of a record's numbers: whether it can be one, whether all so far are in range, and the row
+abbrev pub is_malformed : Result ℕ CellFault → Bool
+is_malformed (Ok v) = false
+is_malformed (Err OutOfRange) = false
+is_malformed (Err Malformed) = true
 
--- what a field leaves of a record's numbers: whether all are in range, and the row
-abbrev pub fits_after : Cell → Bool → Bool
-fits_after (Holds v) fits = fits
-fits_after OutOfRange fits = false
-fits_after Malformed fits = fits
+abbrev pub fits_after : Result ℕ CellFault → Bool → Bool
+fits_after (Ok v) fits = fits
+fits_after (Err OutOfRange) fits = false
+fits_after (Err Malformed) fits = fits
 
-abbrev pub row_after : Cell → List ℕ → ℕ → List ℕ
-row_after (Holds v) r k = slice_set r k v
-row_after OutOfRange r k = r
-row_after Malformed r k = r
+abbrev pub row_after : Result ℕ CellFault → List ℕ → ℕ → List ℕ
+row_after (Ok v) r k = slice_set r k v
+row_after (Err OutOfRange) r k = r
+row_after (Err Malformed) r k = r
 
--- a column as the code's table has it
-abbrev pub column_row : Column → List ℕ
-column_row c = c.origin ∷ c.low ∷ c.high ∷ c.gap ∷ []
-
-abbrev pub column_in : List ℕ → Column
-column_in c = record { origin = slice_index c 0; low = slice_index c 1; high = slice_index c 2; gap = slice_index c 3 }
-
-abbrev pub joined : List (List Column) → List Column
-joined [] = []
-joined (l ∷ ls) = l ++ joined ls
-
--- the columns of all sections, one section after the other
-abbrev pub all_columns : List Column
-all_columns = joined tables
-
-abbrev pub column_rows : List (List ℕ)
-column_rows = map column_row all_columns
-
--- the columns of a section
-abbrev pub section_rows : ℕ → List (List ℕ)
-section_rows s = map column_row (columns_of s)
-
--- how many columns stand before a section's
-abbrev pub first_column : ℕ → ℕ
-first_column s = length (joined (take s tables))
+-- what is said of the place of a section's letter: there is none, or that section
+abbrev pub Names : ℕ → Option ℕ → Type 0
+Names n None = n ≡ SECTIONS
+Names n (Some s) = (s < SECTIONS) × (n ≡ s)
 
 -- whether the byte `s` is there
 unfoldable pub has : ℕ → List ℕ → Bool
@@ -116,19 +87,19 @@ unfoldable pub fields_from : List Column → List ℕ → (before fits : Bool) (
 unfolding fields_read fields_of has
 fields_from cs t before fits k r = elim (ended t) [ true ↦ fields_read cs (fields_of t) before fits k r | false ↦ unread ]
 
--- what is said of a line that ends before `next`
-abbrev pub line_answer : ℕ → Line → LineAt
-line_answer next unread = record { read = false; fits = false; section = SECTIONS; next = 0 }
-line_answer next (row fits r) = record { read = true; fits = fits; section = section_in r; next = next }
+-- what is said of a line that was read and ends before `next`, and the row that it leaves
+pub record LineRead (line : Line) (next : ℕ) (x : LineAt) (stored : List ℕ) : Type 0 where
+  pub says : line ≡ row x.fits stored
+  pub section : section_in stored ≡ x.section
+  pub known : x.section < SECTIONS
+  pub ends : x.next ≡ next
 
--- what is said of a line, and the row that it leaves
-pub record LineSays (line : Line) (next : ℕ) (r : LineAt) (stored : List ℕ) : Type 0 where
-  pub answer : r ≡ line_answer next line
-  pub holds : (fits : Bool) (l : List ℕ) → line ≡ row fits l → stored ≡ l
-  pub known : r.read ≡ true → r.section < SECTIONS
+abbrev pub LineSays : Line → ℕ → Option LineAt → List ℕ → Type 0
+LineSays line next None stored = line ≡ unread
+LineSays line next (Some x) stored = LineRead line next x stored
 
 -- the same, where the row is kept as the k-th of lent rows, if there is one
-pub record LineKept (line : Line) (next : ℕ) (r : LineAt) (k : ℕ) (before after : List (List ℕ)) : Type 0 where
+pub record LineKept (line : Line) (next : ℕ) (r : Option LineAt) (k : ℕ) (before after : List (List ℕ)) : Type 0 where
   pub stored : List ℕ
   pub says : LineSays line next r stored
   pub kept : after ≡ slice_set before k stored
@@ -138,26 +109,25 @@ abbrev pub line_end : ℕ → List ℕ → ℕ
 line_end at t = suc (at + length (line_of t))
 
 -- the first of two lines, the later of which counts only where it is meant
-abbrev pub first_of : ℕ → Bool → ℕ → ℕ
-first_of found here line = cond (found == NO_LINE) (cond here line NO_LINE) found
+abbrev pub first_of : Option ℕ → Bool → ℕ → Option ℕ
+first_of None here line = cond here (Some line) None
+first_of (Some found) here line = Some found
 
-unfoldable pub survey_of : Reading → Survey
+-- what the pass finds, where `rest` is the place of the first line without a row
+unfoldable pub survey_of : ℕ → Reading → Result Survey Refusal
 unfolding counts_of
-survey_of (refused n line) = Refused n line
-survey_of (rows l) = Fine (length l) (counts_of l)
+survey_of rest (refused e) = Err e
+survey_of rest (rows l) = Ok (record { counts = counts_of l; lines = length l; rest = rest })
 
--- what the calls that check a sheet answer, by what the pass finds
-abbrev pub checked_from : Survey → Checked
-checked_from (Refused n line) = NotFine n line
-checked_from (Fine lines counts) = AllFine counts
+-- what a call that keeps rows says of them and of what it finds
+abbrev pub SurveyedAs : Reading → List ℕ → List (List ℕ) → Result Survey Refusal → Type 0
+SurveyedAs r text lent found = (rest : ℕ) × (found ≡ survey_of rest r) × HeldIf r text lent rest
 
 -- what the pass answers where every line is read, by the first lines of a 2 and a 3
-abbrev pub survey_by : ℕ → ℕ → ℕ → List ℕ → Survey
-survey_by over wide lines counts =
-    elim (over == NO_LINE) [
-      | false ↦ Refused 2 over
-      | true ↦ elim (wide == NO_LINE) [ false ↦ Refused 3 wide | true ↦ Fine lines (counts_from counts) ]
-    ]
+abbrev pub survey_by : Option ℕ → Option ℕ → Survey → Result Survey Refusal
+survey_by (Some over) wide found = Err (refusal TooMany over)
+survey_by None (Some wide) found = Err (refusal NotInRange wide)
+survey_by None None found = Ok found
 
 -- whether each line can be read
 unfoldable pub all_read : List Line → Bool

@@ -1,47 +1,31 @@
 // Refusals 1 to 3 over a whole sheet, in one pass, which keeps the rows of the lines as far as rows are lent.
-ghost use Rattle.std.specs.Prelude.{◌≡◌, cond, drop};
+ghost use Rattle.std.specs.Prelude.{◌≡◌, ℕ, cond, drop};
+ghost use Rattle.base.specs.declared.refusal.Reason.TheVariants.{Unread};
+ghost use Rattle.base.specs.Refusal.{refusal};
 ghost use Rattle.sheet.specs.Reading.{read_lines, sheet_lines};
-ghost use Rattle.sheet.specs.Answer.{front_line, HeldIf};
-ghost use Rattle.sheet.specs.Walk.{survey_of, survey_by, first_of, column_rows, line_end, LineKept};
+ghost use Rattle.sheet.specs.Answer.{front_line};
+ghost use Rattle.sheet.specs.Walk.{survey_of, survey_by, first_of, line_end, LineKept, SurveyedAs};
 
-use crate::Counts;
 use crate::line::{LineAt, line_at};
-use crate::table::COLUMNS;
+use crate::{Counts, Survey};
+use base::refusal::{Reason, Refusal};
 use base::rows::Record;
 
-// A sheet's refusal and its line, or how many lines it has and how many records of each section.
-#[derive(Clone, Copy)]
-pub enum Survey {
-    Refused { number: usize, line: usize },
-    Fine { lines: usize, counts: Counts },
-}
-
-// What the pass finds, and where the first line without a row starts.
-#[derive(Clone, Copy)]
-pub struct Surveyed {
-    pub survey: Survey,
-    pub rest: usize,
-}
-
 // A line that can't be read, or stands out of order.
-fn unread(line: usize) -> Surveyed
-    ensures { result.survey ≡ Survey.Refused 1 line }
+fn unread(line: usize) -> Refusal
+    ensures { result ≡ refusal Unread line }
 {
-    Surveyed {
-        survey: Survey::Refused { number: 1, line },
-        rest: 0,
+    Refusal {
+        reason: Reason::Unread,
+        place: line,
     }
 }
 
 // The first line found: an earlier one, or this line.
-fn first_of(found: usize, here: bool, line: usize) -> usize
+fn first_of(found: Option<usize>, here: bool, line: usize) -> Option<usize>
     ensures { result ≡ first_of found here line }
 {
-    if found == 0 {
-        if here { line } else { 0 }
-    } else {
-        found
-    }
+    found.or(here.then_some(line))
 }
 
 // Where the first line without a row starts, after a line that has one or not.
@@ -52,62 +36,53 @@ fn rest_of(so_far: usize, has_row: bool, next: usize) -> usize
 }
 
 // The line that starts at `at`. Its row is the k-th of the lent rows, if there is one.
-fn line_into(columns: &[[u32; 4]], text: &[u8], at: usize, rows: &mut [Record], k: usize) -> LineAt
-    requires { columns.now ≡ column_rows }
+fn line_into(text: &[u8], at: usize, rows: &mut [Record], k: usize) -> Option<LineAt>
     ensures { LineKept (front_line (sheet_lines (drop at text.now))) (line_end at (drop at text.now)) result k rows.old rows.new }
 {
     if k < rows.len() {
-        return line_at(columns, text, at, &mut rows[k]);
+        return line_at(text, at, &mut rows[k]);
     }
     let mut row = [0u32; 16];
-    line_at(columns, text, at, &mut row)
+    line_at(text, at, &mut row)
 }
 
 // 2 before 3, once every line is read.
-fn survey_by(over: usize, wide: usize, lines: usize, counts: [usize; 6]) -> Survey
-    ensures { result ≡ survey_by over wide lines counts }
+fn survey_by(over: Option<usize>, wide: Option<usize>, found: Survey) -> Result<Survey, Refusal>
+    ensures { result ≡ survey_by over wide found }
 {
-    if over != 0 {
-        return Survey::Refused {
-            number: 2,
-            line: over,
-        };
-    }
-    if wide != 0 {
-        return Survey::Refused {
-            number: 3,
-            line: wide,
-        };
-    }
-    Survey::Fine {
-        lines,
-        counts: Counts::from_list(counts),
+    match (over, wide) {
+        (Some(place), _) => Err(Refusal {
+            reason: Reason::TooMany,
+            place,
+        }),
+        (None, Some(place)) => Err(Refusal {
+            reason: Reason::OutOfRange,
+            place,
+        }),
+        (None, None) => Ok(found),
     }
 }
 
 // The lines are read once: the first that can't be read ends it, and the first of each other refusal is kept. Line k's row goes to `rows[k]`, as far as
 // the rows reach.
-pub fn survey_rows(text: &[u8], most: [usize; 6], rows: &mut [Record]) -> Surveyed
-    ensures survey_value { result.survey ≡ survey_of (read_lines most (sheet_lines text.now)) }
-    ensures held_if { HeldIf (read_lines most (sheet_lines text.now)) text.now rows.new result.rest }
+pub fn survey_rows(text: &[u8], most: [usize; 6], rows: &mut [Record]) -> Result<Survey, Refusal>
+    ensures { SurveyedAs (read_lines most (sheet_lines text.now)) text.now rows.new result }
 {
-    let columns = COLUMNS;
     let mut section = 0;
     let mut counts = [0usize; 6];
-    let mut over = 0;
-    let mut wide = 0;
+    let mut over = None;
+    let mut wide = None;
     let mut at = 0;
     let mut rest = 0;
     let mut k = 0;
     while at < text.len() {
         let line = k + 1;
-        let l = line_into(&columns, text, at, rows, k);
+        let Some(l) = line_into(text, at, rows, k) else {
+            return Err(unread(line));
+        };
         let s = l.section;
-        if !l.read {
-            return unread(line);
-        }
         if s < section {
-            return unread(line);
+            return Err(unread(line));
         }
         let n = counts[s];
         over = first_of(over, most[s] <= n, line);
@@ -118,17 +93,18 @@ pub fn survey_rows(text: &[u8], most: [usize; 6], rows: &mut [Record]) -> Survey
         rest = rest_of(rest, k < rows.len(), at);
         k = line;
     }
-    Surveyed {
-        survey: survey_by(over, wide, k, counts),
+    let found = Survey {
+        counts: Counts::from_list(counts),
+        lines: k,
         rest,
-    }
+    };
+    survey_by(over, wide, found)
 }
 
 // The same without rows.
-pub fn survey_sheet(text: &[u8], most: [usize; 6]) -> Survey
-    ensures { result ≡ survey_of (read_lines most (sheet_lines text.now)) }
+pub fn survey_sheet(text: &[u8], most: [usize; 6]) -> Result<Survey, Refusal>
+    ensures { (rest : ℕ) × (result ≡ survey_of rest (read_lines most (sheet_lines text.now))) }
 {
     let mut none: [Record; 0] = [];
-    let found = survey_rows(text, most, &mut none);
-    found.survey
+    survey_rows(text, most, &mut none)
 }

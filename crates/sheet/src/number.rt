@@ -1,116 +1,79 @@
 // The numbers of a sheet's fields. A field is a part of the text, without the byte that ends it.
-ghost use Rattle.std.specs.Prelude.{◌≡◌, ◌≤◌, length, drop};
-ghost use Rattle.sheet.specs.Number.{unsigned, signed, number, digits_most};
-ghost use Rattle.sheet.specs.Walk.{number_in, digits_read, DigitSays, FirstDigit, negated as withMinus};
+ghost use Rattle.std.specs.Prelude.{◌≡◌, ◌+◌, ◌<◌, ◌∷◌, length};
+ghost use Rattle.sheet.specs.Number.{ZERO as ofZero, unsigned, signed, number, digits_most};
+ghost use Rattle.sheet.specs.Walk.{plus_in, number_in, digits_read, DigitSays};
 
 use base::numbers::{DIGITS_MOST, MINUS, ZERO};
 
-// What a field says.
+// What a field says that can be read.
 #[derive(Clone, Copy)]
 pub enum Scanned {
-    Bad,
     Missing,
     Plus(u64),
     Minus(u64),
 }
 
-// The greatest digit.
-const NINE: u64 = 9;
-
-fn wide(b: u8) -> u64
-    ensures { result ≡ b }
-{
-    b as u64
-}
-
-// The number of a digit; any other byte gives one above nine, so that one test tells them apart.
-fn digit_of(b: u8) -> u64
+// The number of a digit. Any other byte gives one above nine, so that one test tells them apart.
+fn digit_of(b: u8) -> Option<u64>
     ensures { DigitSays b result }
 {
-    std::num::wrapping_sub_u64(wide(b), wide(ZERO))
+    let d = u64::from(b).wrapping_sub(u64::from(ZERO));
+    (d < 10).then_some(d)
 }
 
-// The number that digits write, of which the first is known.
-fn digits_of(field: &[u8], first: u64) -> Scanned
-    requires { FirstDigit field.now first × (length field.now ≤ digits_most) }
-    ensures { number_in result ≡ digits_read first (drop 1 field.now) }
+// The number that digits write behind a first one.
+fn digits_of(first: u64, rest: &[u8]) -> Option<u64>
+    requires { (first < 10) × (length rest.now < digits_most) }
+    ensures { result ≡ digits_read first rest.now }
 {
     let mut value = first;
-    let mut i = 1;
-    while i < field.len() {
-        let d = digit_of(field[i]);
-        if NINE < d {
-            return Scanned::Bad;
-        }
-        value = value * 10 + d;
-        i += 1;
+    for b in rest {
+        value = value * 10 + digit_of(*b)?;
     }
-    Scanned::Plus(value)
+    Some(value)
 }
 
 // A number without a sign, of which the first digit is known: one to ten digits, and no zero in front of others.
-fn unsigned_of(field: &[u8], first: u64) -> Scanned
-    requires { FirstDigit field.now first }
-    ensures { number_in result ≡ unsigned field.now }
+fn unsigned_of(first: u64, rest: &[u8]) -> Option<u64>
+    requires { first < 10 }
+    ensures { plus_in result ≡ unsigned ((ofZero + first) ∷ rest.now) }
 {
-    let n = field.len();
-    if n == 1 {
-        return Scanned::Plus(first);
+    if rest.is_empty() {
+        return Some(first);
     }
     if first == 0 {
-        return Scanned::Bad;
+        return None;
     }
-    if DIGITS_MOST < n {
-        return Scanned::Bad;
+    if DIGITS_MOST <= rest.len() {
+        return None;
     }
-    digits_of(field, first)
+    digits_of(first, rest)
 }
 
-// A number with a `-` in front: there is no `-0`.
-fn negated(n: Scanned) -> Scanned
-    ensures { number_in result ≡ withMinus (number_in n) }
+// What follows a `-`: nothing, or a number without a sign. There is no `-0`.
+fn signed_of(bytes: &[u8]) -> Option<Scanned>
+    ensures { number_in result ≡ signed bytes.now }
 {
-    match n {
-        Scanned::Bad => Scanned::Bad,
-        Scanned::Missing => Scanned::Bad,
-        Scanned::Plus(v) => {
-            if v == 0 {
-                Scanned::Bad
-            } else {
-                Scanned::Minus(v)
-            }
-        }
-        Scanned::Minus(_) => Scanned::Bad,
+    let Some((first, rest)) = bytes.split_first() else {
+        return Some(Scanned::Missing);
+    };
+    let v = unsigned_of(digit_of(*first)?, rest)?;
+    if v == 0 {
+        return None;
     }
-}
-
-// What follows a `-`: nothing, or a number without a sign.
-fn signed_of(rest: &[u8]) -> Scanned
-    ensures { number_in result ≡ signed rest.now }
-{
-    if rest.len() == 0 {
-        return Scanned::Missing;
-    }
-    let first = digit_of(rest[0]);
-    if NINE < first {
-        return Scanned::Bad;
-    }
-    negated(unsigned_of(rest, first))
+    Some(Scanned::Minus(v))
 }
 
 // The number that a field writes, with or without a sign. Most have none, so a digit is tried first.
-pub fn number_of(field: &[u8]) -> Scanned
+pub fn number_of(field: &[u8]) -> Option<Scanned>
     ensures { number_in result ≡ number field.now }
 {
-    if field.len() == 0 {
-        return Scanned::Bad;
+    let (first, rest) = field.split_first()?;
+    if let Some(digit) = digit_of(*first) {
+        return Some(Scanned::Plus(unsigned_of(digit, rest)?));
     }
-    let first = digit_of(field[0]);
-    if first <= NINE {
-        return unsigned_of(field, first);
+    if *first == MINUS {
+        return signed_of(rest);
     }
-    if field[0] == MINUS {
-        return signed_of(&field[1..]);
-    }
-    Scanned::Bad
+    None
 }

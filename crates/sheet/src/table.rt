@@ -1,53 +1,96 @@
 // The sections' tables of fields.
-ghost use Rattle.std.specs.Prelude.{◌≡◌, ◌≤◌};
-ghost use Rattle.sheet.specs.Table.{SECTIONS};
-ghost use Rattle.sheet.specs.Walk.{first_column};
+ghost use Rattle.std.specs.Prelude.{◌≡◌, ◌<◌};
+ghost use Rattle.sheet.specs.Table.{SECTIONS, columns_of};
 
-use base::numbers::MISSING;
+use base::numbers::ORIGIN;
 
-// What is added to a coordinate before it is held: no number held is negative.
-pub const ORIGIN: u64 = 2_000_000;
-// The columns of all sections, one section after the other: origin, low, high, gap.
-pub const COLUMNS: [[u32; 4]; 25] = [
-    [2_000_000, 1_000_000, 3_000_000, 1],
-    [2_000_000, 1_000_000, 3_000_000, 0],
-    [0, 0, 1_000_000, 0],
-    [0, 0, 5, 0],
-    [0, 0, 2, 0],
-    [0, 0, 1, 0],
-    [0, 1, 1000, 0],
-    [0, 1, 1000, 0],
-    [0, 0, 3, 0],
-    [2_000_000, 1_000_000, 3_000_000, 1],
-    [2_000_000, 1_000_000, 3_000_000, 2],
-    [0, 0, 63, 1],
-    [2_000_000, 1_000_000, 3_000_000, 2],
-    [0, 0, 1_000_000, 1],
-    [0, 0, 1_000_000, 0],
-    [0, 0, 1_000_000, 1],
-    [0, 0, 1_000_000, 0],
-    [0, 0, 1_000_000, 0],
-    [0, 0, 2, 0],
-    [0, 0, 1_000_000, 0],
-    [0, 0, 65_535, 0],
-    [0, 0, 1_000_000, 0],
-    [0, 0, 65_535, 0],
-    [0, 0, 1_000_000, 0],
-    [0, 0, 65_535, 0],
+// Whether a field may be missing: never; it may; exactly when the field before it is.
+#[derive(Clone, Copy)]
+pub enum Gap {
+    Never,
+    May,
+    AsBefore,
+}
+
+// One field of a section: what is added to its number before it is held, the least and the greatest number held, whether it may be missing.
+#[derive(Clone, Copy)]
+pub struct Column {
+    pub origin: u32,
+    pub low: u32,
+    pub high: u32,
+    pub gap: Gap,
+}
+
+// A field whose number is held as it is.
+macro_rules! between {
+    ($low:expr, $high:expr, $gap:ident) => {
+        Column {
+            origin: 0,
+            low: $low,
+            high: $high,
+            gap: Gap::$gap,
+        }
+    };
+}
+
+// A coordinate.
+macro_rules! coordinate {
+    ($gap:ident) => {
+        Column {
+            origin: ORIGIN,
+            low: ORIGIN - 1_000_000,
+            high: ORIGIN + 1_000_000,
+            gap: Gap::$gap,
+        }
+    };
+}
+
+const ID: Column = between!(0, 1_000_000, Never);
+
+const ID_OR_NONE: Column = between!(0, 1_000_000, May);
+
+const PORT: Column = between!(0, 65_535, Never);
+
+const HALF: Column = between!(1, 1000, Never);
+
+const CLASS: Column = between!(0, 2, Never);
+
+const PAGE_COLUMNS: [Column; 2] = [coordinate!(May), coordinate!(Never)];
+
+const NODE_COLUMNS: [Column; 12] = [
+    ID,
+    between!(0, 5, Never),
+    CLASS,
+    between!(0, 1, Never),
+    HALF,
+    HALF,
+    between!(0, 3, Never),
+    coordinate!(May),
+    coordinate!(AsBefore),
+    between!(0, 63, May),
+    coordinate!(AsBefore),
+    ID_OR_NONE,
 ];
 
-// The place of a section's first column among all columns.
-pub fn first_column(s: usize) -> usize
-    requires { s ≤ SECTIONS }
-    ensures { result ≡ first_column s }
+const CHIP_COLUMNS: [Column; 2] = [ID, ID_OR_NONE];
+
+const INNER_COLUMNS: [Column; 3] = [ID, ID, CLASS];
+
+const EXEC_COLUMNS: [Column; 2] = [ID, PORT];
+
+const WIRE_COLUMNS: [Column; 4] = [ID, PORT, ID, PORT];
+
+// The fields of a section, by its number.
+pub fn columns_of(s: usize) -> &'static [Column]
+    requires { s < SECTIONS }
+    ensures { result.now ≡ columns_of s }
 {
     match s {
-        0 => 0,
-        1 => 2,
-        2 => 14,
-        3 => 16,
-        4 => 19,
-        5 => 21,
-        _ => 25,
+        0 => &PAGE_COLUMNS,
+        1 => &NODE_COLUMNS,
+        2 => &CHIP_COLUMNS,
+        3 => &INNER_COLUMNS,
+        4 => &EXEC_COLUMNS,
+        _ => &WIRE_COLUMNS,
     }
 }

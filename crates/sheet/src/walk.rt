@@ -1,8 +1,8 @@
 // The sheet walker: it borrows the text that it walks, and shows each part of it that a byte ends: a line ends at byte 10, and a field of a line at a tab. The
-// searching is done over a plain slice and a place; the functions over the walker only wrap it.
-ghost use Rattle.std.specs.Prelude.{◌≡◌, length, drop};
+// searching is done over a plain slice and a place; the walker's methods only wrap it.
+ghost use Rattle.std.specs.Prelude.{◌≡◌, ◌==◌, position, drop};
 ghost use Rattle.sheet.specs.Text.{part_of};
-ghost use Rattle.sheet.specs.Places.{part_end, behind_end, behind_part};
+ghost use Rattle.sheet.specs.Places.{behind_part};
 
 // A text and a place in it. A place past the end stands for the end.
 #[derive(Clone, Copy)]
@@ -11,70 +11,51 @@ pub struct SheetWalker<'a> {
     pub at: usize,
 }
 
-// Where the part that starts here ends: at the next byte `end`, or with the text.
-pub fn part_end(text: &[u8], at: usize, end: u8) -> usize
-    ensures { result ≡ part_end end text.now at }
+// Where the byte `end` first stands.
+fn first_end(bytes: &[u8], end: u8) -> Option<usize>
+    ensures { result ≡ position (λ b. b == end) bytes.now }
 {
-    let mut i = at;
-    while i < text.len() {
-        if text[i] == end {
-            return i;
-        }
-        i += 1;
-    }
-    i
+    bytes.iter().position(|b| *b == end)
 }
 
 // The part that starts here, without the byte that ends it.
-pub fn part_at(text: &[u8], at: usize, end: u8) -> &[u8]
+fn part_at(text: &[u8], at: usize, end: u8) -> &[u8]
     ensures { result.now ≡ part_of end (drop at text.now) }
 {
     if text.len() < at {
-        return &text[..0];
+        return &[];
     }
-    let to = part_end(text, at, end);
-    &text[at..to]
-}
-
-// The place behind the byte that ends a part, or the text's end.
-fn behind_end(text: &[u8], end: usize) -> usize
-    ensures { result ≡ behind_end (length text.now) end }
-{
-    if end < text.len() {
-        end + 1
-    } else {
-        text.len()
+    let rest = &text[at..];
+    match first_end(rest, end) {
+        Some(n) => &rest[..n],
+        None => rest,
     }
 }
 
-// The place behind the part that starts here, and behind the byte that ends it.
+// The place behind the part that starts here, and behind the byte that ends it: or the text's end.
 pub fn behind_part(text: &[u8], at: usize, end: u8) -> usize
     ensures { result ≡ behind_part end text.now at }
 {
-    behind_end(text, part_end(text, at, end))
+    let part_end = at + part_at(text, at, end).len();
+    part_end.saturating_add(1).min(text.len())
 }
 
-// A walker at a place of a text.
-pub fn walk<'a>(text: &'a [u8], at: usize) -> SheetWalker<'a>
-    ensures { (result.text ≡ text.entry) × (result.at ≡ at) }
-{
-    SheetWalker { text, at }
-}
+impl<'a> SheetWalker<'a> {
+    // The part at the walker's place, which the byte `end` ends.
+    pub fn part(self, end: u8) -> &'a [u8]
+        ensures { result.now ≡ part_of end (drop self.entry.at self.entry.text.now) }
+    {
+        part_at(self.text, self.at, end)
+    }
 
-// The part at the walker's place, which the byte `end` ends.
-pub fn part<'a>(w: SheetWalker<'a>, end: u8) -> &'a [u8]
-    ensures { result.now ≡ part_of end (drop w.entry.at w.entry.text.now) }
-{
-    part_at(w.text, w.at, end)
-}
-
-// The walker behind that part.
-pub fn next_part<'a>(w: SheetWalker<'a>, end: u8) -> SheetWalker<'a>
-    ensures { (result.text ≡ w.entry.text) × (result.at ≡ behind_part end w.entry.text.now w.entry.at) }
-{
-    SheetWalker {
-        text: w.text,
-        at: behind_part(w.text, w.at, end),
+    // The walker behind that part.
+    pub fn next_part(self, end: u8) -> Self
+        ensures { (result.text ≡ self.entry.text) × (result.at ≡ behind_part end self.entry.text.now self.entry.at) }
+    {
+        SheetWalker {
+            text: self.text,
+            at: behind_part(self.text, self.at, end),
+        }
     }
 }
 
@@ -82,5 +63,5 @@ pub fn next_part<'a>(w: SheetWalker<'a>, end: u8) -> SheetWalker<'a>
 pub fn part_from<'a>(text: &'a [u8], at: usize, end: u8) -> &'a [u8]
     ensures { result.now ≡ part_of end (drop at text.now) }
 {
-    part(walk(text, at), end)
+    SheetWalker { text, at }.part(end)
 }

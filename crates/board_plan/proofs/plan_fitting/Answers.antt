@@ -40,4 +40,4 @@ returns c b checked =
     let enough : fits_counts c.args.lent c.args.counts ≡ true = sym c.fits.ensures ∙ c.if-not-fits.false in
     let fits = enough in
     rw (lent_fits (fits_lent c.args.lent) b (fits_counted c.args.lent b c.args.counts true checked.counted fits))
-    (c.plan_rows.ensures b (board_read checked c.args.lent fits c.requires.work_lent))
+    (c.plan_rows.result, refl, c.plan_rows.ensures b (board_read checked c.args.lent fits c.requires.work_lent))

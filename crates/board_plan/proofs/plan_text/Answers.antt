@@ -1,7 +1,8 @@
 use native.Mathlib.Omega.{arith}
-use mathlib.Core.Path.{◌≡◌, refl, sym, ◌∙◌}
+use mathlib.Core.Path.{◌≡◌, sym, ◌∙◌}
 use Prim.Native.Nat.{ℕ, ◌≤◌}
 use lib.ListN.{replicate}
+use Rattle.base.proofs.Passing.{passed}
 use Rattle.board.specs.Board.{Board}
 use Rattle.board.specs.Refusals
 use Rattle.board.specs.Refusals.{judged}
@@ -21,22 +22,23 @@ check_board-requires c = let fresh : (most : ℕ) → most ≤ 4096 → Fresh (r
 
 pub plan_fitting-requires : goal.plan_fitting-requires
 plan_fitting-requires c =
-    let checked : let a = c.args in let d = c.check_board in (b : Board) × (judged a.asked.most a.text.now ≡ Refusals.board b) × BoardChecked b d.new.rows c.in-Fine.counts d.new.body d.new.inner = let a = c.args in
+    let checked : let a = c.args in let d = c.check_board in (b : Board) × (judged a.asked.most a.text.now ≡ Refusals.board b) × BoardChecked b d.new.rows c.in_ok-counts.counts d.new.body d.new.inner = let a = c.args in
     let d = c.check_board in
-    board_fine a.asked.most a.text.now d.new.rows d.new.body d.new.chips d.new.inner c.in-Fine.counts c.requires.within_library (sym c.in-Fine.is ∙ d.ensures.value) d.ensures.indexed_if d.ensures.rows_if in record {
+    board_fine a.asked.most a.text.now d.new.rows d.new.body d.new.chips d.new.inner c.in_ok-counts.counts c.requires.within_library (sym c.in_ok-counts.was ∙ d.ensures.value) d.ensures.indexed_if d.ensures.rows_if in record {
       work_lent = rw c.check_board.auto.rows c.requires.work_lent;
       board_checked = ((checked).0, (checked).2);
     }
 
-pub shape_of-records-in-Refused : goal.shape_of-records-in-Refused
-shape_of-records-in-Refused c = c.check_board.auto.rows
+pub shape_of-records-in_err-counts : goal.shape_of-records-in_err-counts
+shape_of-records-in_err-counts c = c.check_board.auto.rows
 
-pub returns-in-Refused : goal.returns-in-Refused
-returns-in-Refused c = let a = c.args in
-    rw (fitting_refused a.asked.most a.text.now (fits_lent a.asked.lent) _ _ (board_refused a.asked.most a.text.now _ _ (sym c.in-Refused.is ∙ c.check_board.ensures.value))) refl
+pub returns-in_err-counts : goal.returns-in_err-counts
+returns-in_err-counts c = let a = c.args in
+    rw (fitting_refused a.asked.most a.text.now (fits_lent a.asked.lent) _ (board_refused a.asked.most a.text.now _ (sym c.in_err-counts.was ∙ c.check_board.ensures.value)))
+    (passed c.from_residual.result _ c.from_residual.ensures.1)
 
-pub shape_of-records-in-Fine : goal.shape_of-records-in-Fine
-shape_of-records-in-Fine c = c.check_board.auto.rows
+pub shape_of-records : goal.shape_of-records
+shape_of-records c = c.check_board.auto.rows
 
 pub shape_of-facts : goal.shape_of-facts
 shape_of-facts c = c.plan_fitting.auto.facts
@@ -56,10 +58,10 @@ shape_of-keys c = c.plan_fitting.auto.keys
 pub shape_of-spare : goal.shape_of-spare
 shape_of-spare c = c.plan_fitting.auto.spare
 
-pub returns-in-Fine : goal.returns-in-Fine
-returns-in-Fine c =
-    let checked : let a = c.args in let d = c.check_board in (b : Board) × (judged a.asked.most a.text.now ≡ Refusals.board b) × BoardChecked b d.new.rows c.in-Fine.counts d.new.body d.new.inner = let a = c.args in
+pub returns : goal.returns
+returns c =
+    let checked : let a = c.args in let d = c.check_board in (b : Board) × (judged a.asked.most a.text.now ≡ Refusals.board b) × BoardChecked b d.new.rows c.in_ok-counts.counts d.new.body d.new.inner = let a = c.args in
     let d = c.check_board in
-    board_fine a.asked.most a.text.now d.new.rows d.new.body d.new.chips d.new.inner c.in-Fine.counts c.requires.within_library (sym c.in-Fine.is ∙ d.ensures.value) d.ensures.indexed_if d.ensures.rows_if in
+    board_fine a.asked.most a.text.now d.new.rows d.new.body d.new.chips d.new.inner c.in_ok-counts.counts c.requires.within_library (sym c.in_ok-counts.was ∙ d.ensures.value) d.ensures.indexed_if d.ensures.rows_if in
     let a = c.args in
     rw (fitting_judged a.asked.most a.text.now (fits_lent a.asked.lent) (checked).0 (checked).1) (c.plan_fitting.ensures (checked).0 (checked).2)

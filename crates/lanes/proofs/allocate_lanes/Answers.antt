@@ -1,63 +1,94 @@
 -- `lanes::allocate_lanes` meets its contract: each return is one line of the definition's. Assumes nothing.
-use mathlib.Core.Path.{◌≡◌, sym, subst}
-use mathlib.Core.Logic.{inl, inr}
-use Prim.Native.Nat.{◌/◌}
+use mathlib.Core.Path.{sym, ap, subst, ◌∙◌}
+use mathlib.Core.Logic.{inl, inr, ⊎_elim}
+use mathlib.Core.List.{List, map}
+use Prim.Native.Nat.{ℕ}
 use native.Mathlib.Omega.{arith}
-use lib.ListN.{length, take}
+use lib.ListN.{length, length-map}
 use lib.Seq.{length-take-le}
-use Rattle.lanes.specs.LaneCall.{demand_most, demands_of, report_of, faulty, lane_call, answer_to}
-use Rattle.lanes.specs.Lanes.{no_demand, packed}
-use Rattle.lanes.specs.Keys.{PackedNumbers}
-use Rattle.lanes.specs.declared.pack.Packing.{Packing}
-use Rattle.lanes.proofs.NumberLaws.{length-demands}
-use Rattle.lanes.proofs.CallLaws.{by_refusal, by_lanes, by_full, call_1, call_2, call_3, call_7, call_packed, none_first}
+use Rattle.std.specs.Prelude.{Ok}
+use Rattle.std.proofs.lemmas.Result.{err_from_is_err_and}
+use Rattle.lanes.specs.Keys.{demand_of, PackedNumbers}
+use Rattle.lanes.proofs.NumberLaws.{demands_in_rows}
+use Rattle.lanes.proofs.AnswerLaws.{index_within, numbers_laned, numbers_full}
+use Rattle.lanes.proofs.CallLaws.{incomplete, too_many, out_of_range, rows_sound, no_room, by_lanes, by_full}
 use Rattle.lanes.proofs.allocate_lanes.Goals as goal
 
-pub returns-then-demands-gt0 : goal.returns-then-demands-gt0
-unfolding report_of
-returns-then-demands-gt0 c = by_refusal c.args.demands.now c.args.lanes.now (length c.args.work.now) (length c.args.spare.now) 1 (length c.args.demands.now / 4) (call_1 c.args.demands.now c.args.lanes.now (length c.args.work.now) (length c.args.spare.now) c.if-demands-gt0.true)
+pub returns-then-not-is_empty : goal.returns-then-not-is_empty
+returns-then-not-is_empty c =
+    incomplete c.args.demands.now c.args.lanes.now (length c.args.work.now) (length c.args.spare.now) c.as_chunks.result.0.now c.as_chunks.ensures.front_len
+    (ap (map demand_of) c.as_chunks.ensures.front ∙ demands_in_rows c.args.demands.now)
+    (length c.as_chunks.result.1.now) c.as_chunks.ensures.back_len c.if-not-is_empty.ensures
 
 pub returns-then-n-gt-DEMAND_MOST : goal.returns-then-n-gt-DEMAND_MOST
-unfolding report_of
-returns-then-n-gt-DEMAND_MOST c = by_refusal c.args.demands.now c.args.lanes.now (length c.args.work.now) (length c.args.spare.now) 2 demand_most (call_2 c.args.demands.now c.args.lanes.now (length c.args.work.now) (length c.args.spare.now) c.if-demands-gt0.false c.if-n-gt-DEMAND_MOST.true)
+returns-then-n-gt-DEMAND_MOST c =
+    too_many c.args.demands.now c.args.lanes.now (length c.args.work.now) (length c.args.spare.now) c.as_chunks.result.0.now c.as_chunks.ensures.front_len
+    (ap (map demand_of) c.as_chunks.ensures.front ∙ demands_in_rows c.args.demands.now)
+    (length c.as_chunks.result.1.now) c.as_chunks.ensures.back_len c.if-not-is_empty.ensures c.if-n-gt-DEMAND_MOST.true
 
-pub returns-then-fault-n : goal.returns-then-fault-n
-unfolding report_of
-returns-then-fault-n c = by_refusal c.args.demands.now c.args.lanes.now (length c.args.work.now) (length c.args.spare.now) 3 c.first_fault-fault.result (call_3 c.args.demands.now c.args.lanes.now (length c.args.work.now) (length c.args.spare.now) c.if-demands-gt0.false c.if-n-gt-DEMAND_MOST.false c.first_fault-fault.result c.first_fault-fault.ensures c.if-fault-n.true)
+pub returns-in-Some : goal.returns-in-Some
+returns-in-Some c =
+    out_of_range c.args.demands.now c.args.lanes.now (length c.args.work.now) (length c.args.spare.now) c.as_chunks.result.0.now c.as_chunks.ensures.front_len
+    (ap (map demand_of) c.as_chunks.ensures.front ∙ demands_in_rows c.args.demands.now)
+    (length c.as_chunks.result.1.now) c.as_chunks.ensures.back_len c.if-not-is_empty.ensures c.if-n-gt-DEMAND_MOST.false c.in-Some.i (sym c.in-Some.ensures)
 
 pub returns-then-lanes-n : goal.returns-then-lanes-n
-unfolding report_of
-returns-then-lanes-n c = by_refusal c.args.demands.now c.args.lanes.now (length c.args.work.now) (length c.args.spare.now) 7 0 (call_7 c.args.demands.now c.args.lanes.now (length c.args.work.now) (length c.args.spare.now) c.if-demands-gt0.false c.if-n-gt-DEMAND_MOST.false c.first_fault-fault.result c.first_fault-fault.ensures c.if-fault-n.false (inl c.if-lanes-n.true))
+returns-then-lanes-n c =
+    no_room c.args.demands.now c.args.lanes.now (length c.args.work.now) (length c.args.spare.now) c.as_chunks.result.0.now c.as_chunks.ensures.front_len
+    (ap (map demand_of) c.as_chunks.ensures.front ∙ demands_in_rows c.args.demands.now)
+    (length c.as_chunks.result.1.now) c.as_chunks.ensures.back_len c.if-not-is_empty.ensures c.if-n-gt-DEMAND_MOST.false (sym c.in_default.ensures)
+    (⊎_elim (λ lanes. inl lanes) (λ more. inr (⊎_elim (λ work. inl work.1) (λ spare. inr spare.2) more)) c.then-lanes-n.either)
 
-pub returns-then-work-n : goal.returns-then-work-n
-unfolding report_of
-returns-then-work-n c = by_refusal c.args.demands.now c.args.lanes.now (length c.args.work.now) (length c.args.spare.now) 7 0 (call_7 c.args.demands.now c.args.lanes.now (length c.args.work.now) (length c.args.spare.now) c.if-demands-gt0.false c.if-n-gt-DEMAND_MOST.false c.first_fault-fault.result c.first_fault-fault.ensures c.if-fault-n.false (inr (inl c.if-work-n.true)))
+pub pack_demands-requires : goal.pack_demands-requires
+pack_demands-requires c =
+    let long = length-take-le (length c.as_chunks.result.0.now) c.args.work.now c.if-work-n.false in (
+      omega arith,
+      (
+        omega arith,
+        (
+          (
+            long,
+            omega (arith, long),
+            rows_sound c.args.demands.now c.args.lanes.now (length c.args.work.now) (length c.args.spare.now) c.as_chunks.result.0.now c.as_chunks.ensures.front_len
+                (ap (map demand_of) c.as_chunks.ensures.front ∙ demands_in_rows c.args.demands.now)
+                (length c.as_chunks.result.1.now) c.as_chunks.ensures.back_len c.if-not-is_empty.ensures c.if-n-gt-DEMAND_MOST.false (sym c.in_default.ensures),
+          ),
+          omega (arith, long),
+        ),
+      ),
+    )
 
-pub returns-then-spare-n : goal.returns-then-spare-n
-unfolding report_of
-returns-then-spare-n c = by_refusal c.args.demands.now c.args.lanes.now (length c.args.work.now) (length c.args.spare.now) 7 0 (call_7 c.args.demands.now c.args.lanes.now (length c.args.work.now) (length c.args.spare.now) c.if-demands-gt0.false c.if-n-gt-DEMAND_MOST.false c.first_fault-fault.result c.first_fault-fault.ensures c.if-fault-n.false (inr (inr c.if-spare-n.true)))
+pub returns-in_err-count : goal.returns-in_err-count
+returns-in_err-count c =
+    let p = err_from_is_err_and c.from_residual.result c.from_residual.ensures.1 in
+    rw (p.1, p.2)
+    (by_full c.args.demands.now c.args.lanes.now (length c.args.work.now) (length c.args.spare.now) c.as_chunks.result.0.now c.as_chunks.ensures.front_len
+    (ap (map demand_of) c.as_chunks.ensures.front ∙ demands_in_rows c.args.demands.now)
+    (length c.as_chunks.result.1.now) c.as_chunks.ensures.back_len c.if-not-is_empty.ensures c.if-n-gt-DEMAND_MOST.false (sym c.in_default.ensures)
+    c.if-lanes-n.false c.if-work-n.false c.if-spare-n.false c.in_err-count.field-0.0
+    (numbers_full (map demand_of c.as_chunks.result.0.now)
+    (rows_sound c.args.demands.now c.args.lanes.now (length c.args.work.now) (length c.args.spare.now) c.as_chunks.result.0.now c.as_chunks.ensures.front_len
+    (ap (map demand_of) c.as_chunks.ensures.front ∙ demands_in_rows c.args.demands.now)
+    (length c.as_chunks.result.1.now) c.as_chunks.ensures.back_len c.if-not-is_empty.ensures c.if-n-gt-DEMAND_MOST.false (sym c.in_default.ensures))
+    c.pack_demands.new.keys c.pack_demands.result c.pack_demands.ensures c.args.lanes.now c.in_err-count.field-0.0 c.in_err-count.was))
 
-pub slice_bounds-packed_numbers-end-2 : goal.slice_bounds-packed_numbers-end-2
-slice_bounds-packed_numbers-end-2 c = sym (length-take-le (length c.args.demands.now / 4) c.args.work.now c.if-work-n.false)
+pub put_lanes-requires : goal.put_lanes-requires
+put_lanes-requires c =
+    index_within (map demand_of c.as_chunks.result.0.now)
+    (rows_sound c.args.demands.now c.args.lanes.now (length c.args.work.now) (length c.args.spare.now) c.as_chunks.result.0.now c.as_chunks.ensures.front_len
+    (ap (map demand_of) c.as_chunks.ensures.front ∙ demands_in_rows c.args.demands.now)
+    (length c.as_chunks.result.1.now) c.as_chunks.ensures.back_len c.if-not-is_empty.ensures c.if-n-gt-DEMAND_MOST.false (sym c.in_default.ensures))
+    c.pack_demands.new.keys c.pack_demands.result c.pack_demands.ensures (length c.args.lanes.now) (omega (arith, length-map c.as_chunks.result.0.now demand_of, c.if-lanes-n.false))
 
-pub packed_numbers-requires : goal.packed_numbers-requires
-packed_numbers-requires c = let l : length (take (length c.args.demands.now / 4) c.args.work.now) ≡ length c.args.demands.now / 4 = length-take-le (length c.args.demands.now / 4) c.args.work.now c.if-work-n.false in record {
-  keys_len = (l, omega (arith, c.if-n-gt-DEMAND_MOST.false), none_first faulty no_demand (demands_of c.args.demands.now) (omega (arith, length-demands c.args.demands.now, c.first_fault-fault.ensures, c.if-fault-n.false)));
-  keys_in_bounds = (omega (arith, c.if-lanes-n.false), omega (arith, c.if-spare-n.false));
-}
-
-pub returns-in-Lanes : goal.returns-in-Lanes
-unfolding report_of
-returns-in-Lanes c =
-    let called : lane_call c.args.demands.now (length c.args.lanes.now) (length c.args.work.now) (length c.args.spare.now) ≡ answer_to (packed (demands_of c.args.demands.now)) = call_packed c.args.demands.now c.args.lanes.now (length c.args.work.now) (length c.args.spare.now) c.if-demands-gt0.false c.if-n-gt-DEMAND_MOST.false c.first_fault-fault.result c.first_fault-fault.ensures c.if-fault-n.false
-    c.if-lanes-n.false c.if-work-n.false c.if-spare-n.false in
-    by_lanes c.args.demands.now c.args.lanes.now c.packed_numbers.new.lanes (length c.args.work.now) (length c.args.spare.now) (called) c.in-Lanes.count
-    (subst (λ (p : Packing). PackedNumbers (demands_of c.args.demands.now) c.args.lanes.now c.packed_numbers.new.lanes p) c.in-Lanes.is c.packed_numbers.ensures)
-
-pub returns-in-Full : goal.returns-in-Full
-unfolding report_of
-returns-in-Full c =
-    let called : lane_call c.args.demands.now (length c.args.lanes.now) (length c.args.work.now) (length c.args.spare.now) ≡ answer_to (packed (demands_of c.args.demands.now)) = call_packed c.args.demands.now c.args.lanes.now (length c.args.work.now) (length c.args.spare.now) c.if-demands-gt0.false c.if-n-gt-DEMAND_MOST.false c.first_fault-fault.result c.first_fault-fault.ensures c.if-fault-n.false
-    c.if-lanes-n.false c.if-work-n.false c.if-spare-n.false in
-    by_full c.args.demands.now c.args.lanes.now c.packed_numbers.new.lanes (length c.args.work.now) (length c.args.spare.now) (called) c.in-Full.index
-    (subst (λ (p : Packing). PackedNumbers (demands_of c.args.demands.now) c.args.lanes.now c.packed_numbers.new.lanes p) c.in-Full.is c.packed_numbers.ensures)
+pub returns : goal.returns
+returns c =
+    by_lanes c.args.demands.now c.args.lanes.now (length c.args.work.now) (length c.args.spare.now) c.as_chunks.result.0.now c.as_chunks.ensures.front_len
+    (ap (map demand_of) c.as_chunks.ensures.front ∙ demands_in_rows c.args.demands.now)
+    (length c.as_chunks.result.1.now) c.as_chunks.ensures.back_len c.if-not-is_empty.ensures c.if-n-gt-DEMAND_MOST.false (sym c.in_default.ensures)
+    c.if-lanes-n.false c.if-work-n.false c.if-spare-n.false c.put_lanes.new.places c.in_ok-count.count
+    (subst (λ (left : List ℕ). PackedNumbers (map demand_of c.as_chunks.result.0.now) c.args.lanes.now left (Ok c.in_ok-count.count)) (sym (c.put_lanes.ensures 0))
+    (numbers_laned (map demand_of c.as_chunks.result.0.now)
+    (rows_sound c.args.demands.now c.args.lanes.now (length c.args.work.now) (length c.args.spare.now) c.as_chunks.result.0.now c.as_chunks.ensures.front_len
+    (ap (map demand_of) c.as_chunks.ensures.front ∙ demands_in_rows c.args.demands.now)
+    (length c.as_chunks.result.1.now) c.as_chunks.ensures.back_len c.if-not-is_empty.ensures c.if-n-gt-DEMAND_MOST.false (sym c.in_default.ensures))
+    c.pack_demands.new.keys c.pack_demands.result c.pack_demands.ensures c.args.lanes.now c.in_ok-count.count (omega (arith, length-map c.as_chunks.result.0.now demand_of, c.if-lanes-n.false)) c.in_ok-count.was))

@@ -11,8 +11,7 @@ use Rattle.routes_plan_sheet.specs.Held.{PlanHeld}
 use Rattle.routes_plan_sheet.proofs.PlanWritten.{plan_fits_lem}
 use Rattle.board_plan.proofs.Calling.{work_room}
 use Rattle.program_answer.specs.Answering.{Answered, answer_call}
-use Rattle.program_answer.specs.declared.Answer.{Answer}
-use Rattle.program_answer.specs.declared.Answer.TheVariants.{Written}
+use Rattle.std.proofs.Common.{Option, Some}
 use Rattle.program_answer.proofs.Answers.{PlanTold, plan_told_by, plan_held, plan_room, answered_refused, answered_plan}
 use Rattle.program_answer.proofs.answer_within.Goals as goal
 
@@ -30,8 +29,8 @@ write_plan-requires c =
     record { rerouters = length a.rerouters.now; bus_wires = length a.bus_wires.now; ports = length a.ports.now; answers = length a.answers.now; work = work; out = length a.out.now } in
     let lent_of : Lent = lent-with c.shortest_of-work.result in
     let plan-of : Planning = planning c.args.most (fits_lent (lent_of)) c.args.text.now in
-    let told : let r = c.route_within in let a = c.args in PlanTold (plan-of) a.rerouters.now a.bus_wires.now a.ports.now a.answers.now r.new.rerouters r.new.bus_wires r.new.ports r.new.answers c.in-Laid.counts c.in-Laid.bus c.in-Laid.laid = let r = c.route_within in let a = c.args in plan_told_by a.rerouters.now a.bus_wires.now a.ports.now a.answers.now r.new.rerouters r.new.bus_wires r.new.ports r.new.answers (plan-of) r.result _ _ _ r.ensures c.in-Laid.is in
-    let held : let r = c.route_within in PlanHeld (told).on_board (told).lanes r.new.answers c.in-Laid.counts.pages r.new.rerouters c.in-Laid.bus.rerouters r.new.bus_wires c.in-Laid.bus.bus_wires r.new.ports c.in-Laid.bus.ports c.in-Laid.counts.wires c.in-Laid.laid = let r = c.route_within in let a = c.args in plan_held a.most a.text.now (lent_of) c.requires a.rerouters.now a.bus_wires.now a.ports.now a.answers.now r.new.rerouters r.new.bus_wires r.new.ports r.new.answers _ _ _ (told) in
+    let told : let r = c.route_within in let a = c.args in PlanTold (plan-of) a.rerouters.now a.bus_wires.now a.ports.now a.answers.now r.new.rerouters r.new.bus_wires r.new.ports r.new.answers c.in-Ok.plan.counts c.in-Ok.plan.laid.bus c.in-Ok.plan.laid.groups = let r = c.route_within in let a = c.args in plan_told_by a.rerouters.now a.bus_wires.now a.ports.now a.answers.now r.new.rerouters r.new.bus_wires r.new.ports r.new.answers (plan-of) r.result _ r.ensures c.in-Ok.is in
+    let held : let r = c.route_within in PlanHeld (told).on_board (told).lanes r.new.answers c.in-Ok.plan.counts.pages r.new.rerouters c.in-Ok.plan.laid.bus.rerouters r.new.bus_wires c.in-Ok.plan.laid.bus.bus_wires r.new.ports c.in-Ok.plan.laid.bus.ports c.in-Ok.plan.counts.wires c.in-Ok.plan.laid.groups = let r = c.route_within in let a = c.args in plan_held a.most a.text.now (lent_of) c.requires a.rerouters.now a.bus_wires.now a.ports.now a.answers.now r.new.rerouters r.new.bus_wires r.new.ports r.new.answers _ _ _ (told) in
     let r = c.route_within in
     let a = c.args in
     let room = plan_room a.most a.text.now (lent_of) c.requires a.rerouters.now a.bus_wires.now a.ports.now a.answers.now r.new.rerouters r.new.bus_wires r.new.ports r.new.answers _ _ _ (told) in
@@ -40,30 +39,30 @@ write_plan-requires c =
       wires_bound = (fits.1, fits.2);
     }
 
-pub returns-in-Refused : goal.returns-in-Refused
-returns-in-Refused c =
+pub returns-in-Err : goal.returns-in-Err
+returns-in-Err c =
     let lent-with : ℕ → Lent = λ work. let a = c.args in
     record { rerouters = length a.rerouters.now; bus_wires = length a.bus_wires.now; ports = length a.ports.now; answers = length a.answers.now; work = work; out = length a.out.now } in
     let lent_of : Lent = lent-with c.shortest_of-work.result in
-    let Promise : ℕ → List ℕ → Answer → Type 0 = λ work after r'. let r = c.route_within in let a = c.args in Answered (answer_call a.most a.text.now (lent-with work)) a.out.now a.rerouters.now a.bus_wires.now a.ports.now a.answers.now after r.new.rerouters r.new.bus_wires r.new.ports r.new.answers r' in
-    let counted : (after : List ℕ) (r : Answer) → Promise c.shortest_of-work.result after r → Promise (let a = c.args in shortest (work_rows a.records.now a.facts.now a.taps.now a.groups.now a.demands.now a.keys.now a.marks.now)) after r = λ after r. subst (λ (k : ℕ). Promise k after r) c.shortest_of-work.ensures in
+    let Promise : ℕ → List ℕ → Option ℕ → Type 0 = λ work after r'. let r = c.route_within in let a = c.args in Answered (answer_call a.most a.text.now (lent-with work)) a.out.now a.rerouters.now a.bus_wires.now a.ports.now a.answers.now after r.new.rerouters r.new.bus_wires r.new.ports r.new.answers r' in
+    let counted : (after : List ℕ) (r : Option ℕ) → Promise c.shortest_of-work.result after r → Promise (let a = c.args in shortest (work_rows a.records.now a.facts.now a.taps.now a.groups.now a.demands.now a.keys.now a.marks.now)) after r = λ after r. subst (λ (k : ℕ). Promise k after r) c.shortest_of-work.ensures in
     let r = c.route_within in
     let a = c.args in
     let t = c.tell_refusal in
-    counted t.new.out t.result (answered_refused a.most a.text.now (lent_of) a.rerouters.now a.bus_wires.now a.ports.now a.answers.now r.new.rerouters r.new.bus_wires r.new.ports r.new.answers r.result r.ensures _ _ c.in-Refused.is a.out.now t.new.out t.result t.ensures)
+    counted t.new.out t.result (answered_refused a.most a.text.now (lent_of) a.rerouters.now a.bus_wires.now a.ports.now a.answers.now r.new.rerouters r.new.bus_wires r.new.ports r.new.answers r.result r.ensures _ c.in-Err.is a.out.now t.new.out t.result t.ensures)
 
-pub returns-in-Laid : goal.returns-in-Laid
-returns-in-Laid c =
+pub returns-in-Ok : goal.returns-in-Ok
+returns-in-Ok c =
     let lent-with : ℕ → Lent = λ work. let a = c.args in
     record { rerouters = length a.rerouters.now; bus_wires = length a.bus_wires.now; ports = length a.ports.now; answers = length a.answers.now; work = work; out = length a.out.now } in
     let lent_of : Lent = lent-with c.shortest_of-work.result in
-    let Promise : ℕ → List ℕ → Answer → Type 0 = λ work after r'. let r = c.route_within in let a = c.args in Answered (answer_call a.most a.text.now (lent-with work)) a.out.now a.rerouters.now a.bus_wires.now a.ports.now a.answers.now after r.new.rerouters r.new.bus_wires r.new.ports r.new.answers r' in
-    let counted : (after : List ℕ) (r : Answer) → Promise c.shortest_of-work.result after r → Promise (let a = c.args in shortest (work_rows a.records.now a.facts.now a.taps.now a.groups.now a.demands.now a.keys.now a.marks.now)) after r = λ after r. subst (λ (k : ℕ). Promise k after r) c.shortest_of-work.ensures in
+    let Promise : ℕ → List ℕ → Option ℕ → Type 0 = λ work after r'. let r = c.route_within in let a = c.args in Answered (answer_call a.most a.text.now (lent-with work)) a.out.now a.rerouters.now a.bus_wires.now a.ports.now a.answers.now after r.new.rerouters r.new.bus_wires r.new.ports r.new.answers r' in
+    let counted : (after : List ℕ) (r : Option ℕ) → Promise c.shortest_of-work.result after r → Promise (let a = c.args in shortest (work_rows a.records.now a.facts.now a.taps.now a.groups.now a.demands.now a.keys.now a.marks.now)) after r = λ after r. subst (λ (k : ℕ). Promise k after r) c.shortest_of-work.ensures in
     let plan-of : Planning = planning c.args.most (fits_lent (lent_of)) c.args.text.now in
-    let told : let r = c.route_within in let a = c.args in PlanTold (plan-of) a.rerouters.now a.bus_wires.now a.ports.now a.answers.now r.new.rerouters r.new.bus_wires r.new.ports r.new.answers c.in-Laid.counts c.in-Laid.bus c.in-Laid.laid = let r = c.route_within in let a = c.args in plan_told_by a.rerouters.now a.bus_wires.now a.ports.now a.answers.now r.new.rerouters r.new.bus_wires r.new.ports r.new.answers (plan-of) r.result _ _ _ r.ensures c.in-Laid.is in
-    let held : let r = c.route_within in PlanHeld (told).on_board (told).lanes r.new.answers c.in-Laid.counts.pages r.new.rerouters c.in-Laid.bus.rerouters r.new.bus_wires c.in-Laid.bus.bus_wires r.new.ports c.in-Laid.bus.ports c.in-Laid.counts.wires c.in-Laid.laid = let r = c.route_within in let a = c.args in plan_held a.most a.text.now (lent_of) c.requires a.rerouters.now a.bus_wires.now a.ports.now a.answers.now r.new.rerouters r.new.bus_wires r.new.ports r.new.answers _ _ _ (told) in
+    let told : let r = c.route_within in let a = c.args in PlanTold (plan-of) a.rerouters.now a.bus_wires.now a.ports.now a.answers.now r.new.rerouters r.new.bus_wires r.new.ports r.new.answers c.in-Ok.plan.counts c.in-Ok.plan.laid.bus c.in-Ok.plan.laid.groups = let r = c.route_within in let a = c.args in plan_told_by a.rerouters.now a.bus_wires.now a.ports.now a.answers.now r.new.rerouters r.new.bus_wires r.new.ports r.new.answers (plan-of) r.result _ r.ensures c.in-Ok.is in
+    let held : let r = c.route_within in PlanHeld (told).on_board (told).lanes r.new.answers c.in-Ok.plan.counts.pages r.new.rerouters c.in-Ok.plan.laid.bus.rerouters r.new.bus_wires c.in-Ok.plan.laid.bus.bus_wires r.new.ports c.in-Ok.plan.laid.bus.ports c.in-Ok.plan.counts.wires c.in-Ok.plan.laid.groups = let r = c.route_within in let a = c.args in plan_held a.most a.text.now (lent_of) c.requires a.rerouters.now a.bus_wires.now a.ports.now a.answers.now r.new.rerouters r.new.bus_wires r.new.ports r.new.answers _ _ _ (told) in
     let r = c.route_within in
     let a = c.args in
     let w = c.write_plan in
-    counted w.new.out (Written w.result)
+    counted w.new.out (Some w.result)
     (answered_plan a.most a.text.now (lent_of) c.requires a.rerouters.now a.bus_wires.now a.ports.now a.answers.now r.new.rerouters r.new.bus_wires r.new.ports r.new.answers _ _ _ (told) r.result r.ensures a.out.now w.new.out w.result refl (w.ensures (told).on_board (told).lanes (held)))

@@ -1,18 +1,21 @@
-use Rattle.program_answer.proofs.Answers.{no_room, number_high, place_high, refusal_told}
+use Rattle.std.proofs.Common.{arith, ap, subst}
+use lib.ListN.{length}
+use Rattle.sheet.specs.Written.{Wrote}
+use Rattle.routes.specs.PlanSheet.{refusal_sheet}
+use Rattle.program_answer.proofs.Answers.{no_room, place_high, number_few, refusal_told}
 use Rattle.program_answer.proofs.tell_refusal.Goals as goal
 
 pub returns-then-out-lt-LINE_MOST : goal.returns-then-out-lt-LINE_MOST
-returns-then-out-lt-LINE_MOST c = let a = c.args in no_room a.number a.place a.out.now c.if-out-lt-LINE_MOST.true
-
-pub returns-then-number-gt-TOLD_MOST : goal.returns-then-number-gt-TOLD_MOST
-returns-then-number-gt-TOLD_MOST c = let a = c.args in number_high a.number a.place a.out.now c.if-number-gt-TOLD_MOST.true
+returns-then-out-lt-LINE_MOST c = no_room c.args.refusal c.args.out.now c.if-out-lt-LINE_MOST.true
 
 pub returns-then-place-gt-TOLD_MOST : goal.returns-then-place-gt-TOLD_MOST
-returns-then-place-gt-TOLD_MOST c = let a = c.args in place_high a.number a.place a.out.now c.if-number-gt-TOLD_MOST.false c.if-place-gt-TOLD_MOST.true
+returns-then-place-gt-TOLD_MOST c = place_high c.args.refusal c.args.out.now c.if-place-gt-TOLD_MOST.true
 
-pub shape_of-out : goal.shape_of-out
-shape_of-out c = c.put_refusal.auto.out
+pub overflow_cast-number : goal.overflow_cast-number
+overflow_cast-number c = omega (arith, c.number-number.ensures, number_few c.args.refusal.reason)
 
 pub returns : goal.returns
 returns c = let a = c.args in
-    refusal_told a.number a.place a.out.now c.if-out-lt-LINE_MOST.false c.if-number-gt-TOLD_MOST.false c.if-place-gt-TOLD_MOST.false c.put_refusal.new.out c.put_refusal.result c.put_refusal.ensures
+    let p = c.put_refusal in
+    refusal_told a.refusal a.out.now c.if-out-lt-LINE_MOST.false c.if-place-gt-TOLD_MOST.false p.new.out p.result
+    (subst (λ n. Wrote a.out.now 0 (refusal_sheet n a.refusal.place) p.new.out p.result) c.number-number.ensures p.ensures)

@@ -10,11 +10,11 @@ use Rattle.std.proofs.lemmas.Slice.Eq.{slice_eq-Decides}
 use Rattle.program_replay.proofs.agrees.Goals as goal
 
 pub slice_bounds-out-end : goal.slice_bounds-out-end
-slice_bounds-out-end c = (told_counts c.respond.ensures c.in-Written.is).0
+slice_bounds-out-end c = (told_counts c.respond.ensures c.in-Some.is).0
 
-pub returns-in-Short : goal.returns-in-Short
-returns-in-Short c e = never cc
+pub returns-in-None : goal.returns-in-None
+returns-in-None c e = never cc
 
-pub returns-in-Written : goal.returns-in-Written
-returns-in-Written c e = sym ((slice_eq-Decides Decides-eqb _ _ _ c.eq.ensures).0 e) ∙ told_front c.respond.ensures c.in-Written.is
+pub returns-in-Some : goal.returns-in-Some
+returns-in-Some c e = sym ((slice_eq-Decides Decides-eqb _ _ _ c.eq.ensures).0 e) ∙ told_front c.respond.ensures c.in-Some.is
     ∙ ap sheet_of (program_fits c.args.sheet.now 87168 (omega arith))

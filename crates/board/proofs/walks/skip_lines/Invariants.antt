@@ -1,11 +1,8 @@
 -- `skip_lines` meets its contract: `k` lines are behind, those that have rows among them. Assumes nothing.
-use Prim.Native.Nat.{◌≤◌, ◌-◌, max}
+use Prim.Native.Nat.{◌≤◌, max}
 use lib.ListN.{length}
 use Rattle.board.specs.Walk.{Ready}
 use Rattle.board.proofs.walks.skip_lines.Given as goal
 
 abbrev pub invariant-loop-k : goal.invariant-loop-k
-invariant-loop-k l = (length l.rows ≤ l.k) × (l.k ≤ max l.n (length l.rows)) × Ready l.text l.rows l.k l.place
-
-abbrev pub decreases-loop-k : goal.decreases-loop-k
-decreases-loop-k l = l.n - l.k
+invariant-loop-k l = (l.k ≤ max l.n (length l.rows)) × Ready l.text l.rows l.k l.place

@@ -1,7 +1,5 @@
 -- `walk_chips` meets its contract: the chips behind are entered, and no id of them stood there before. Assumes nothing.
-use Prim.Native.Nat.{◌-◌}
 use mathlib.Core.Path.{◌≡◌}
-use lib.ListN.{length}
 use Rattle.board.specs.Board.{chip_id}
 use Rattle.board.specs.Refusals.{chip_twice, parent_missing}
 use Rattle.board.specs.Walk.{sheet_board}
@@ -11,7 +9,4 @@ use Rattle.board.proofs.walks.walk_chips.Given as goal
 -- The first c chips are behind.
 abbrev pub invariant-loop-c : goal.invariant-loop-c
 invariant-loop-c l = let b = sheet_board l.text in
-    Walking l.text l.rows l.first l.n l.c (chip_id b) (chip_twice b) (parent_missing b) l.initial.missing l.missing l.place l.index × (length l.index ≡ length l.initial.index)
-
-abbrev pub decreases-loop-c : goal.decreases-loop-c
-decreases-loop-c l = l.n - l.c
+    Walking l.text l.rows l.first l.n l.c (chip_id b) (chip_twice b) (parent_missing b) l.initial.w.missing l.w.missing l.w.place l.index × (l.w.unplaced ≡ l.initial.w.unplaced)

@@ -1,7 +1,5 @@
 -- `walk_inner` meets its contract: the nodes behind are entered, and no id of them stood there before. Assumes nothing.
-use Prim.Native.Nat.{◌-◌}
 use mathlib.Core.Path.{◌≡◌}
-use lib.ListN.{length}
 use Rattle.board.specs.Board.{inner_id}
 use Rattle.board.specs.Refusals.{inner_twice, chip_missing}
 use Rattle.board.specs.Walk.{sheet_board}
@@ -11,7 +9,4 @@ use Rattle.board.proofs.walks.walk_inner.Given as goal
 -- The first f nodes are behind.
 abbrev pub invariant-loop-f : goal.invariant-loop-f
 invariant-loop-f l = let b = sheet_board l.text in
-    Walking l.text l.rows l.first l.n l.f (inner_id b) (inner_twice b) (chip_missing b) l.initial.missing l.missing l.place l.index × (length l.index ≡ length l.initial.index)
-
-abbrev pub decreases-loop-f : goal.decreases-loop-f
-decreases-loop-f l = l.n - l.f
+    Walking l.text l.rows l.first l.n l.f (inner_id b) (inner_twice b) (chip_missing b) l.initial.w.missing l.w.missing l.w.place l.index × (l.w.unplaced ≡ l.initial.w.unplaced)

@@ -1,7 +1,7 @@
 -- `walk_nodes` meets its contract: the nodes behind are entered, and no id of them stood there before. Assumes nothing.
-use Prim.Native.Nat.{ℕ, ◌<◌, ◌-◌}
+use Prim.Native.Nat.{ℕ, ◌<◌}
 use mathlib.Core.Path.{◌≡◌}
-use lib.ListN.{length, get_or}
+use lib.ListN.{get_or}
 use Rattle.board.specs.Board.{id_of, kind_of}
 use Rattle.board.specs.Refusals.{first_line, node_twice, page_missing, row_unplaced}
 use Rattle.board.specs.Walk.{line_or, earlier, line_from, sheet_board}
@@ -11,11 +11,6 @@ use Rattle.board.proofs.walks.walk_nodes.Given as goal
 -- The first i nodes are behind.
 abbrev pub invariant-loop-i : goal.invariant-loop-i
 invariant-loop-i l = let b = sheet_board l.text in
-    Walking l.text l.rows l.first l.n l.i (id_of b) (node_twice b) (page_missing b) l.initial.missing l.missing l.place l.index
-    × (l.unplaced ≡ earlier l.initial.unplaced (line_or (first_line b (line_from l.first) (row_unplaced b) l.i)))
+    Walking l.text l.rows l.first l.n l.i (id_of b) (node_twice b) (page_missing b) l.initial.w.missing l.w.missing l.w.place l.index
+    × (l.w.unplaced ≡ earlier l.initial.w.unplaced (line_or (first_line b (line_from l.first) (row_unplaced b) l.i)))
     × ((j : ℕ) → j < l.i → get_or l.kinds j 0 ≡ kind_of b j)
-    × (length l.kinds ≡ length l.initial.kinds)
-    × (length l.index ≡ length l.initial.index)
-
-abbrev pub decreases-loop-i : goal.decreases-loop-i
-decreases-loop-i l = l.n - l.i

@@ -1,4 +1,4 @@
--- No anchor is asked for at first.
+-- `find_ends` meets its contract: no anchor is asked for at first. Assumes nothing.
 use native.Mathlib.Omega.{arith}
 use mathlib.Core.Path.{◌≡◌, ap}
 use lib.ListN.{length}

@@ -1,3 +1,4 @@
+-- `sort_execs` meets its contract. Assumes nothing.
 use native.Mathlib.Omega.{arith}
 use Rattle.board_groups.proofs.ExecLaws.{execs_sorted}
 use Rattle.board_groups.proofs.execs.sort_execs.Goals as goal

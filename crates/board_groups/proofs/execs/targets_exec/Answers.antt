@@ -1,18 +1,15 @@
-use native.Mathlib.Omega.{arith}
-use mathlib.Core.Path.{ap, ◌∙◌, subst}
+-- `targets_exec` meets its contract: the key of the node and the port is found. Assumes nothing.
+use mathlib.Core.Path.{◌∙◌, subst}
 use Prim.Native.Nat.{ℕ}
-use lib.ListN.{length, get_or}
-use lib.Dec.{eqb}
-use Rattle.base.specs.Keys.{FirstNotBelow}
-use Rattle.board_groups.proofs.ExecLaws.{exec_beyond, exec_here}
+use native.Mathlib.Omega.{arith}
+use lib.ListN.{length, take}
+use Rattle.std.specs.List.Sorted.{IsBinarySearchResult}
+use Rattle.std.specs.Ordering.{nat_cmp}
+use Rattle.board_groups.proofs.ExecLaws.{exec_searched}
 use Rattle.board_groups.proofs.execs.targets_exec.Goals as goal
 
-pub returns-then-n-p : goal.returns-then-n-p
-returns-then-n-p c = exec_beyond c.args.execs.now c.args.keys.now c.requires c.args.node c.args.port c.first_not_below-p.result (omega arith)
-    (subst (λ (k : ℕ). FirstNotBelow c.args.keys.now (length c.args.execs.now) k c.first_not_below-p.result) c.exec_key-key.ensures c.first_not_below-p.ensures) c.if-n-p.true
-
 pub returns : goal.returns
-returns c = let p = c.first_not_below-p.result in
-    ap (eqb (get_or c.args.keys.now p 0)) c.exec_key-key.ensures
-    ∙ exec_here c.args.execs.now c.args.keys.now c.requires c.args.node c.args.port p (omega arith)
-    (subst (λ (k : ℕ). FirstNotBelow c.args.keys.now (length c.args.execs.now) k p) c.exec_key-key.ensures c.first_not_below-p.ensures) c.if-n-p.false
+returns c = let a = c.args in
+    c.is_ok.ensures.value
+    ∙ exec_searched a.execs.now a.keys.now c.requires a.node a.port (omega arith) c.binary_search.result
+    (subst (λ (k : ℕ). IsBinarySearchResult (λ y. nat_cmp y k) (take (length a.execs.now) a.keys.now) c.binary_search.result) c.exec_key.ensures c.binary_search.ensures.position)

@@ -1,11 +1,8 @@
 -- `first_wire` meets its contract: no tap passed has the key. Assumes nothing.
-use Prim.Native.Nat.{ℕ, ◌-◌, ◌≤◌, ◌<◌}
+use Prim.Native.Nat.{ℕ, ◌<◌}
 use mathlib.Core.Path.{◌≡◌}
 use Rattle.board_groups.specs.Shares.{key_of}
 use Rattle.board_groups.proofs.shares.first_wire.Given as goal
 
 abbrev pub invariant-loop-j : goal.invariant-loop-j
-invariant-loop-j l = (l.j ≤ l.k) × ((i : ℕ) → i < l.j → key_of l.wires l.taps i ≡ key_of l.wires l.taps l.k → ⊥)
-
-abbrev pub decreases-loop-j : goal.decreases-loop-j
-decreases-loop-j l = l.k - l.j
+invariant-loop-j l = (i : ℕ) → i < l.j → key_of l.wires l.taps i ≡ key_of l.wires l.taps l.k → ⊥

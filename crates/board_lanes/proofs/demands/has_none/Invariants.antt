@@ -1,12 +1,9 @@
 -- The marks looked at: none is that of the page, as long as nothing is hit.
-use Prim.Native.Nat.{◌+◌, ◌-◌, ◌≤◌}
+use Prim.Native.Nat.{◌+◌}
 use mathlib.Core.Path.{◌≡◌}
 use mathlib.Core.Bool.{false}
 use Rattle.board_lanes.specs.PagePlan.{NoneAsks}
 use Rattle.board_lanes.proofs.demands.has_none.Given as goal
 
 abbrev pub invariant-loop-i : goal.invariant-loop-i
-invariant-loop-i l = (l.i ≤ 8) × (l.hit ≡ false → NoneAsks l.marks l.p l.j (l.j + l.i))
-
-abbrev pub decreases-loop-i : goal.decreases-loop-i
-decreases-loop-i l = 8 - l.i
+invariant-loop-i l = l.hit ≡ false → NoneAsks l.marks l.p l.j (l.j + l.i)

@@ -1,4 +1,4 @@
-use Prim.Native.Nat.{ℕ, ◌-◌, ◌≤◌, ◌<◌}
+use Prim.Native.Nat.{ℕ, ◌<◌}
 use mathlib.Core.Path.{◌≡◌}
 use mathlib.Core.List.{[]}
 use lib.ListN.{length, get_or}
@@ -10,7 +10,4 @@ use Rattle.board_groups.specs.Collecting.{head_page, GroupSums}
 use Rattle.board_lanes.proofs.needs.mark_heads.Given as goal
 
 abbrev pub invariant-loop-k : goal.invariant-loop-k
-invariant-loop-k l = (l.k ≤ l.m) × (length l.marks ≡ length l.initial.marks) × ((b : Board) → b.nodes ≡ l.nodes → b.wires ≡ l.wires → WireFacts b l.facts → view tap_in l.taps l.m ≡ taps_of b → GroupSums b (taps_of b) l.groups → (j : ℕ) → j < l.k → get_or l.marks j 0 ≡ head_page b (taps_of b) (tap_in (get_or l.taps j [])))
-
-abbrev pub decreases-loop-k : goal.decreases-loop-k
-decreases-loop-k l = l.m - l.k
+invariant-loop-k l = (b : Board) → b.nodes ≡ l.nodes → b.wires ≡ l.wires → WireFacts b l.facts → view tap_in l.taps (length l.taps) ≡ taps_of b → GroupSums b (taps_of b) l.groups → (j : ℕ) → j < l.k → get_or l.marks j 0 ≡ head_page b (taps_of b) (tap_in (get_or l.taps j []))

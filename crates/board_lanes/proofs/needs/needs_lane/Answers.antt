@@ -1,4 +1,3 @@
-use native.Mathlib.Omega.{arith}
 use mathlib.Core.Path.{◌∙◌}
 use Rattle.board_lanes.proofs.PageLaws.{needs_two, needs_cross, needs_worthy, worthy_row}
 use Rattle.board_lanes.proofs.needs.needs_lane.Goals as goal
@@ -8,9 +7,6 @@ returns-then-row c = λ b g n e h ts f l x. needs_two b ts g _ _ _ f l x c.if-ro
 
 pub returns-then-row-ne0 : goal.returns-then-row-ne0
 returns-then-row-ne0 c = λ b g n e h ts f l x. needs_cross b ts g _ _ _ f l x c.if-row-ne0.true
-
-pub returns-then-nodes-s : goal.returns-then-nodes-s
-returns-then-nodes-s c = λ b g n e h ts f l x. absurd (omega arith)
 
 pub returns : goal.returns
 returns c = λ b g n e h ts f l x. needs_worthy b ts g _ _ _ f l x c.is_bus_worthy_source.result c.if-row.false c.if-row-ne0.false (c.is_bus_worthy_source.ensures ∙ worthy_row b c.args.nodes.now n c.args.source _ e)

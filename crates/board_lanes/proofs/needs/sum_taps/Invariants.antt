@@ -1,4 +1,4 @@
-use Prim.Native.Nat.{ℕ, ◌-◌, ◌≤◌, ◌<◌}
+use Prim.Native.Nat.{ℕ, ◌≤◌, ◌<◌}
 use mathlib.Core.Path.{◌≡◌}
 use mathlib.Core.List.{[]}
 use lib.ListN.{length, get_or}
@@ -9,8 +9,5 @@ use Rattle.base.specs.Views.{view}
 use Rattle.board.specs.Tables.{tap_in, group_row, WireFacts}
 use Rattle.board_lanes.proofs.needs.sum_taps.Given as goal
 
-abbrev pub invariant-loop-k : goal.invariant-loop-k
-invariant-loop-k l = (l.k ≤ l.m) × (length l.groups ≡ length l.initial.groups) × ((g : ℕ) → g < length l.wires → field l.groups g 2 ≤ l.k) × ((b : Board) → b.nodes ≡ l.nodes → b.wires ≡ l.wires → WireFacts b l.facts → view tap_in l.taps l.m ≡ taps_of b → (g : ℕ) → g < length l.wires → get_or l.groups g [] ≡ group_row b (view tap_in l.taps l.k) g MISSING)
-
-abbrev pub decreases-loop-k : goal.decreases-loop-k
-decreases-loop-k l = l.m - l.k
+abbrev pub invariant-loop-tap : goal.invariant-loop-tap
+invariant-loop-tap l = ((g : ℕ) → g < length l.wires → field l.groups g 2 ≤ l.tap-index) × ((b : Board) → b.nodes ≡ l.nodes → b.wires ≡ l.wires → WireFacts b l.facts → view tap_in l.taps (length l.taps) ≡ taps_of b → (g : ℕ) → g < length l.wires → get_or l.groups g [] ≡ group_row b (view tap_in l.taps l.tap-index) g MISSING)

@@ -7,4 +7,4 @@ use Rattle.panzhyqur.proofs.lane_call.pz_allocate_lanes.Goals as goal
 
 pub returns : goal.returns
 returns c = subst (λ (r : LaneReport). Answered c.args.demands.now c.args.lanes.now c.allocate_lanes.new.lanes (length c.args.work.now) (length c.args.spare.now) r)
-    (sym c.report.ensures) c.allocate_lanes.ensures
+    (sym c.from.ensures) c.allocate_lanes.ensures

@@ -2,7 +2,6 @@
 use Rattle.routes_beside.proofs.Answered.{keys_few, answered}
 use lib.ListN.{length}
 use native.Mathlib.Omega.{arith}
-use mathlib.Core.Path.{◌≡◌, ◌∙◌}
 use Rattle.routes_beside.proofs.beside.answer_rows.Goals as goal
 
 pub order_by_key-m-requires : goal.order_by_key-m-requires
@@ -11,15 +10,10 @@ order_by_key-m-requires c = let a = c.args in
       omega arith,
       omega arith,
       omega arith,
-      keys_few a.nodes.now a.facts.now a.laid.now a.asked.now c.fill_items.new.items a.n p.bricks p.taps c.fill_items.ensures,
+      keys_few a.nodes.now a.facts.now a.laid.now a.asked.now c.fill_items.new.items (length a.laid.now) p.bricks p.taps c.fill_items.ensures,
     )
-
-pub book_rows-requires : goal.book_rows-requires
-book_rows-requires c = let l : length c.order_by_key-m.new.rows ≡ length c.args.items.now = c.order_by_key-m.ensures.same_but_order.long ∙ c.fill_items.auto.items in
-    let within = c.order_by_key-m.ensures.upper_bound.1.within in
-    (omega arith, omega arith, (λ q h. let w = within q h in omega arith), λ q h. let w = within q h in omega arith)
 
 pub returns : goal.returns
 returns c = let a = c.args in
-    answered a.facts.now a.laid.now a.asked.now c.fill_items.new.items c.order_by_key-m.new.rows a.n c.order_by_key-m.result a.flags.now c.book_rows.new.flags
+    answered a.facts.now a.laid.now a.asked.now c.fill_items.new.items c.order_by_key-m.new.rows (length a.laid.now) c.order_by_key-m.result a.flags.now c.book_rows.new.flags
     c.order_by_key-m.ensures.same_but_order a.nodes.now c.requires.taps c.fill_items.ensures c.order_by_key-m.ensures.upper_bound.1 c.requires.on_flags c.requires.no_flag c.book_rows.ensures

@@ -1,11 +1,7 @@
 -- `brick_item` meets its contract. Assumes nothing.
-use Rattle.routes_beside.proofs.Filled.{item_absent, missing, brick_key, brick_ends, brick_is}
-use Rattle.board.specs.Board.{field}
+use Rattle.routes_beside.proofs.Filled.{brick_key, brick_ends, brick_is}
 use mathlib.Core.Bool.{true, false}
 use Rattle.routes_beside.proofs.items.brick_item.Goals as goal
-
-pub returns-then-page : goal.returns-then-page
-returns-then-page c = item_absent _ _ _ _ _ (missing (field c.args.nodes.now c.args.i 10) c.if-page.true) c.no_item.ensures
 
 pub item-requires : goal.item-requires
 item-requires c = let a = c.args in

@@ -1,9 +1,6 @@
 -- `fill_tap` meets its contract. Assumes nothing.
 use Rattle.routes_taps.specs.Asking.{source_in, gate_side_in}
-use Rattle.routes_beside.proofs.Filled.{asked_room, both_stored}
-use lib.ListN.{length}
-use mathlib.Core.Path.{refl}
-use Prim.Native.Nat.{◌+◌, ◌*◌}
+use Rattle.routes_beside.proofs.Filled.{asked_room}
 use Rattle.routes_beside.proofs.items.fill_tap.Goals as goal
 
 pub asked_item-requires : goal.asked_item-requires
@@ -15,9 +12,3 @@ pub asked_item-requires-2 : goal.asked_item-requires-2
 asked_item-requires-2 c = let a = c.args in
     let p = c.requires.bases in
     (λ e. asked_room a.nodes.now a.bases.now p.0 p.1 (gate_side_in a.laid.now a.asked.now a.k) (c.requires.tap_askable.gate_side e), p.1)
-
-pub returns : goal.returns
-returns c = let a = c.args in
-    let p = c.requires.bases in
-    both_stored a.nodes.now a.laid.now a.asked.now a.bases.now a.k p.0 p.1 c.requires.tap_askable a.items.now (length a.nodes.now + 2 * a.k) refl p.5 c.asked_item.result c.asked_item-2.result
-    c.asked_item.ensures c.asked_item-2.ensures

@@ -1,13 +1,12 @@
 -- Refused, crowded or laned; what is handed in is tried of the last two.
-use Prim.Native.Nat.{ℕ, suc}
 use native.Mathlib.Omega.{arith}
 use mathlib.Core.Path.{◌≡◌, refl, sym, ◌∙◌}
-use mathlib.Core.List.{List}
 use lib.ListN.{length}
+use Rattle.base.proofs.Passing.{passed}
 use Rattle.sheet.specs.declared.Counts.{Counts}
 use Rattle.board.specs.Planning.{planning}
 use Rattle.board.specs.Refusals.{Judged}
-use Rattle.board.specs.Demands.{PageLanes, Planned, crowded, planned}
+use Rattle.board.specs.Demands.{Planned}
 use Rattle.board_plan.specs.TextPlan.{fits_lent, fitting, work_rows}
 use Rattle.board_plan.proofs.Calling.{asked_room}
 use Rattle.board_plan.proofs.Surveying.{BoardTold, survey_refusal, survey_crowd, survey_lanes}
@@ -20,15 +19,9 @@ use Rattle.routes_calls.proofs.mini.lay_mini_bus.Reads as reads
 use Rattle.routes_calls.proofs.mini.lay_mini_bus.Tie as tie
 use Rattle.routes_calls.proofs.mini.lay_mini_bus.Goals as goal
 
--- Where the text is planned, and on the ways of a crowded and of a laned board.
+-- Where the text is planned.
 abbrev Surveyed : Type 0
 Surveyed = lts.After-marks tie.the-claims reads.Pre reads.Post tie.handed_clauses
-
-abbrev OnCrowded : Type 0
-OnCrowded = lts.Past-After-known_told2 tie.the-claims reads.Pre reads.Post tie.handed_clauses
-
-abbrev OnLaned : Type 0
-OnLaned = lts.Past-After-known_told3 tie.the-claims reads.Pre reads.Post tie.handed_clauses
 
 module _ (c : Surveyed) where
   abbrev judged_for : Judged
@@ -55,12 +48,6 @@ module _ (c : Surveyed) where
       let a = c.args in
       mini_called a.text.now c.ask-asked.result (length a.rerouters.now) (length a.bus_wires.now) (length a.ports.now) _ c.ask-asked.ensures a.rerouters.now a.bus_wires.now a.ports.now a.held
 
-crowd : (c : OnCrowded) → (p : ℕ) × (c.in-Crowded.place ≡ suc p) × Told c.before c.in-Crowded.counts (crowded p)
-crowd c = let p = c.plan_text in survey_crowd p.new.records p.new.facts p.new.taps p.new.groups (judged_for c.before) p.result _ _ p.ensures c.in-Crowded.is
-
-lanes : (c : OnLaned) → (ps : List PageLanes) × Told c.before c.in-Laned.counts (planned ps)
-lanes c = let p = c.plan_text in survey_lanes p.new.records p.new.facts p.new.taps p.new.groups (judged_for c.before) p.result _ _ p.ensures c.in-Laned.is
-
 pub plan_text-requires : goal.plan_text-requires
 plan_text-requires c = let a = c.args in
     let q = c.ask-asked in
@@ -71,38 +58,49 @@ plan_text-requires c = let a = c.args in
 
 pub held_fits-fits-requires : goal.held_fits-fits-requires
 held_fits-fits-requires c =
-    let w = c.before in
-    let t = (crowd w).2 in (t.on_board, rows_known (ready w.before _ _ t))
+    let w : Surveyed = c.before.before.before.before.before in
+    let p = c.plan_text in
+    let k = survey_crowd p.new.records p.new.facts p.new.taps p.new.groups (judged_for w) p.result _ _ p.ensures c.in_ok-planned.was c.in-Err.is in
+    let t = k.2 in
+    (t.on_board, rows_known (ready w _ _ t))
 
 pub turn_held-requires : goal.turn_held-requires
 turn_held-requires c =
-    let w = c.before.before.before.before.before in
-    let t = (lanes w).1 in (t.on_board, ready w.before _ _ t)
+    let w : Surveyed = c.before.before.before.before.before.before.before.before.before in
+    let p = c.plan_text in
+    let k = survey_lanes p.new.records p.new.facts p.new.taps p.new.groups (judged_for w) p.result _ _ p.ensures c.in_ok-planned.was c.in-Ok.is in
+    let t = k.1 in
+    (t.on_board, ready w _ _ t)
 
-pub returns-in-Refused : goal.returns-in-Refused
-returns-in-Refused c =
-    let w = c.before.before in
+pub returns-in_err-planned : goal.returns-in_err-planned
+returns-in_err-planned c =
+    let w : Surveyed = c.before.before.before.before in
     let p = c.plan_text in
     let a = c.args in
     let k = c.ask-asked.result in
-    let is = survey_refusal p.new.records p.new.facts p.new.taps p.new.groups (judged_for w) p.result _ _ p.ensures c.in-Refused.is in
-    called_same (call_is w)
-    (called_away _ a.rerouters.now a.bus_wires.now a.ports.now a.rerouters.now a.bus_wires.now a.ports.now _ _ (mini_refused a.rerouters.now a.bus_wires.now a.ports.now a.held k.most (fits_lent k.lent) a.text.now _ _ is) refl refl refl)
+    let is = survey_refusal p.new.records p.new.facts p.new.taps p.new.groups (judged_for w) p.result _ p.ensures c.in_err-planned.was in
+    rw (passed c.from_residual.result _ c.from_residual.ensures.1)
+    (called_same (call_is w)
+    (called_away _ a.rerouters.now a.bus_wires.now a.ports.now a.rerouters.now a.bus_wires.now a.ports.now _ (mini_refused a.rerouters.now a.bus_wires.now a.ports.now a.held k.most (fits_lent k.lent) a.text.now _ is) refl refl refl))
 
-pub returns-in-Crowded : goal.returns-in-Crowded
-returns-in-Crowded c =
-    let w = c.before.before.before in
+pub returns-in-Err : goal.returns-in-Err
+returns-in-Err c =
+    let w : Surveyed = c.before.before.before.before.before.before.before in
     let a = c.args in
-    let k = c.ask-asked.result in
-    let t = (crowd w).2 in
+    let q = c.ask-asked.result in
+    let p = c.plan_text in
+    let k = survey_crowd p.new.records p.new.facts p.new.taps p.new.groups (judged_for w) p.result _ _ p.ensures c.in_ok-planned.was c.in-Err.is in
+    let t = k.2 in
     let f = c.held_fits-fits in
-    called_same (sym (mini_tried a.rerouters.now a.bus_wires.now a.ports.now a.held k.most (fits_lent k.lent) a.text.now t.on_board t.is) ∙ call_is w.before)
-    (mini_crowded a.rerouters.now a.bus_wires.now a.ports.now a.held t.on_board (crowd w).0 _ t.lanes (crowd w).1 f.result (f.ensures t.on_board (rows_known (ready w.before _ _ t))) c.refuse_crowded.result c.refuse_crowded.ensures)
+    called_same (sym (mini_tried a.rerouters.now a.bus_wires.now a.ports.now a.held q.most (fits_lent q.lent) a.text.now t.on_board t.is) ∙ call_is w)
+    (mini_crowded a.rerouters.now a.bus_wires.now a.ports.now a.held t.on_board k.0 _ t.lanes k.1 f.result (f.ensures t.on_board (rows_known (ready w _ _ t))) c.refuse_crowded.result c.refuse_crowded.ensures)
 
-pub returns-in-Laned : goal.returns-in-Laned
-returns-in-Laned c =
-    let w = c.before.before.before.before.before.before.before.before.before.before in
+pub returns-in-Ok : goal.returns-in-Ok
+returns-in-Ok c =
+    let w : Surveyed = c.before.before.before.before.before.before.before.before.before.before.before.before.before.before in
     let a = c.args in
-    let k = c.ask-asked.result in
-    let t = (lanes w).1 in
-    called_same (sym (mini_tried a.rerouters.now a.bus_wires.now a.ports.now a.held k.most (fits_lent k.lent) a.text.now t.on_board t.is) ∙ call_is w.before) (c.turn_held.ensures t.on_board (lanes w).0 (ready w.before _ _ t) t.lanes)
+    let q = c.ask-asked.result in
+    let p = c.plan_text in
+    let k = survey_lanes p.new.records p.new.facts p.new.taps p.new.groups (judged_for w) p.result _ _ p.ensures c.in_ok-planned.was c.in-Ok.is in
+    let t = k.1 in
+    called_same (sym (mini_tried a.rerouters.now a.bus_wires.now a.ports.now a.held q.most (fits_lent q.lent) a.text.now t.on_board t.is) ∙ call_is w) (c.turn_held.ensures t.on_board k.0 (ready w _ _ t) t.lanes)

@@ -1,14 +1,14 @@
 -- The plan within what is asked, by the lengths that are lent.
 use native.Mathlib.Omega.{arith}
-use mathlib.Core.Path.{sym, ap, subst}
+use mathlib.Core.Path.{sym, ap, ◌∙◌, subst}
+use Rattle.base.proofs.Passing.{passed}
 use lib.ListN.{length}
 use Rattle.board_plan.specs.TextPlan.{work_rows}
 use Rattle.board_plan.specs.declared.Asked.{Asked}
 use Rattle.board_plan.proofs.Calling.{asked_room}
 use Rattle.routes_gutter.proofs.Planned.{bus_lent}
-use Rattle.routes_gutter.specs.declared.bus.BusPlan.{BusPlan}
 use Rattle.routes_calls.specs.Route.{plan_fits, route_call, PlanCalled}
-use Rattle.routes_calls.proofs.Routing.{route_called}
+use Rattle.routes_calls.proofs.Routing.{laid_of, route_called}
 use Rattle.routes_calls.proofs.route.route.Goals as goal
 
 pub route_within-requires : goal.route_within-requires
@@ -20,13 +20,22 @@ route_within-requires c = let a = c.args in
       within_library = (room.1, bus_lent q.result _ a.marks.now a.rerouters.now a.bus_wires.now a.ports.now q.ensures room.0.fivefold, omega arith);
     }
 
+pub returns-in_err-plan : goal.returns-in_err-plan
+returns-in_err-plan c = let a = c.args in
+    let r = c.route_within in
+    let q = c.ask-asked in
+    subst
+    (PlanCalled (route_call a.text.now (plan_fits (length a.rerouters.now) (length a.bus_wires.now) (length a.ports.now) (length a.answers.now) (work_rows a.records.now a.facts.now a.taps.now a.groups.now a.demands.now a.keys.now a.marks.now)))
+    a.rerouters.now a.bus_wires.now a.ports.now a.answers.now r.new.rerouters r.new.bus_wires r.new.ports r.new.answers)
+    (ap laid_of c.in_err-plan.was ∙ sym (passed c.from_residual.result _ c.from_residual.ensures.1))
+    (route_called a.rerouters.now a.bus_wires.now a.ports.now a.answers.now r.new.rerouters r.new.bus_wires r.new.ports r.new.answers a.text.now q.result (length a.rerouters.now) (length a.bus_wires.now) (length a.ports.now) (length a.answers.now) _ q.ensures r.result r.ensures)
+
 pub returns : goal.returns
 returns c = let a = c.args in
     let r = c.route_within in
     let q = c.ask-asked in
     subst
-    (λ (answer : BusPlan).
-    PlanCalled (route_call a.text.now (plan_fits (length a.rerouters.now) (length a.bus_wires.now) (length a.ports.now) (length a.answers.now) (work_rows a.records.now a.facts.now a.taps.now a.groups.now a.demands.now a.keys.now a.marks.now)))
-    a.rerouters.now a.bus_wires.now a.ports.now a.answers.now r.new.rerouters r.new.bus_wires r.new.ports r.new.answers answer)
-    (sym c.without_counts.ensures)
+    (PlanCalled (route_call a.text.now (plan_fits (length a.rerouters.now) (length a.bus_wires.now) (length a.ports.now) (length a.answers.now) (work_rows a.records.now a.facts.now a.taps.now a.groups.now a.demands.now a.keys.now a.marks.now)))
+    a.rerouters.now a.bus_wires.now a.ports.now a.answers.now r.new.rerouters r.new.bus_wires r.new.ports r.new.answers)
+    (ap laid_of c.in_ok-plan.was)
     (route_called a.rerouters.now a.bus_wires.now a.ports.now a.answers.now r.new.rerouters r.new.bus_wires r.new.ports r.new.answers a.text.now q.result (length a.rerouters.now) (length a.bus_wires.now) (length a.ports.now) (length a.answers.now) _ q.ensures r.result r.ensures)

@@ -1,22 +1,15 @@
 -- `is_free` meets its contract. Assumes nothing.
-use mathlib.Core.Path.{ap}
+use mathlib.Core.Path.{ap, ◌∙◌}
 use mathlib.Core.Bool.{not}
 use native.Mathlib.Omega.{arith}
+use lib.ListN.{get_or}
 use Rattle.base.specs.Lists.{any}
-use Rattle.base.specs.Growing.{run_in}
 use Rattle.routes.specs.Stops.{near}
-use Rattle.routes_columns.proofs.Claiming.{not_false, not_wanted, wanted_so}
+use Rattle.routes_columns.proofs.Claiming.{slice_run}
 use Rattle.routes_columns.proofs.claims.is_free.Goals as goal
 
-pub returns-then-not-wanted : goal.returns-then-not-wanted
-returns-then-not-wanted c = let a = c.args in not_wanted a.wanted (not (any (near a.x) (run_in a.starts.now a.nexts.now a.xs.now a.k))) (ap not c.if-not-wanted.true)
-
-pub near_in-taken-requires : goal.near_in-taken-requires
-near_in-taken-requires c = let room = c.requires.claim_room.room in
-    let inside = c.requires.claim_room.inside in
-    let far = c.requires.fact (not_false c.args.wanted (ap not c.if-not-wanted.false)) in
-    (c.requires.claim_room.begun, omega (arith, room, inside), omega (arith, far, c.ranges.x.fits))
-
-pub returns : goal.returns
-returns c = let a = c.args in
-    wanted_so a.wanted _ (not (any (near a.x) (run_in a.starts.now a.nexts.now a.xs.now a.k))) (ap not c.if-not-wanted.false) (ap not c.near_in-taken.ensures)
+pub returns-then-wanted : goal.returns-then-wanted
+returns-then-wanted c = let a = c.args in
+    let r = c.requires.claim_room in
+    rw c.if-wanted.true
+    (ap not (c.near_in.ensures ∙ ap (any (near a.x)) (slice_run a.xs.now (get_or a.starts.now a.k 0) (get_or a.nexts.now a.k 0) r.begun (omega (arith, r.room, r.inside)))))

@@ -1,30 +1,19 @@
 -- `ask_next` meets its contract. Assumes nothing.
 use Prim.Native.Nat.{ℕ}
-use mathlib.Core.Path.{sym, subst, subst₂, ◌∙◌}
+use mathlib.Core.Path.{sym, subst₂}
 use mathlib.Core.List.{[]}
-use native.Mathlib.Omega.{arith}
-use lib.ListN.{get_or, length-set}
+use lib.ListN.{get_or}
 use Rattle.base.specs.Views.{view}
 use Rattle.board.specs.Tables.{tap_in}
 use Rattle.routes.specs.Holding.{stop_level_of}
-use Rattle.routes_taps.proofs.Lanes.{lane_ranges}
 use Rattle.routes_taps.proofs.Reaching.{lane_next, went_on}
-use Rattle.routes_taps.specs.Taps.{LaneInRange, LaneRanges}
-use Rattle.routes_taps.specs.declared.taps.Tap.{Tap}
 use Rattle.routes_columns.specs.Columns.{lane_key, ClaimRoom, TwoMore}
 use Rattle.routes_columns.proofs.Asking.{lane_keyed, next_asked}
 use Rattle.routes_columns.proofs.columns.ask_next.Goals as goal
 
-pub lane_of-l-requires : goal.lane_of-l-requires
-lane_of-l-requires c = let a = c.args in
-    subst (λ (t : Tap). LaneInRange a.pages.now a.nodes.now a.wires.now a.facts.now a.groups.now t.page t.group) (sym c.tap_at-t.ensures) c.requires.lane_in_range
-
-pub reach-reached-requires : goal.reach-reached-requires
-reach-reached-requires c = λ y. (c.requires.next_in_range.next_stop (sym c.news_at-news.ensures.row ∙ y)).0
-
 pub ask_tap-q-requires : goal.ask_tap-q-requires
 ask_tap-q-requires c = let a = c.args in
-    let tap = c.tap_at-t in
+    let tap = c.from-t in
     let lane = c.lane_of-l in
     let news = c.news_at-news in
     let next = c.reach-reached in
@@ -35,31 +24,9 @@ ask_tap-q-requires c = let a = c.args in
       level_range = (went_on a.laid.now a.k a.stops.now a.old next.result news.result news.ensures c.requires.next_in_range next.ensures).at_stop.range;
     }
 
-pub question_row-requires : goal.question_row-requires
-question_row-requires c = let a = c.args in
-    let tap = c.tap_at-t in
-    let lane = c.lane_of-l in
-    let range : LaneInRange a.pages.now a.nodes.now a.wires.now a.facts.now a.groups.now tap.result.page tap.result.group = subst (λ (t : Tap). LaneInRange a.pages.now a.nodes.now a.wires.now a.facts.now a.groups.now t.page t.group) (sym tap.ensures) c.requires.lane_in_range in
-    subst LaneRanges (sym lane.ensures) (lane_ranges a.pages.now a.nodes.now a.wires.now a.facts.now a.groups.now tap.result.page tap.result.group range)
-
-pub offset_bounds-asked-k : goal.offset_bounds-asked-k
-offset_bounds-asked-k c = omega (arith, c.requires.k_in_bounds, c.well_formed.1.1.1.1.1.1.1.1.1.1.1.0)
-
-pub bounds-asked-k : goal.bounds-asked-k
-bounds-asked-k c = c.requires.k_in_bounds
-
-pub shape_of-nexts : goal.shape_of-nexts
-shape_of-nexts c = c.ask_tap-q.auto.nexts
-
-pub shape_of-xs : goal.shape_of-xs
-shape_of-xs c = c.ask_tap-q.auto.xs
-
-pub shape_of-asked : goal.shape_of-asked
-shape_of-asked c = let a = c.args in length-set a.asked.now a.k c.question_row.result
-
 pub returns : goal.returns
 returns c = let a = c.args in
-    let tap = c.tap_at-t in
+    let tap = c.from-t in
     let lane = c.lane_of-l in
     let news = c.news_at-news in
     let next = c.reach-reached in

@@ -7,28 +7,33 @@ use Rattle.routes_columns.proofs.Claiming.{stops_held}
 use Rattle.routes_columns.proofs.columns.ask_taps.Goals as goal
 
 pub make_room-requires : goal.make_room-requires
-make_room-requires c = let p = c.requires.s_le_n in
+make_room-requires c = let p = c.requires.few_stops in
     let none = no_counts 32770 (lit≤ tt) in record {
-      s_in_bounds = (c.requires.laid_in_range.on_stops, p.0, p.1, p.3, none.0, taps_keyed c.requires.laid_in_range p.3 p.4);
+      few_stops = (p.0, p.1, p.3, none.0, taps_keyed c.requires.laid_in_range p.3 p.4);
       by_index = none.1;
     }
 
 pub put_stops-requires : goal.put_stops-requires
 put_stops-requires c = let a = c.args in
-    let p = c.requires.s_le_n in
+    let p = c.requires.few_stops in
+    let laid = a.laid.now in
+    let stops = a.stops.now in
     let made = c.make_room in
     let long = still_long 32770 made.new.starts (lit≤ tt) made.auto.starts in record {
-      s_in_bounds = (c.requires.laid_in_range.on_stops, p.3, numbers_few (length a.pages.now) a.groups.now a.laid.now a.n a.stops.now a.s made.new.starts p.3 p.0 p.1 long made.ensures 24576 (lit≤ tt) (omega arith), starts_grow (length a.pages.now) a.groups.now a.laid.now a.n a.stops.now a.s made.new.starts p.3 p.0 p.1 long made.ensures 24576 (lit≤ tt) (omega arith));
-      by_index = stops_room (length a.pages.now) a.groups.now a.laid.now a.n a.stops.now a.s made.new.starts p.3 p.0 p.1 long made.ensures 24576 (lit≤ tt) (omega arith);
+      room = (p.3, numbers_few (length a.pages.now) a.groups.now laid (length laid) stops (length stops) made.new.starts p.3 p.0 p.1 long made.ensures 24576 (lit≤ tt) (omega arith), starts_grow (length a.pages.now) a.groups.now laid (length laid) stops (length stops) made.new.starts p.3 p.0 p.1 long made.ensures 24576 (lit≤ tt) (omega arith));
+      by_index = stops_room (length a.pages.now) a.groups.now laid (length laid) stops (length stops) made.new.starts p.3 p.0 p.1 long made.ensures 24576 (lit≤ tt) (omega arith);
     }
 
 pub ask_all-requires : goal.ask_all-requires
 ask_all-requires c = let a = c.args in
-    let p = c.requires.s_le_n in
+    let p = c.requires.few_stops in
+    let r = c.requires.laid_in_range in
+    let laid = a.laid.now in
+    let stops = a.stops.now in
     let made = c.make_room in
     let put = c.put_stops in
     let long = still_long 32770 made.new.starts (lit≤ tt) made.auto.starts in record {
-      laid_in_range = c.requires.laid_in_range;
-      ask_room = ask_room (length a.pages.now) a.groups.now a.laid.now a.n a.stops.now a.s made.new.starts p.3 p.0 p.1 long made.ensures 24576 (lit≤ tt) (omega arith) put.new.nexts put.new.xs a.asked.now put.ensures put.auto.xs p.2 (taps_keyed c.requires.laid_in_range p.3 p.4);
-      claims_held = stops_held (length a.pages.now) a.stops.now a.s made.new.starts put.new.nexts put.new.xs put.ensures;
+      laid_in_range = r;
+      ask_room = ask_room (length a.pages.now) a.groups.now laid (length laid) stops (length stops) made.new.starts p.3 p.0 p.1 long made.ensures 24576 (lit≤ tt) (omega arith) put.new.nexts put.new.xs a.asked.now put.ensures put.auto.xs p.2 (taps_keyed r p.3 p.4);
+      claims_held = stops_held (length a.pages.now) stops (length stops) made.new.starts put.new.nexts put.new.xs put.ensures;
     }

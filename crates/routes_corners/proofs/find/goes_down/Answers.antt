@@ -1,4 +1,4 @@
--- The tests on two nodes of the table.
+-- `goes_down` meets its contract: the tests on two nodes of the table. Assumes nothing.
 use Rattle.std.proofs.Common.{[], get_or, ap}
 use Rattle.routes_corners.proofs.find.goes_down.Goals as goal
 

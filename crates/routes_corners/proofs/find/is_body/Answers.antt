@@ -1,4 +1,4 @@
--- An end's anchor is its own body node exactly where it has the end's id.
+-- `is_body` meets its contract: an end's anchor is its own body node exactly where it has the end's id. Assumes nothing.
 use Rattle.std.proofs.Common.{refl}
 use Rattle.base.proofs.Bools.{clash}
 use Rattle.routes_corners.proofs.CornerLaws.{body_beyond, body_tested}

@@ -1,4 +1,4 @@
--- Wire w joins the wires found where it turns.
+-- `note_turn` meets its contract: wire w joins the wires found where it turns. Assumes nothing.
 use Rattle.routes_corners.proofs.Finding.{turners_passed, turners_more}
 use Rattle.std.proofs.Common.{◌<◌, length, add-one, arith}
 use Rattle.routes_corners.proofs.find.note_turn.Goals as goal

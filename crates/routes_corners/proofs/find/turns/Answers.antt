@@ -1,4 +1,4 @@
--- The tests on a wire, in the rules' order.
+-- `turns` meets its contract: the tests on a wire, in the rules' order. Assumes nothing.
 use Rattle.std.proofs.Common.{sym, refl, ◌∙◌}
 use Rattle.base.proofs.Bools.{clash, pick_true, pick_false}
 use Rattle.board.specs.Tables.{nodes_alone}

@@ -1,4 +1,4 @@
--- The tests on the two nodes, read off their rows.
+-- `turns_down` meets its contract: the tests on the two nodes, read off their rows. Assumes nothing.
 use Rattle.routes_corners.proofs.CornerLaws.{turns_in_lem}
 use Rattle.routes_corners.proofs.find.turns_down.Goals as goal
 

@@ -1,4 +1,4 @@
--- A rerouter's item, by the test on it.
+-- `beside_item` meets its contract: a rerouter's item, by the test on it. Assumes nothing.
 use Rattle.std.proofs.Common.{sym, ◌∙◌}
 use Rattle.routes.specs.Buffers.{rerouter_in}
 use Rattle.routes_corners.proofs.Listing.{beside_room, beside_there, beside_absent}

@@ -1,4 +1,4 @@
--- The test on a rerouter.
+-- `is_beside` meets its contract: the test on a rerouter. Assumes nothing.
 use Rattle.std.proofs.Common.{get_or, arith}
 use Rattle.routes_corners.proofs.Listing.{off_pages, on_pages_lem}
 use Rattle.routes_corners.proofs.items.is_beside.Goals as goal

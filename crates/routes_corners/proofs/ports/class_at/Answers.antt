@@ -1,4 +1,4 @@
--- The first key begins a class, and so does one that is another than the one before.
+-- `class_at` meets its contract: the first key begins a class, and so does one that is another than the one before. Assumes nothing.
 use Rattle.std.proofs.Common.{◌∙◌}
 use Rattle.routes_corners.proofs.PortLaws.{class_first, class_same, class_new}
 use Rattle.routes_corners.proofs.ports.class_at.Goals as goal

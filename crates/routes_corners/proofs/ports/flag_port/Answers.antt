@@ -1,4 +1,4 @@
--- The class of the wire at the port's place gets its flag if the wire leads to the port; else no wire does.
+-- `flag_port` meets its contract: the class of the wire at the port's place gets its flag if the wire leads to the port; else no wire does. Assumes nothing.
 use Rattle.std.proofs.Common.{◌<◌, ◌≤◌, length, get_or, sym, ap, ◌∙◌, arith}
 use Rattle.routes_corners.specs.Ports.{the_port, goes_to}
 use Rattle.routes_corners.proofs.PortLaws.{port_nowhere, flag_none, flag_found}

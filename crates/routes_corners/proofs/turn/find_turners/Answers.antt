@@ -1,4 +1,4 @@
--- Classes, flags, then the wires that turn.
+-- `find_turners` meets its contract: classes, flags, then the wires that turn. Assumes nothing.
 use Rattle.routes_corners.proofs.TurnLaws.{fresh_list, fresh_flags, found_by}
 use Rattle.std.proofs.Common.{◌≡◌, ℕ, length, ◌∙◌, arith}
 use lib.ListN.{length-replicate}
@@ -8,7 +8,7 @@ pub class_ports-requires : goal.class_ports-requires
 class_ports-requires c = let p = c.requires in
     let few = p.wires_len_bound.0 in
     let W = length c.args.wires.now in record {
-      ports_low = (p.wires_len_bound.3, few);
+      ports_low = (p.wires_len_bound.2, few);
       wires_in_bounds = (p.wires_in_bounds.0, fresh_list W few, fresh_list W few);
     }
 
@@ -19,7 +19,7 @@ flag_ports-requires c = let p = c.requires in
     let W = length c.args.wires.now in record {
       ported = k.ensures;
       port_room = record { class_room = omega arith; flag_room = fresh_list W few };
-      u_in_bounds = (p.wires_len_bound.2, fresh_flags W few);
+      flags_clear = fresh_flags W few;
     }
 
 pub find_turns-requires : goal.find_turns-requires
@@ -32,4 +32,4 @@ find_turns-requires c = let p = c.requires in
 
 pub returns : goal.returns
 returns c = let a = c.args in
-    found_by a.nodes.now a.wires.now a.facts.now a.ports.now a.u _ _ _ c.find_turns.result c.flag_ports.ensures c.class_ports.ensures.classed c.find_turns.ensures
+    found_by a.nodes.now a.wires.now a.facts.now a.ports.now (length a.ports.now) _ _ _ c.find_turns.result c.flag_ports.ensures c.class_ports.ensures.classed c.find_turns.ensures

@@ -1,4 +1,4 @@
--- A corner's numbers, read off the tables.
+-- `corner_at` meets its contract: a corner's numbers, read off the tables. Assumes nothing.
 use Rattle.routes_corners.proofs.Writing.{corner_read}
 use Rattle.routes_corners.proofs.write.corner_at.Goals as goal
 

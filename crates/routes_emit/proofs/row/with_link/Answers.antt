@@ -1,5 +1,5 @@
 -- `with_link` meets its contract. Assumes nothing.
-use Rattle.routes_emit.proofs.Steps.{spends_none, becomes_as, becomes_none, link_stands, link_left_out}
+use Rattle.routes_emit.proofs.Steps.{becomes_as, link_stands}
 use Rattle.routes_taps.specs.Asking.{link_by}
 use Rattle.routes_emit.proofs.row.with_link.Goals as goal
 
@@ -11,11 +11,3 @@ returns-then-answers c = let n = c.lane_rerouter in
           becomes_as _ (λ s. link_by b ts ps a.answers.link s t a.level) _ _ _ _ _ _ c.hang_on.ensures.becomes
           (λ s. link_stands b ts ps t a.l kn s a.level a.answers.link n.result n.ensures c.if-answers.true);
     }
-
-pub returns : goal.returns
-returns c = let a = c.args in record {
-  spends = spends_none 1 1 a.rerouters.now a.bus_wires.now a.e;
-  becomes = λ b ts ps t kn.
-      becomes_as _ (λ s. link_by b ts ps a.answers.link s t a.level) _ _ _ _ _ _ (becomes_none a.rerouters.now a.bus_wires.now a.e)
-      (λ s. link_left_out b ts ps t a.l kn s a.level a.answers.link c.if-answers.false);
-}

@@ -1,3 +1,4 @@
+-- `boxes::is_on_board` meets its contract. Assumes nothing.
 use mathlib.Core.Path.{refl}
 use Rattle.routes_hits.specs.Hits.{on_board}
 use Rattle.routes_hits.proofs.boxes.is_on_board.Goals as goal

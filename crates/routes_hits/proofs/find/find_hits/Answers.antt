@@ -5,6 +5,7 @@ use mathlib.Core.Path.{◌≡◌, sym, ap, ◌∙◌}
 use mathlib.Core.List.{List, [], ◌∷◌}
 use lib.ListN.{length}
 use Rattle.board_plan.specs.declared.Asked.{Asked}
+use Rattle.base.proofs.Passing.{passed}
 use Rattle.board.specs.Planning.{planning}
 use Rattle.board_plan.specs.TextPlan.{asked_for, work_rows, fits_lent}
 use Rattle.board_plan.proofs.Surveying.{LanesTold}
@@ -15,7 +16,7 @@ use Rattle.routes.specs.Plan.{finished}
 use Rattle.routes_calls.specs.Finish.{PlanReady}
 use Rattle.routes_calls.proofs.Routing.{plan_ready}
 use Rattle.routes_hits.specs.Finding.{HITS_A_WIRE}
-use Rattle.routes_hits.proofs.Calling.{box_refused, box_told, box_call, box_room, nothing_found, list_ready, hits_found}
+use Rattle.routes_hits.proofs.Calling.{box_refused, box_crowded, box_away, box_told, box_call, box_room, nothing_found, list_ready, hits_found}
 use Rattle.routes_hits.proofs.find.find_hits.Lts as lts
 use Rattle.routes_hits.proofs.find.find_hits.Reads as reads
 use Rattle.routes_hits.proofs.find.find_hits.Tie as tie
@@ -32,17 +33,17 @@ Planned = lts.After-finish_plan-arg8 tie.the-claims reads.Pre reads.Post tie.han
 
 module _ (c : Planned) where
   asked : let a = c.args in c.ask-asked.result ≡ asked_for (length a.rerouters.now ∷ length a.bus_wires.now ∷ min (length a.ports.now) (length a.hits.now / HITS_A_WIRE) ∷ length a.answers.now ∷ []) (work_rows a.records.now a.facts.now a.taps.now a.groups.now a.demands.now a.keys.now a.marks.now)
-  asked = let a = c.args in asked_is c.ask-asked.result (length a.rerouters.now) (length a.bus_wires.now) (length a.ports.now) (length a.hits.now) (length a.answers.now) c.lesser.result (work_rows a.records.now a.facts.now a.taps.now a.groups.now a.demands.now a.keys.now a.marks.now) c.ask-asked.ensures c.lesser.ensures
+  asked = let a = c.args in asked_is c.ask-asked.result (length a.rerouters.now) (length a.bus_wires.now) (length a.ports.now) (length a.hits.now) (length a.answers.now) c.min.result (work_rows a.records.now a.facts.now a.taps.now a.groups.now a.demands.now a.keys.now a.marks.now) c.ask-asked.ensures c.min.ensures
 
-  told : let p = c.plan_text-planned in let a = c.args in LanesTold p.new.records p.new.facts p.new.taps p.new.groups (planning c.ask-asked.result.most (fits_lent c.ask-asked.result.lent) a.text.now) c.in-Laned.counts c.in-Laned.m
+  told : let p = c.plan_text in let a = c.args in LanesTold p.new.records p.new.facts p.new.taps p.new.groups (planning c.ask-asked.result.most (fits_lent c.ask-asked.result.lent) a.text.now) c.in_ok-planned.planned.counts c.in_ok-m.m
   told =
-      let p = c.plan_text-planned in
+      let p = c.plan_text in
       let a = c.args in
-      box_told a.q a.text.now c.ask-asked.result (length a.hits.now) (length a.rerouters.now) (length a.bus_wires.now) (length a.ports.now) (length a.answers.now) (work_rows a.records.now a.facts.now a.taps.now a.groups.now a.demands.now a.keys.now a.marks.now) asked p.new.records p.new.facts p.new.taps p.new.groups p.result p.ensures _ _ (sym c.box_plan.ensures ∙ c.in-Laned.is)
+      box_told a.q a.text.now c.ask-asked.result (length a.hits.now) (length a.rerouters.now) (length a.bus_wires.now) (length a.ports.now) (length a.answers.now) (work_rows a.records.now a.facts.now a.taps.now a.groups.now a.demands.now a.keys.now a.marks.now) asked p.new.records p.new.facts p.new.taps p.new.groups p.result p.ensures _ c.in_ok-planned.was _ c.in_ok-m.was
 
-  ready : let p = c.plan_text-planned in let a = c.args in PlanReady told.on_board told.lanes p.new.records c.in-Laned.counts c.in-Laned.m p.new.facts p.new.taps p.new.groups p.new.demands p.new.keys p.new.spare a.rerouters.now a.bus_wires.now a.ports.now a.answers.now
+  ready : let p = c.plan_text in let a = c.args in PlanReady told.on_board told.lanes p.new.records c.in_ok-planned.planned.counts c.in_ok-m.m p.new.facts p.new.taps p.new.groups p.new.demands p.new.keys p.new.spare a.rerouters.now a.bus_wires.now a.ports.now a.answers.now
   ready =
-      let p = c.plan_text-planned in
+      let p = c.plan_text in
       let a = c.args in
       let is = asked in
       let room = asked_room c.ask-asked.result a.records.now a.facts.now a.taps.now a.groups.now a.demands.now a.keys.now a.marks.now is in
@@ -54,9 +55,9 @@ module _ (c : Planned) where
       (work_again _ _ room.0.lent p.auto.facts p.auto.taps p.auto.groups p.auto.demands p.auto.keys p.auto.spare)
       (record { marks_lent = omega arith; rerouters_lent = omega arith; wires_lent = omega arith; ports_lent = omega arith }) (omega arith)
 
-pub plan_text-planned-requires : goal.plan_text-planned-requires
-plan_text-planned-requires c =
-    let asked_here = let a = c.args in asked_is c.ask-asked.result (length a.rerouters.now) (length a.bus_wires.now) (length a.ports.now) (length a.hits.now) (length a.answers.now) c.lesser.result (work_rows a.records.now a.facts.now a.taps.now a.groups.now a.demands.now a.keys.now a.marks.now) c.ask-asked.ensures c.lesser.ensures in
+pub plan_text-requires : goal.plan_text-requires
+plan_text-requires c =
+    let asked_here = let a = c.args in asked_is c.ask-asked.result (length a.rerouters.now) (length a.bus_wires.now) (length a.ports.now) (length a.hits.now) (length a.answers.now) c.min.result (work_rows a.records.now a.facts.now a.taps.now a.groups.now a.demands.now a.keys.now a.marks.now) c.ask-asked.ensures c.min.ensures in
     let a = c.args in
     let room = asked_room c.ask-asked.result a.records.now a.facts.now a.taps.now a.groups.now a.demands.now a.keys.now a.marks.now asked_here in record {
       work_lent = room.0.lent;
@@ -75,71 +76,48 @@ list_hits-found-requires c =
     let f = c.finish_plan-laid in
     BusStands (finished (told w).on_board (told w).lanes) a.rerouters.now a.bus_wires.now a.ports.now f.new.rerouters f.new.bus_wires f.new.ports f.result.bus in
     let stands : Stands = (c.finish_plan-laid.ensures (told w).on_board (told w).lanes (ready w)).0 in
-    let p = c.plan_text-planned in
+    let p = c.plan_text in
     let a = c.args in
     let f = c.finish_plan-laid in
-    list_ready (ready w) f.result.bus stands (length a.hits.now) (box_room a.q a.text.now c.ask-asked.result (length a.hits.now) (length a.rerouters.now) (length a.bus_wires.now) (length a.ports.now) (length a.answers.now) (work_rows a.records.now a.facts.now a.taps.now a.groups.now a.demands.now a.keys.now a.marks.now) (asked w) p.new.records p.new.facts p.new.taps p.new.groups p.result p.ensures _ _ (sym c.box_plan.ensures ∙ c.in-Laned.is)) f.auto.rerouters f.auto.bus_wires
+    list_ready (ready w) f.result.bus stands (length a.hits.now) (box_room a.q a.text.now c.ask-asked.result (length a.hits.now) (length a.rerouters.now) (length a.bus_wires.now) (length a.ports.now) (length a.answers.now) (work_rows a.records.now a.facts.now a.taps.now a.groups.now a.demands.now a.keys.now a.marks.now) (asked w) p.new.records p.new.facts p.new.taps p.new.groups p.result p.ensures _ c.in_ok-planned.was _ c.in_ok-m.was) f.auto.rerouters f.auto.bus_wires
 
-pub shape_of-records-in-Refused : goal.shape_of-records-in-Refused
-shape_of-records-in-Refused c = c.plan_text-planned.auto.records
-
-pub shape_of-facts-in-Refused : goal.shape_of-facts-in-Refused
-shape_of-facts-in-Refused c = c.plan_text-planned.auto.facts
-
-pub shape_of-taps-in-Refused : goal.shape_of-taps-in-Refused
-shape_of-taps-in-Refused c = c.plan_text-planned.auto.taps
-
-pub shape_of-groups-in-Refused : goal.shape_of-groups-in-Refused
-shape_of-groups-in-Refused c = c.plan_text-planned.auto.groups
-
-pub shape_of-demands-in-Refused : goal.shape_of-demands-in-Refused
-shape_of-demands-in-Refused c = c.plan_text-planned.auto.demands
-
-pub shape_of-keys-in-Refused : goal.shape_of-keys-in-Refused
-shape_of-keys-in-Refused c = c.plan_text-planned.auto.keys
-
-pub shape_of-marks-in-Refused : goal.shape_of-marks-in-Refused
-shape_of-marks-in-Refused c = c.plan_text-planned.auto.spare
-
-pub returns-in-Refused : goal.returns-in-Refused
-returns-in-Refused c =
-    let asked_here = let a = c.args in asked_is c.ask-asked.result (length a.rerouters.now) (length a.bus_wires.now) (length a.ports.now) (length a.hits.now) (length a.answers.now) c.lesser.result (work_rows a.records.now a.facts.now a.taps.now a.groups.now a.demands.now a.keys.now a.marks.now) c.ask-asked.ensures c.lesser.ensures in
-    let p = c.plan_text-planned in
+pub returns-in_err-planned : goal.returns-in_err-planned
+returns-in_err-planned c =
     let a = c.args in
-    nothing_found a.q _ a.hits.now a.rerouters.now a.bus_wires.now a.ports.now a.answers.now _ _
-    (box_refused a.q a.text.now c.ask-asked.result (length a.hits.now) (length a.rerouters.now) (length a.bus_wires.now) (length a.ports.now) (length a.answers.now) (work_rows a.records.now a.facts.now a.taps.now a.groups.now a.demands.now a.keys.now a.marks.now) asked_here p.new.records p.new.facts p.new.taps p.new.groups p.result p.ensures _ _ (sym c.box_plan.ensures ∙ c.in-Refused.is))
+    let p = c.plan_text in
+    let is = asked_is c.ask-asked.result (length a.rerouters.now) (length a.bus_wires.now) (length a.ports.now) (length a.hits.now) (length a.answers.now) c.min.result (work_rows a.records.now a.facts.now a.taps.now a.groups.now a.demands.now a.keys.now a.marks.now) c.ask-asked.ensures c.min.ensures in
+    rw (passed c.from_residual.result _ c.from_residual.ensures.1)
+    (nothing_found a.q _ a.hits.now a.rerouters.now a.bus_wires.now a.ports.now a.answers.now _
+    (box_refused a.q a.text.now c.ask-asked.result (length a.hits.now) (length a.rerouters.now) (length a.bus_wires.now) (length a.ports.now) (length a.answers.now) (work_rows a.records.now a.facts.now a.taps.now a.groups.now a.demands.now a.keys.now a.marks.now) is p.new.records p.new.facts p.new.taps p.new.groups p.result p.ensures _ c.in_err-planned.was))
 
-pub shape_of-records-in-Laned : goal.shape_of-records-in-Laned
-shape_of-records-in-Laned c = c.plan_text-planned.auto.records
+pub returns-in_err-m : goal.returns-in_err-m
+returns-in_err-m c =
+    let a = c.args in
+    let p = c.plan_text in
+    let is = asked_is c.ask-asked.result (length a.rerouters.now) (length a.bus_wires.now) (length a.ports.now) (length a.hits.now) (length a.answers.now) c.min.result (work_rows a.records.now a.facts.now a.taps.now a.groups.now a.demands.now a.keys.now a.marks.now) c.ask-asked.ensures c.min.ensures in
+    let r = c.from_residual-in_err-m in
+    rw (passed r.result _ r.ensures.1)
+    (nothing_found a.q _ a.hits.now a.rerouters.now a.bus_wires.now a.ports.now a.answers.now _
+    (box_crowded a.q a.text.now c.ask-asked.result (length a.hits.now) (length a.rerouters.now) (length a.bus_wires.now) (length a.ports.now) (length a.answers.now) (work_rows a.records.now a.facts.now a.taps.now a.groups.now a.demands.now a.keys.now a.marks.now) is p.new.records p.new.facts p.new.taps p.new.groups p.result p.ensures _ c.in_ok-planned.was _ c.in_err-m.was))
 
-pub shape_of-facts-in-Laned : goal.shape_of-facts-in-Laned
-shape_of-facts-in-Laned c = c.plan_text-planned.auto.facts
+pub returns-then-not-is_on_board : goal.returns-then-not-is_on_board
+returns-then-not-is_on_board c =
+    let a = c.args in
+    let p = c.plan_text in
+    let is = asked_is c.ask-asked.result (length a.rerouters.now) (length a.bus_wires.now) (length a.ports.now) (length a.hits.now) (length a.answers.now) c.min.result (work_rows a.records.now a.facts.now a.taps.now a.groups.now a.demands.now a.keys.now a.marks.now) c.ask-asked.ensures c.min.ensures in
+    nothing_found a.q _ a.hits.now a.rerouters.now a.bus_wires.now a.ports.now a.answers.now _
+    (box_away a.q a.text.now c.ask-asked.result (length a.hits.now) (length a.rerouters.now) (length a.bus_wires.now) (length a.ports.now) (length a.answers.now) (work_rows a.records.now a.facts.now a.taps.now a.groups.now a.demands.now a.keys.now a.marks.now) is p.new.records p.new.facts p.new.taps p.new.groups p.result p.ensures _ c.in_ok-planned.was _ c.in_ok-m.was (sym c.is_on_board.ensures ∙ c.if-not-is_on_board.true))
 
-pub shape_of-taps-in-Laned : goal.shape_of-taps-in-Laned
-shape_of-taps-in-Laned c = c.finish_plan-laid.auto.taps ∙ c.plan_text-planned.auto.taps
-
-pub shape_of-groups-in-Laned : goal.shape_of-groups-in-Laned
-shape_of-groups-in-Laned c = c.plan_text-planned.auto.groups
-
-pub shape_of-demands-in-Laned : goal.shape_of-demands-in-Laned
-shape_of-demands-in-Laned c = c.finish_plan-laid.auto.demands ∙ c.plan_text-planned.auto.demands
-
-pub shape_of-keys-in-Laned : goal.shape_of-keys-in-Laned
-shape_of-keys-in-Laned c = c.finish_plan-laid.auto.keys ∙ c.plan_text-planned.auto.keys
-
-pub shape_of-marks-in-Laned : goal.shape_of-marks-in-Laned
-shape_of-marks-in-Laned c = c.finish_plan-laid.auto.marks ∙ c.plan_text-planned.auto.spare
-
-pub returns-in-Laned : goal.returns-in-Laned
+pub returns : goal.returns
 unfolding told
-returns-in-Laned c =
+returns c =
     let w = c.before.before.before.before.before.before.before.before.before.before.before.before.before.before.before in
     let Stands : Type 0 = let a = c.args in
     let f = c.finish_plan-laid in
     BusStands (finished (told w).on_board (told w).lanes) a.rerouters.now a.bus_wires.now a.ports.now f.new.rerouters f.new.bus_wires f.new.ports f.result.bus in
     let stands : Stands = (c.finish_plan-laid.ensures (told w).on_board (told w).lanes (ready w)).0 in
-    let p = c.plan_text-planned in
+    let p = c.plan_text in
     let a = c.args in
     let f = c.finish_plan-laid in
     let done = f.ensures (told w).on_board (told w).lanes (ready w) in
-    hits_found (ready w) f.result.bus stands a.q _ (box_call a.q a.text.now c.ask-asked.result (length a.hits.now) (length a.rerouters.now) (length a.bus_wires.now) (length a.ports.now) (length a.answers.now) (work_rows a.records.now a.facts.now a.taps.now a.groups.now a.demands.now a.keys.now a.marks.now) (asked w) p.new.records p.new.facts p.new.taps p.new.groups p.result p.ensures _ _ (sym c.box_plan.ensures ∙ c.in-Laned.is)) a.hits.now _ c.list_hits-found.result f.result.groups _ c.list_hits-found.ensures done.1 done.2
+    hits_found (ready w) f.result.bus stands a.q _ (box_call a.q a.text.now c.ask-asked.result (length a.hits.now) (length a.rerouters.now) (length a.bus_wires.now) (length a.ports.now) (length a.answers.now) (work_rows a.records.now a.facts.now a.taps.now a.groups.now a.demands.now a.keys.now a.marks.now) (asked w) p.new.records p.new.facts p.new.taps p.new.groups p.result p.ensures _ c.in_ok-planned.was _ c.in_ok-m.was (sym c.is_on_board.ensures ∙ c.if-not-is_on_board.false)) a.hits.now _ c.list_hits-found.result f.result.groups _ c.list_hits-found.ensures done.1 done.2

@@ -1,13 +1,10 @@
--- The level picked, else base.
+-- `find_level` meets its contract: the level picked, else base. Assumes nothing.
 use mathlib.Core.Path.{sym, ◌∙◌}
-use Rattle.routes_levels.proofs.Picking.{find_picked, find_at_base, find_none}
+use Rattle.routes_levels.proofs.Picking.{find_picked, find_at_base}
 use Rattle.routes_levels.proofs.finding.find_level.Goals as goal
 
-pub returns-in-At : goal.returns-in-At
-returns-in-At c = λ ss p l q h. find_picked _ _ _ _ h _ c.levels_in-count.ensures _ (sym c.in-At.is ∙ c.pick_level.ensures)
-
-pub returns-then-is_unclaimed : goal.returns-then-is_unclaimed
-returns-then-is_unclaimed c = λ ss p l q h. find_at_base _ _ _ _ h _ c.levels_in-count.ensures (sym c.in_default.is ∙ c.pick_level.ensures) (sym c.is_unclaimed.ensures ∙ c.if-is_unclaimed.true)
+pub returns-in-Some : goal.returns-in-Some
+returns-in-Some c = λ ss p l q h. find_picked _ _ _ _ h _ c.levels_in-count.ensures _ (sym c.in-Some.is ∙ c.pick_level.ensures)
 
 pub returns : goal.returns
-returns c = λ ss p l q h. find_none _ _ _ _ h _ c.levels_in-count.ensures (sym c.in_default.is ∙ c.pick_level.ensures) (sym c.is_unclaimed.ensures ∙ c.if-is_unclaimed.false)
+returns c = λ ss p l q h. c.then_some.ensures ∙ find_at_base _ _ _ _ h _ c.levels_in-count.ensures (sym c.in_default.is ∙ c.pick_level.ensures) _ c.is_unclaimed.ensures

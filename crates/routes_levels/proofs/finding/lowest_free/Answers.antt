@@ -17,26 +17,23 @@ overflow_mul-done c = omega (arith, c.requires.1, c.loop-done.invariant.0)
 pub overflow_add-base : goal.overflow_add-base
 overflow_add-base c = omega (arith, c.requires.1, c.loop-done.invariant.0)
 
-pub free_in_many-requires : goal.free_in_many-requires
-free_in_many-requires c = (c.requires.0, omega (arith, c.lesser-size.ensures), omega (arith, c.lesser-size.ensures, c.requires.1, c.loop-done.invariant.0))
-
-pub returns-in-At : goal.returns-in-At
-returns-in-At c = let a = c.args in
+pub returns-in-Some : goal.returns-in-Some
+returns-in-Some c = let a = c.args in
     let l = c.loop-done in
     let f = free_in a.row.now a.lane.now in
-    sym (ap level_answer (l.invariant.1 ∙ in_window f (a.base + STAGGER_STEP * l.done) c.lesser-size.result (a.count - l.done) (omega (arith, c.lesser-size.ensures)) _ (found_at (lowest f (a.base + STAGGER_STEP * l.done) c.lesser-size.result) _ (sym c.in-At.is ∙ c.free_in_many.ensures))))
+    sym (ap level_answer (l.invariant.1 ∙ in_window f (a.base + STAGGER_STEP * l.done) c.min-size.result (a.count - l.done) (omega (arith, c.min-size.ensures)) _ (found_at (lowest f (a.base + STAGGER_STEP * l.done) c.min-size.result) _ (sym c.in-Some.is ∙ c.free_in_window.ensures))))
 
 pub overflow_add-done : goal.overflow_add-done
-overflow_add-done c = omega (arith, c.lesser-size.ensures, c.loop-done.invariant.0, c.ranges)
+overflow_add-done c = omega (arith, c.min-size.ensures, c.loop-done.invariant.0, c.ranges)
 
 pub loop-done-smaller : goal.loop-done-smaller
-loop-done-smaller c = omega (arith, c.lesser-size.ensures, c.loop-done-test.true)
+loop-done-smaller c = omega (arith, c.min-size.ensures, c.loop-done-test.true)
 
 pub loop-done-preserved : goal.loop-done-preserved
 loop-done-preserved c = let a = c.args in
     let l = c.loop-done in
     let f = free_in a.row.now a.lane.now in
-    (omega (arith, c.lesser-size.ensures, l.invariant.0), l.invariant.1 ∙ past_more f a.base l.done c.lesser-size.result a.count (omega (arith, c.lesser-size.ensures, l.invariant.0)) (found_none (lowest f (a.base + STAGGER_STEP * l.done) c.lesser-size.result) (sym c.in_default.is ∙ c.free_in_many.ensures)))
+    (omega (arith, c.min-size.ensures, l.invariant.0), l.invariant.1 ∙ past_more f a.base l.done c.min-size.result a.count (omega (arith, c.min-size.ensures, l.invariant.0)) (found_none (lowest f (a.base + STAGGER_STEP * l.done) c.min-size.result) (sym c.in_default.is ∙ c.free_in_window.ensures)))
 
 pub returns : goal.returns
 returns c = let a = c.args in

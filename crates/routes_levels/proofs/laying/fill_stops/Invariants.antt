@@ -14,10 +14,10 @@ use Rattle.routes_levels.specs.Pages.{NoneFrom}
 use Rattle.routes_levels.proofs.laying.fill_stops.Given as goal
 
 abbrev pub invariant-loop-k : goal.invariant-loop-k
-invariant-loop-k l = (l.k ≤ l.n) × (l.count ≤ l.k) × ((length l.stops ≡ length l.initial.stops) × (length l.ends ≡ length l.initial.ends))
-    × StopIndex l.n l.stops l.ends l.count
-    × (l.k < l.n → NoneFrom (field l.laid l.k 0) (view stop_in l.stops l.count))
-    × ((b : Board) (ps : List PageLanes) → LaidFacts b ps l.facts l.groups l.laid l.n → view stop_in l.stops l.count ≡ stops_of b ps (view tap_in l.laid l.k))
+invariant-loop-k l = (l.k ≤ length l.laid) × (l.count ≤ l.k)
+    × StopIndex (length l.laid) l.stops l.ends l.count
+    × (l.k < length l.laid → NoneFrom (field l.laid l.k 0) (view stop_in l.stops l.count))
+    × ((b : Board) (ps : List PageLanes) → LaidFacts b ps l.facts l.groups l.laid (length l.laid) → view stop_in l.stops l.count ≡ stops_of b ps (view tap_in l.laid l.k))
 
 abbrev pub decreases-loop-k : goal.decreases-loop-k
-decreases-loop-k l = l.n - l.k
+decreases-loop-k l = length l.laid - l.k

@@ -5,19 +5,8 @@ use Rattle.base.specs.Views.{view}
 use Rattle.board.specs.Tables.{tap_in}
 use Rattle.routes.specs.Levels.{previous_stop}
 use Rattle.routes.specs.Tables.{stop_in}
-use Rattle.routes_levels.specs.Pages.{lane_key}
 use Rattle.routes_levels.proofs.LayLaws.{laid_with, stop_is, end_previous, end_kept}
-use Rattle.routes_levels.proofs.PageLaws.{room_inside}
 use Rattle.routes_levels.proofs.laying.lay_stop.Goals as goal
-
-pub keep_level-requires : goal.keep_level-requires
-keep_level-requires c = let held = c.requires.page_runs.0 in
-    let room = c.requires.page_runs.1 in
-    let g = held.runs.grows in
-    let small = room.row_small in record {
-      row_bound = (small, omega (arith, g.nexts_long), held.runs.few);
-      row_in_bounds = (room_inside g (tap_in c.args.tap).row (omega arith) room.row_room, room_inside g (lane_key c.args.lane) (omega arith) room.lane_room);
-    }
 
 pub returns : goal.returns
 returns c = let a = c.args in
@@ -25,16 +14,17 @@ returns c = let a = c.args in
     let held = c.requires.page_runs.0 in
     let room = c.requires.page_runs.1 in
     let inside = x.room in
-    let kept = c.keep_level in
+    let kept = c.keep in
     let ended = c.note_end in
     let row = c.stop_row in
     let level = c.level_of-level in
     let base = c.stop_x-base in
     let group = c.group_of-g in
     let t = tap_in a.tap in record {
+      starts_kept = kept.ensures.starts_kept;
       stop_laid = laid_with a.stops.now a.s t a.lane base.result level.result row.result (omega (arith, inside)) row.ensures x.lasts held
-          (λ ss u g b l e. ended.ensures ss u (g ∙ sym group.ensures.0) b l e) (λ v rows lanes rows' lanes' e y g h. kept.ensures.runs v a.starts.now rows lanes rows' lanes' e y room g h) kept.ensures.onward;
+          (λ ss u g b l e. ended.ensures ss u (g ∙ sym group.ensures.0) b l e) (λ v rows lanes rows' lanes' e y g h. kept.ensures.runs v a.runs.now.starts rows lanes rows' lanes' e y room g h) kept.ensures.onward;
       s_after = λ b top. stop_is a.stops.now a.s t a.lane base.result level.result row.result (omega (arith, inside)) row.ensures b
-          (base.ensures.1 (previous_stop (view stop_in a.stops.now a.s) t.group) (end_previous x t group.result group.ensures.0 c.requires.stop_index.1))
+          (base.ensures (previous_stop (view stop_in a.stops.now a.s) t.group) (end_previous x t group.result group.ensures.0 c.requires.stop_index.1))
           (level.ensures b (view stop_in a.stops.now a.s) (held.runs.row_runs t.row room.row_small) (held.runs.lane_runs a.lane room.lane_small) (end_kept x t group.result group.ensures.0 c.requires.stop_index.1 base.result) top);
     }

@@ -6,4 +6,4 @@ pub returns-then-x : goal.returns-then-x
 returns-then-x c b ts ps t a m e = long_unplaced b ts ps _ _ _ a t m _ e c.requires c.if-x.true
 
 pub returns : goal.returns
-returns c b ts ps t a m e = long_placed b ts ps _ _ _ a t m _ e c.requires c.if-x.false _ _ c.lesser-low.ensures c.greater-high.ensures
+returns c b ts ps t a m e = long_placed b ts ps _ _ _ a t m _ e c.requires c.if-x.false _ _ c.min-low.ensures c.max-high.ensures

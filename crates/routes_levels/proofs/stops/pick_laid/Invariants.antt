@@ -1,6 +1,5 @@
--- The taps of laid groups, newest first. The loop's invariant: the rows picked so far, then those of the laid taps below row k, are the rows of all laid taps.
+-- The taps of laid groups, newest first. The loop's invariant: the rows picked so far, then those of the laid taps that are left, are the rows of all laid taps.
 use Prim.Native.Nat.{◌≤◌, ◌+◌}
-use mathlib.Core.Path.{◌≡◌}
 use mathlib.Core.List.{List}
 use lib.ListN.{length}
 use Rattle.board.specs.Board.{Board}
@@ -13,8 +12,6 @@ use Rattle.routes_levels.proofs.PickLaws.{Picked}
 use Rattle.routes_levels.proofs.stops.pick_laid.Given as goal
 
 abbrev pub invariant-loop-k : goal.invariant-loop-k
-invariant-loop-k l = (l.n + l.k ≤ l.m) × (length l.laid ≡ length l.initial.laid)
-    × ((b : Board) (ps : List PageLanes) → Tabled b (view tap_in l.taps l.m) ps l.nodes l.facts l.groups → Picked (is_laid b (view tap_in l.taps l.m) ps) l.taps l.m l.laid l.n l.k)
-
-abbrev pub decreases-loop-k : goal.decreases-loop-k
-decreases-loop-k l = l.k
+invariant-loop-k l = (l.n + l.k ≤ length l.taps)
+    × ((b : Board) (ps : List PageLanes) → Tabled b (view tap_in l.taps (length l.taps)) ps l.nodes l.facts l.groups
+    → Picked (is_laid b (view tap_in l.taps (length l.taps)) ps) l.taps (length l.taps) l.laid l.n l.k)

@@ -1,13 +1,10 @@
 -- The loop over the levels of a row: each of the window is counted as often as it was met.
-use Prim.Native.Nat.{ℕ, ◌*◌, ◌+◌, ◌-◌, ◌<◌, ◌≤◌}
+use Prim.Native.Nat.{ℕ, ◌*◌, ◌+◌, ◌<◌}
 use mathlib.Core.Path.{◌≡◌}
 use lib.ListN.{length, get_or}
 use Rattle.base.specs.Runs.{having}
 use Rattle.routes.specs.Levels.{STAGGER_STEP}
 use Rattle.routes_levels.proofs.windows.count_levels.Given as goal
 
-abbrev pub invariant-loop-i : goal.invariant-loop-i
-invariant-loop-i l = (l.i ≤ length l.row) × (length l.loads ≡ length l.initial.loads) × ((j : ℕ) → j < length l.initial.loads → get_or l.loads j 0 ≡ having (λ k. get_or l.row k 0) (l.start + STAGGER_STEP * j) l.i)
-
-abbrev pub decreases-loop-i : goal.decreases-loop-i
-decreases-loop-i l = length l.row - l.i
+abbrev pub invariant-loop-level : goal.invariant-loop-level
+invariant-loop-level l = (j : ℕ) → j < length l.initial.loads → get_or l.loads j 0 ≡ having (λ k. get_or l.row k 0) (l.start + STAGGER_STEP * j) l.level-index

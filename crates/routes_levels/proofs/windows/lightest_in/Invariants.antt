@@ -9,7 +9,4 @@ use Rattle.routes_levels.specs.Search.{load_in, open_in, Weighed, Best}
 use Rattle.routes_levels.proofs.windows.lightest_in.Given as goal
 
 abbrev pub invariant-loop-j : goal.invariant-loop-j
-invariant-loop-j l = (l.j ≤ l.size) × ((row lane : List ℕ) (base count k : ℕ) → length row < MISSING → Weighed row lane l.start l.loads → l.start ≡ base + STAGGER_STEP * k → k + l.size ≤ count → Best (open_in lane) (load_in row) base count (k + l.size) l.initial.level l.initial.least → Best (open_in lane) (load_in row) base count (k + l.j) l.level l.least)
-
-abbrev pub decreases-loop-j : goal.decreases-loop-j
-decreases-loop-j l = l.j
+invariant-loop-j l = (row lane : List ℕ) (base count k : ℕ) → length row < MISSING → Weighed row lane l.start l.loads → l.start ≡ base + STAGGER_STEP * k → k + length l.loads ≤ count → Best (open_in lane) (load_in row) base count (k + length l.loads) l.initial.level l.initial.least → Best (open_in lane) (load_in row) base count (k + l.j) l.level l.least

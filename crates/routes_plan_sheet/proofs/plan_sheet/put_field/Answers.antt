@@ -1,14 +1,16 @@
-use Rattle.std.proofs.Common.{ℕ, List, [], ◌∷◌, arith}
+-- `plan_sheet::put_field` meets its contract: a tab, then at most ten digits. Assumes nothing.
+use Rattle.std.proofs.Common.{[], ◌∷◌, arith}
 use Rattle.sheet.proofs.Writing.{wrote_more}
 use Rattle.routes_plan_sheet.specs.Fields.{field_text}
 use Rattle.routes_plan_sheet.proofs.Lines.{text_length}
 use Rattle.routes_plan_sheet.proofs.plan_sheet.put_field.Goals as goal
 
-pub returns : goal.returns
-returns c = let f : List ℕ = (c.args.how ∷ c.args.what ∷ []) in
-    let few = text_length f in
+pub returns-clause-wrote : goal.returns-clause-wrote
+returns-clause-wrote c =
+    let few = text_length c.args.field in
     let done = c.put_text.ensures in
-    let first = c.put_byte-next.ensures in record {
-      wrote = wrote_more _ _ _ _ _ _ (9 ∷ []) (field_text f) (omega arith) first done;
-      upper_bound = omega arith;
-    }
+    let first = c.put_byte-next.ensures in
+    wrote_more _ _ _ _ _ _ (9 ∷ []) (field_text c.args.field) (omega (arith, few, done.place, first.place)) first done
+
+pub returns-clause-upper_bound : goal.returns-clause-upper_bound
+returns-clause-upper_bound c = omega (arith, text_length c.args.field, c.put_text.ensures.place, c.put_byte-next.ensures.place)

@@ -1,4 +1,4 @@
--- A cell's first level and end, where the cell meets one of the levels.
+-- `block` meets its contract: a cell's first level and end, where the cell meets one of the levels. Assumes nothing.
 use Prim.Native.Nat.{ℕ, ◌-◌, ◌/◌, ◌<◌}
 use mathlib.Core.Path.{refl, sym, subst}
 use native.Mathlib.Omega.{arith}
@@ -7,24 +7,14 @@ use Rattle.routes_rows.specs.Blocked.{count_in, Blocks, cell_meets}
 use Rattle.routes_rows.proofs.Blocking.{within_all, within_below, within_above, within_beside, cell_blocks, cell_left, cell_passed}
 use Rattle.routes_rows.proofs.blocked.block.Goals as goal
 
-pub bounds-ends-k : goal.bounds-ends-k
-bounds-ends-k c =
-    let first-inside : c.first_level-first.result < length c.args.ends.now = omega (arith, c.if-first-levels_in.true, c.levels_in.ensures, c.requires) in
-    first-inside
-
-pub bounds-ends-k-then-first-levels_in : goal.bounds-ends-k-then-first-levels_in
-bounds-ends-k-then-first-levels_in c =
-    let first-inside : c.first_level-first.result < length c.args.ends.now = omega (arith, c.if-first-levels_in.true, c.levels_in.ensures, c.requires) in
-    first-inside
-
 pub returns-then-first-levels_in : goal.returns-then-first-levels_in
 returns-then-first-levels_in c =
     let first-inside : c.first_level-first.result < length c.args.ends.now = omega (arith, c.if-first-levels_in.true, c.levels_in.ensures, c.requires) in
     let a = c.args in
     let first = c.first_level-first in
     let count = c.levels_in in
-    subst (λ (e : ℕ). Blocks a.span (cell_meets a.cell a.span) a.ends.now (set a.ends.now first.result e)) (sym c.larger.ensures)
-    (cell_blocks a.span a.cell first.result count.result first.ensures count.ensures a.ends.now (within_all a.span a.cell first.result count.result first.ensures count.ensures c.if-span-cell.true c.if-cell-span.true c.if-first-levels_in.true) (first-inside))
+    subst (λ (e : ℕ). Blocks a.span (cell_meets a.cell a.span) a.ends.now (set a.ends.now first.result e)) (sym c.max.ensures)
+    (cell_blocks a.span a.cell first.result count.result first.ensures count.ensures a.ends.now (within_all a.span a.cell first.result count.result first.ensures count.ensures c.if-span-cell.true c.if-cell-span.true c.if-first-levels_in.true) first-inside)
 
 pub returns-else-first-levels_in : goal.returns-else-first-levels_in
 returns-else-first-levels_in c = let a = c.args in

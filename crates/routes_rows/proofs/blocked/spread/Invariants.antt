@@ -1,10 +1,6 @@
--- The ends before k are spread. The loop's invariant: `Spreading`.
-use Prim.Native.Nat.{◌-◌}
+-- `spread` meets its contract: the ends gone through are spread; `furthest` is the furthest of them. Assumes nothing.
 use Rattle.routes_rows.proofs.Blocking.{Spreading}
 use Rattle.routes_rows.proofs.blocked.spread.Given as goal
 
-abbrev pub invariant-loop-k : goal.invariant-loop-k
-invariant-loop-k l = Spreading l.count l.initial.ends l.end l.k l.ends
-
-abbrev pub decreases-loop-k : goal.decreases-loop-k
-decreases-loop-k l = l.count - l.k
+abbrev pub invariant-loop-end : goal.invariant-loop-end
+invariant-loop-end l = Spreading l.initial.ends l.furthest l.end-index l.ends

@@ -1,10 +1,6 @@
 -- `book_rows` meets its contract: a turn knows the cells booked on the row at hand, and the flags so far. Assumes nothing.
-use Rattle.std.proofs.Common.{◌≤◌, ◌-◌}
 use Rattle.routes_rows.proofs.Turns.{Booked}
 use Rattle.routes_rows.proofs.book.book_rows.Given as goal
 
 abbrev pub invariant-loop-p : goal.invariant-loop-p
-invariant-loop-p l = (l.p ≤ l.m) × Booked l.items l.bricks l.initial.flags l.p l.n l.cells l.flags
-
-abbrev pub decreases-loop-p : goal.decreases-loop-p
-decreases-loop-p l = l.m - l.p
+invariant-loop-p l = Booked l.items l.bricks l.initial.flags l.p l.n l.cells l.flags

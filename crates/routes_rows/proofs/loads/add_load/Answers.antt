@@ -1,4 +1,4 @@
--- A level counts if it is one of those from x0 on.
+-- `add_load` meets its contract: a level counts if it is one of those from x0 on. Assumes nothing.
 use native.Mathlib.Omega.{arith}
 use Rattle.routes_rows.proofs.LoadLaws.{added_beyond, added_between, added_at}
 use Rattle.routes_rows.proofs.loads.add_load.Goals as goal

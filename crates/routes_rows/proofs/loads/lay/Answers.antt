@@ -1,4 +1,4 @@
--- Laid where the level is one.
+-- `lay` meets its contract: laid where the level is one. Assumes nothing.
 use Rattle.routes_rows.proofs.NoteLaws.{laid_none}
 use Rattle.routes_rows.proofs.loads.lay.Goals as goal
 

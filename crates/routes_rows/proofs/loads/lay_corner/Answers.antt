@@ -1,4 +1,4 @@
--- Raised, listed and stamped.
+-- `lay_corner` meets its contract: raised, listed and stamped. Assumes nothing.
 use native.Mathlib.Omega.{arith}
 use lib.ListN.{length-set}
 use Rattle.routes_rows.proofs.NoteLaws.{laid_corner}

@@ -1,4 +1,4 @@
--- A pair behind those listed.
+-- `list_corner` meets its contract: a pair behind those listed. Assumes nothing.
 use native.Mathlib.Omega.{arith}
 use lib.ListN.{length-set}
 use Rattle.routes_rows.proofs.LoadLaws.{listed_behind}

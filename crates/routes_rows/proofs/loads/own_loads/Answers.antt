@@ -1,4 +1,4 @@
--- As they are, or counted anew.
+-- `own_loads` meets its contract: as they are, or counted anew. Assumes nothing.
 use mathlib.Core.Path.{sym, ◌∙◌}
 use Rattle.routes_rows.proofs.LoadLaws.{owns_already}
 use Rattle.routes_rows.proofs.loads.own_loads.Goals as goal

@@ -1,4 +1,4 @@
--- Raised where the sink is the owner.
+-- `raise_load` meets its contract: raised where the sink is the owner. Assumes nothing.
 use native.Mathlib.Omega.{arith}
 use Rattle.routes_rows.proofs.LoadLaws.{raise_small, raised_own, raised_other}
 use Rattle.routes_rows.proofs.loads.raise_load.Goals as goal

@@ -1,4 +1,4 @@
--- Cleared, counted, and owned.
+-- `recount` meets its contract: cleared, counted, and owned. Assumes nothing.
 use native.Mathlib.Omega.{arith}
 use lib.ListN.{length-set}
 use Rattle.routes_rows.proofs.LoadLaws.{owns_anew}

@@ -1,4 +1,4 @@
--- One row more where none counts.
+-- `begin_row` meets its contract: one row more where none counts. Assumes nothing.
 use native.Mathlib.Omega.{arith}
 use lib.ListN.{length-set}
 use Rattle.routes_rows.proofs.NoteLaws.{begun_already, begun_anew}

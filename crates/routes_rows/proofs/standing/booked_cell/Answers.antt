@@ -1,4 +1,4 @@
--- A cell's own, or the corner's by its answer.
+-- `booked_cell` meets its contract: a cell's own, or the corner's by its answer. Assumes nothing.
 use mathlib.Core.Path.{sym, ap, ◌∙◌}
 use native.Mathlib.Omega.{arith}
 use Rattle.routes_rows.specs.Turning.{Entry}

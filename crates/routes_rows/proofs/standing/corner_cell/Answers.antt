@@ -1,4 +1,4 @@
--- A corner where the answer is a level.
+-- `corner_cell` meets its contract: a corner where the answer is a level. Assumes nothing.
 use mathlib.Core.Path.{sym, ap}
 use borrow.Author.Tests.{lt-ltb, le-ltb}
 use Rattle.base.specs.Lists.{none, at}

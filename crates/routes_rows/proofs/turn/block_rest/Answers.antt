@@ -1,4 +1,4 @@
--- Nothing more where the slice holds all.
+-- `block_rest` meets its contract: nothing more where the slice holds all. Assumes nothing.
 use mathlib.Core.Path.{refl}
 use Rattle.routes_rows.proofs.EntryLaws.{blocks_twice}
 use Rattle.routes_rows.proofs.turn.block_rest.Goals as goal

@@ -1,4 +1,4 @@
--- None where the class stands, or no level is clear; else what is sought.
+-- `corner_level` meets its contract: none where the class stands, or no level is clear; else what is sought. Assumes nothing.
 use mathlib.Core.Path.{refl, sym, ◌∙◌}
 use native.Mathlib.Omega.{arith}
 use Rattle.routes_rows.specs.Turning.{clear_at}

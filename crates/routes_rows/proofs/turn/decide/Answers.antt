@@ -1,4 +1,4 @@
--- A cell, or a question.
+-- `decide` meets its contract: a cell, or a question. Assumes nothing.
 use native.Mathlib.Omega.{arith}
 use Rattle.routes_rows.proofs.Deciding.{turnable, decided_cell, decided_turn}
 use Rattle.routes_rows.proofs.turn.decide.Goals as goal

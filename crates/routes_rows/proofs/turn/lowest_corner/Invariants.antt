@@ -1,17 +1,12 @@
--- The lowest open level. The loop's invariant: the level at hand is the k-th, and from it on the search finds what it finds from the first on.
-use Prim.Native.Nat.{ℕ, ◌-◌, ◌+◌, ◌*◌}
-use mathlib.Core.Path.{◌≡◌}
-use mathlib.Core.Bool.{Bool, ◌&&◌}
-use lib.Dec.{eqb}
-use Rattle.routes.specs.Levels.{STAGGER_STEP, lowest, levels_in}
+-- `lowest_corner` meets its contract: no level gone through is unused and clear. Assumes nothing.
+use Rattle.std.proofs.Common.{◌≡◌, ℕ, ◌-◌, ◌<◌, Bool, false, ◌&&◌, eqb}
+use Rattle.routes_rows.specs.Blocked.{level_no}
 use Rattle.routes_rows.specs.Entries.{TellsClear, TellsLoads}
-use Rattle.routes_rows.proofs.EntryLaws.{across}
 use Rattle.routes_rows.proofs.turn.lowest_corner.Given as goal
 
-abbrev pub invariant-loop-level : goal.invariant-loop-level
-invariant-loop-level l = (l.level ≡ l.initial.level + STAGGER_STEP * l.k)
-    × ((clear : ℕ → Bool) (load : ℕ → ℕ) → TellsClear (across l.initial.level l.top) clear l.notes → TellsLoads (across l.initial.level l.top) load l.notes
-    → lowest (λ l. eqb (load l) 0 && clear l) l.initial.level (levels_in l.initial.level l.top) ≡ lowest (λ l. eqb (load l) 0 && clear l) l.level (levels_in l.level l.top))
+abbrev pub invariant-loop-k : goal.invariant-loop-k
+invariant-loop-k l = (clear : ℕ → Bool) (load : ℕ → ℕ) → TellsClear l.span clear l.notes → TellsLoads l.span load l.notes
+    → (j : ℕ) → j < l.k → (eqb (load (level_no l.span j)) 0 && clear (level_no l.span j)) ≡ false
 
-abbrev pub decreases-loop-level : goal.decreases-loop-level
-decreases-loop-level l = l.top - l.level
+abbrev pub decreases-loop-k : goal.decreases-loop-k
+decreases-loop-k l = l.count - l.k

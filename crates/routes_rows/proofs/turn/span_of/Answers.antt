@@ -1,4 +1,4 @@
--- A question's span, or none.
+-- `span_of` meets its contract: a question's span, or none. Assumes nothing.
 use mathlib.Core.Path.{sym, ◌∙◌}
 use borrow.Author.Tests.{lt-ltb, le-ltb}
 use Rattle.base.proofs.Bools.{pick_true, pick_false}

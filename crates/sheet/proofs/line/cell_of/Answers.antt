@@ -1,42 +1,52 @@
 -- `sheet::line::cell_of` meets its contract, by cases. Assumes nothing.
-use Rattle.std.proofs.Common.{true, false, [], get_or, sym, ap, ◌∙◌}
-use Rattle.sheet.specs.declared.number.Scanned.{Scanned}
-use Rattle.sheet.specs.Record.{is_missing}
-use Rattle.sheet.specs.Walk.{column_in, number_in, is_gone}
-use Rattle.sheet.proofs.Cells.{cell_bad, cell_missing, cell_plus, cell_minus, cell_refused}
+use Rattle.std.proofs.Common.{◌≡◌, ◌+◌, ◌-◌, ◌^◌, min, sym, ◌∙◌, arith}
+use Rattle.sheet.specs.declared.number.Scanned.TheVariants.{Missing, Plus, Minus}
+use Rattle.sheet.specs.Record.{present}
+use Rattle.sheet.specs.Walk.{is_gone}
+use Rattle.sheet.proofs.Cells.{within_most, within_less, within_under, cell_bad, cell_standing, cell_fallen}
 use Rattle.sheet.proofs.line.cell_of.Goals as goal
 
-pub returns-in-Bad : goal.returns-in-Bad
-returns-in-Bad c = let s = c.args in
-    let col = column_in (get_or s.columns.now s.i []) in
-    cell_bad col (is_gone s.before) s.n c.in-Bad.is
+pub returns-in-Some-Plus : goal.returns-in-Some-Plus
+unfolding present
+returns-in-Some-Plus c = let a = c.args.column.now in
+    let m = c.in-Some-Plus in
+    let most : c.saturating_add.result ≡ min (a.origin + m.v) (2 ^ 64 - 1) = rw (sym c.from-origin.ensures) c.saturating_add.ensures in
+    c.in_range.ensures
+    ∙ (within_most a.low a.high (a.origin + m.v) _ (omega arith) most
+    ∙ cell_standing a (is_gone c.args.before) c.args.n _ (Plus m.v) m.is (rw m.is at m.field-0-is) c.if-allowed.ensures)
 
-pub returns-then-allowed : goal.returns-then-allowed
-returns-then-allowed c = let s = c.args in
-    let col = column_in (get_or s.columns.now s.i []) in
-    cell_missing col (is_gone s.before) s.n c.in-Missing.is (sym c.allowed.ensures ∙ c.if-allowed.true)
+pub returns-in-Some : goal.returns-in-Some
+unfolding present
+returns-in-Some c = let a = c.args.column.now in
+    let m = c.in-Some-Minus in
+    let s = rw c.from-origin.ensures at c.in-Some.ensures in
+    c.in_range-in-Some.ensures
+    ∙ (within_less a.low a.high a.origin m.v _ s.0 s.1
+    ∙ cell_standing a (is_gone c.args.before) c.args.n _ (Minus m.v) m.is (rw m.is at m.field-0-is) c.if-allowed-2.ensures)
 
-pub returns-else-allowed : goal.returns-else-allowed
-returns-else-allowed c = let s = c.args in
-    let col = column_in (get_or s.columns.now s.i []) in
-    cell_refused col (is_gone s.before) s.n true (ap (λ (n : Scanned). is_missing (number_in n)) c.in-Missing.is) (sym c.allowed.ensures ∙ c.if-allowed.false)
+pub returns-in-None : goal.returns-in-None
+unfolding present
+returns-in-None c = let a = c.args.column.now in
+    let m = c.in-Some-Minus in
+    within_under a.low a.high a.origin m.v (omega arith)
+    ∙ cell_standing a (is_gone c.args.before) c.args.n _ (Minus m.v) m.is (rw m.is at m.field-0-is) c.if-allowed-2.ensures
 
-pub returns-then-allowed-2 : goal.returns-then-allowed-2
-returns-then-allowed-2 c = let s = c.args in
-    let col = column_in (get_or s.columns.now s.i []) in
-    c.plus_cell.ensures ∙ cell_plus col (is_gone s.before) s.n _ c.in-Plus.is (sym c.allowed-in-Plus.ensures ∙ c.if-allowed-2.true)
+pub returns-in-Some-Missing : goal.returns-in-Some-Missing
+unfolding present
+returns-in-Some-Missing c = let m = c.in-Some-Missing in
+    cell_standing c.args.column.now (is_gone c.args.before) c.args.n _ Missing m.is (rw m.is at m.field-0-is) c.if-allowed-3.ensures
 
-pub returns-else-allowed-2 : goal.returns-else-allowed-2
-returns-else-allowed-2 c = let s = c.args in
-    let col = column_in (get_or s.columns.now s.i []) in
-    cell_refused col (is_gone s.before) s.n false (ap (λ (n : Scanned). is_missing (number_in n)) c.in-Plus.is) (sym c.allowed-in-Plus.ensures ∙ c.if-allowed-2.false)
+pub returns-in_default : goal.returns-in_default
+returns-in_default c = let m = c.in-Some-Plus in
+    cell_fallen c.args.column.now (is_gone c.args.before) c.args.n _ (Plus m.v) m.is (rw m.is at m.field-0-is) c.if-allowed.ensures
 
-pub returns-then-allowed-3 : goal.returns-then-allowed-3
-returns-then-allowed-3 c = let s = c.args in
-    let col = column_in (get_or s.columns.now s.i []) in
-    c.minus_cell.ensures ∙ cell_minus col (is_gone s.before) s.n _ c.in-Minus.is (sym c.allowed-in-Minus.ensures ∙ c.if-allowed-3.true)
+pub returns-in_default-2 : goal.returns-in_default-2
+returns-in_default-2 c = let m = c.in-Some-Minus in
+    cell_fallen c.args.column.now (is_gone c.args.before) c.args.n _ (Minus m.v) m.is (rw m.is at m.field-0-is) c.if-allowed-2.ensures
 
-pub returns-else-allowed-3 : goal.returns-else-allowed-3
-returns-else-allowed-3 c = let s = c.args in
-    let col = column_in (get_or s.columns.now s.i []) in
-    cell_refused col (is_gone s.before) s.n false (ap (λ (n : Scanned). is_missing (number_in n)) c.in-Minus.is) (sym c.allowed-in-Minus.ensures ∙ c.if-allowed-3.false)
+pub returns-in_default-3 : goal.returns-in_default-3
+returns-in_default-3 c = let m = c.in-Some-Missing in
+    cell_fallen c.args.column.now (is_gone c.args.before) c.args.n _ Missing m.is (rw m.is at m.field-0-is) c.if-allowed-3.ensures
+
+pub returns-in_default-4 : goal.returns-in_default-4
+returns-in_default-4 c = rw c.in_default.is (cell_bad c.args.column.now (is_gone c.args.before))

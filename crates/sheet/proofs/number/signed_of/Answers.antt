@@ -1,17 +1,19 @@
 -- `sheet::number::signed_of` meets its contract. Assumes nothing.
-use Rattle.std.proofs.Common.{sym, ap, ◌∙◌}
-use Rattle.sheet.specs.Walk.{negated}
-use Rattle.sheet.proofs.Numbers.{signed_none, signed_some, signed_other, first_digit}
+use Rattle.std.proofs.Common.{sym}
+use Rattle.sheet.proofs.Numbers.{unsigned_other, signed_none, signed_bad, signed_zero, signed_minus}
 use Rattle.sheet.proofs.number.signed_of.Goals as goal
 
-pub returns-then-rest-eq0 : goal.returns-then-rest-eq0
-returns-then-rest-eq0 c = sym (signed_none c.args.rest.now c.if-rest-eq0.true)
+pub returns-in_default : goal.returns-in_default
+returns-in_default c = signed_none c.args.bytes.now c.in_default.ensures.cases
 
-pub returns-then-first-gt-NINE : goal.returns-then-first-gt-NINE
-returns-then-first-gt-NINE c = sym (signed_other c.args.rest.now c.if-rest-eq0.false (c.digit_of-first.ensures.no c.if-first-gt-NINE.true))
+pub returns-in_err-digit_of : goal.returns-in_err-digit_of
+returns-in_err-digit_of c = rw (c.in-Some.ensures.cases.0, c.from_residual.ensures) (signed_bad _ _ (sym (unsigned_other _ _ c.in_err-digit_of.ensures)))
 
-pub unsigned_of-requires : goal.unsigned_of-requires
-unsigned_of-requires c = first_digit c.args.rest.now _ c.if-rest-eq0.false c.digit_of-first.ensures c.if-first-gt-NINE.false
+pub returns-in_err-v : goal.returns-in_err-v
+returns-in_err-v c = rw (c.in-Some.ensures.cases.0, c.in_ok-digit_of.ensures.2, c.from_residual-in_err-v.ensures) (signed_bad _ _ c.in_err-v.ensures)
+
+pub returns-then-v-eq0 : goal.returns-then-v-eq0
+returns-then-v-eq0 c = rw (c.in-Some.ensures.cases.0, c.in_ok-digit_of.ensures.2) (signed_zero _ _ _ c.in_ok-v.ensures c.if-v-eq0.true)
 
 pub returns : goal.returns
-returns c = c.negated.ensures ∙ (ap negated c.unsigned_of.ensures ∙ sym (signed_some c.args.rest.now c.if-rest-eq0.false))
+returns c = rw (c.in-Some.ensures.cases.0, c.in_ok-digit_of.ensures.2) (signed_minus _ _ _ c.in_ok-v.ensures c.if-v-eq0.false)

@@ -1,13 +1,7 @@
--- `sheet::walk::behind_part` meets its contract: it is `behind_end` of where the part ends. Assumes nothing.
-use Rattle.std.proofs.Common.{length, ap, ◌∙◌}
-use Rattle.sheet.specs.Places.{behind_end}
+-- `sheet::walk::behind_part` meets its contract. Assumes nothing.
+use Rattle.std.proofs.Common.{◌-◌, ◌^◌, arith}
+use Rattle.sheet.proofs.Parts.{part_room}
 use Rattle.sheet.proofs.walk.behind_part.Goals as goal
 
-pub part_end-requires : goal.part_end-requires
-part_end-requires c = tt
-
-pub behind_end-requires : goal.behind_end-requires
-behind_end-requires c = tt
-
-pub returns : goal.returns
-returns c = c.behind_end.ensures ∙ ap (behind_end (length c.args.text.now)) c.part_end.ensures
+pub overflow_add-part_end : goal.overflow_add-part_end
+overflow_add-part_end c = let a = c.args in rw c.part_at.ensures (omega (arith, part_room a.end a.text.now a.at (2 ^ 64 - 1) (omega arith) (omega arith)))

@@ -5,17 +5,8 @@ use Rattle.sheet.proofs.write.+put_digits.Goals as goal
 pub returns-then-most-eq0 : goal.returns-then-most-eq0
 returns-then-most-eq0 t c = wrote_none _ _ _ _ c.if-most-eq0.true
 
-pub put_byte-requires : goal.put_byte-requires
-put_byte-requires t c = omega (arith, c.if-most-eq0.false)
-
 pub returns-then-n-lt10 : goal.returns-then-n-lt10
 returns-then-n-lt10 t c = wrote_one _ _ _ _ _ _ c.if-most-eq0.false (search rules) c.put_byte.ensures
-
-pub overflow_sub-most : goal.overflow_sub-most
-overflow_sub-most t c = omega (arith, c.if-most-eq0.false)
-
-pub put_digits-last-requires : goal.put_digits-last-requires
-put_digits-last-requires t c = (omega (arith, c.if-most-eq0.false), omega (arith, c.if-most-eq0.false))
 
 pub put_byte-requires-2 : goal.put_byte-requires-2
 put_byte-requires-2 t c = omega (
