@@ -5,9 +5,9 @@ use mathlib.Core.Path.{◌≡◌, refl, sym, ap, ◌∙◌, subst}
 use mathlib.Core.Bool.{Bool, true, false}
 use mathlib.Core.List.{List, ◌++◌, map}
 use lib.Dec.{leb}
-use lib.ListN.{length, drop}
+use lib.ListN.{length, take, drop, length-append, length-map}
 use borrow.Author.Tests.{le-leb, lt-leb}
-use Rattle.std.proofs.Common.{Option, Some, None, Result, Ok, Err}
+use Rattle.std.proofs.Common.{Option, Some, None, Result, Ok, Err, take_at}
 use Rattle.base.specs.declared.refusal.Reason.{Reason}
 use Rattle.base.specs.declared.refusal.Reason.TheVariants.{Unread, TooMany, OutOfRange, IdTaken, NotThere, Unplaced, NoRoom, NoLane, BadBox}
 use Rattle.base.specs.declared.refusal.Refusal.{Refusal}
@@ -24,12 +24,14 @@ use Rattle.board_plan.specs.TextPlan.{fits_lent, LINE_MOST}
 use Rattle.board_plan.proofs.Fitting.{fits_all}
 use Rattle.board_plan.proofs.Planned.{planned_counts}
 use Rattle.board.proofs.Planning.{lanes_from}
+use Rattle.routes.specs.Buffers.{rerouter_row, wire_row, port_row}
 use Rattle.routes.specs.Plan.{finished, laid_groups}
 use Rattle.routes.specs.PlanSheet.{refusal_sheet, plan_sheet}
 use Rattle.routes.specs.Route.{Routed, turned_away, plan, routed_by, routed, sheet_of}
 use Rattle.routes.proofs.Room.{room_finished}
 use Rattle.board.proofs.Accepting.{sheet_accepted}
 use Rattle.routes_plan_sheet.specs.Held.{PlanHeld}
+use Rattle.routes_plan_sheet.proofs.PlanWritten.{front_written}
 use Rattle.routes_gutter.specs.Bus.{BusStands}
 use Rattle.routes_calls.specs.Finish.{PlanTexted}
 use Rattle.routes.specs.declared.bus.BusCounts.{BusCounts}
@@ -129,28 +131,6 @@ answered_refused most text lent old old_wires oldPorts oldAnswers rerouters bus_
 -- The finished plan as its text is written from the buffers.
 module _ (most : Counts) (text : List ℕ) (lent : Lent) (low : WithinLibrary most) (old old_wires oldPorts oldAnswers rerouters bus_wires ports answers : List (List ℕ)) (c : Counts) (held : BusCounts) (g : ℕ)
     (t : PlanTold (planning most (fits_lent lent) text) old old_wires oldPorts oldAnswers rerouters bus_wires ports answers c held g) where
-  pub plan_held : PlanHeld t.on_board t.lanes answers c.pages rerouters held.rerouters bus_wires held.bus_wires ports held.ports c.wires g
-  plan_held =
-      let b = t.on_board in
-      let ps = t.lanes in
-      let from = lanes_from most text (fits_lent lent) b ps t.is in
-      let s = t.stands in
-      record {
-        accepted = sheet_accepted most text b low from.accepted;
-        lanes = from.lanes;
-        rest_answers = drop (length ps) oldAnswers;
-        page_rows = t.answers_are;
-        page_count = ap (λ (d : Counts). d.pages) t.counted ∙ sym (planned_counts b ps from.lanes).0;
-        old = old;
-        old_wires = old_wires;
-        bus_rows = record { rerouter_rows = s.rerouters_are; wire_rows = s.wires_are; rerouter_count = s.rerouter_count; wire_count = s.wires };
-        rest_ports = drop (length (finished b ps).ports) oldPorts;
-        port_rows = s.ports_are;
-        port_count = s.suppressed;
-        wire_count = ap (λ (d : Counts). d.wires) t.counted;
-        group_count = t.laid;
-      }
-
   -- A line for each page, rerouter, bus wire and port, and one for the totals.
   pub plan_room : (held.rerouters ≤ lent.rerouters) × (held.bus_wires ≤ lent.bus_wires) × (128 * (c.pages + held.rerouters + held.bus_wires + held.ports + 1) ≤ lent.out)
   plan_room =
@@ -166,6 +146,45 @@ module _ (most : Counts) (text : List ℕ) (lent : Lent) (low : WithinLibrary mo
       let fr = fit.rerouters in let fw = fit.bus_wires in let fo = fit.out in
       (omega arith, omega arith, omega arith)
 
+  -- There are as many rows of each kind as are told.
+  pub plan_there : lent.rerouters ≤ length rerouters → lent.bus_wires ≤ length bus_wires
+      → (c.pages ≤ length answers) × (held.rerouters ≤ length rerouters) × (held.bus_wires ≤ length bus_wires) × (held.ports ≤ length ports)
+  plan_there lr lw =
+      let b = t.on_board in
+      let ps = t.lanes in
+      let from = lanes_from most text (fits_lent lent) b ps t.is in
+      let pages : c.pages ≡ length ps = ap (λ (d : Counts). d.pages) t.counted ∙ sym (planned_counts b ps from.lanes).0 in
+      let s = t.stands in
+      let su = s.suppressed in
+      let room = plan_room in (
+        omega (arith, ap length t.answers_are, length-append (map page_row ps) (drop (length ps) oldAnswers), length-map ps page_row),
+        omega (arith, room.0),
+        omega (arith, room.1),
+        omega (arith, ap length s.ports_are, length-append (map port_row (finished b ps).ports) (drop (length (finished b ps).ports) oldPorts), length-map (finished b ps).ports port_row),
+      )
+
+  -- Those rows are the plan.
+  pub plan_held : lent.rerouters ≤ length rerouters → lent.bus_wires ≤ length bus_wires
+      → PlanHeld t.on_board t.lanes (take c.pages answers) (take held.rerouters rerouters) (take held.bus_wires bus_wires) (take held.ports ports) c.wires g
+  plan_held lr lw =
+      let b = t.on_board in
+      let ps = t.lanes in
+      let from = lanes_from most text (fits_lent lent) b ps t.is in
+      let pages : c.pages ≡ length ps = ap (λ (d : Counts). d.pages) t.counted ∙ sym (planned_counts b ps from.lanes).0 in
+      let bus = finished b ps in
+      let s = t.stands in
+      let there = plan_there lr lw in
+      record {
+        accepted = sheet_accepted most text b low from.accepted;
+        lanes = from.lanes;
+        page_rows = (λ i. take (pages i) (t.answers_are i)) ∙ take_at (map page_row ps) (drop (length ps) oldAnswers) (length ps) (length-map ps page_row);
+        rerouter_rows = front_written rerouter_row bus.rerouters old rerouters held.rerouters s.rerouters_are s.rerouter_count there.1;
+        wire_rows = front_written wire_row bus.wires old_wires bus_wires held.bus_wires s.wires_are s.wires there.2;
+        port_rows = (λ i. take (s.suppressed i) (s.ports_are i)) ∙ take_at (map port_row bus.ports) (drop (length bus.ports) oldPorts) (length bus.ports) (length-map bus.ports port_row);
+        wire_count = ap (λ (d : Counts). d.wires) t.counted;
+        group_count = t.laid;
+      }
+
   -- The plan sheet is told.
   pub answered_plan : (q : Result PlanLaid Refusal) → PlanTexted (planning most (fits_lent lent) text) old old_wires oldPorts oldAnswers rerouters bus_wires ports answers q
       → (before after : List ℕ) (r : ℕ) → lent.out ≡ length before → Wrote before 0 (plan_sheet t.on_board t.lanes (finished t.on_board t.lanes) (laid_groups t.on_board t.lanes)) after r
@@ -180,3 +199,12 @@ module _ (most : Counts) (text : List ℕ) (lent : Lent) (low : WithinLibrary mo
       in
       answered_by old old_wires oldPorts oldAnswers rerouters bus_wires ports answers (planning most (fits_lent lent) text) q h before after (Some r)
       (subst (λ (p : Planning). Told (routed_by finished p) before after (Some r)) (sym t.is) told)
+
+-- The rows of a plan that `route_within` tells are there.
+module _ (most : Counts) (text : List ℕ) (lent : Lent) (low : WithinLibrary most) (old old_wires oldPorts oldAnswers rerouters bus_wires ports answers : List (List ℕ)) (r : Result PlanLaid Refusal) (q : PlanLaid) where
+  pub rows_there : PlanTexted (planning most (fits_lent lent) text) old old_wires oldPorts oldAnswers rerouters bus_wires ports answers r → r ≡ Ok q
+      → lent.rerouters ≤ length rerouters → lent.bus_wires ≤ length bus_wires
+      → (q.counts.pages ≤ length answers) × (q.laid.bus.rerouters ≤ length rerouters) × (q.laid.bus.bus_wires ≤ length bus_wires) × (q.laid.bus.ports ≤ length ports)
+  rows_there texted is =
+      plan_there most text lent low old old_wires oldPorts oldAnswers rerouters bus_wires ports answers q.counts q.laid.bus q.laid.groups
+      (plan_told_by old old_wires oldPorts oldAnswers rerouters bus_wires ports answers (planning most (fits_lent lent) text) r q texted is)

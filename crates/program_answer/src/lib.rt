@@ -91,14 +91,10 @@ pub fn answer_within(
             let bus = laid.bus;
             Some(write_plan(
                 out,
-                answers,
-                counts.pages,
-                rerouters,
-                bus.rerouters,
-                bus_wires,
-                bus.bus_wires,
-                ports,
-                bus.ports,
+                &answers[..counts.pages],
+                &rerouters[..bus.rerouters],
+                &bus_wires[..bus.bus_wires],
+                &ports[..bus.ports],
                 counts.wires,
                 laid.groups,
             ))

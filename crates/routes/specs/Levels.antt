@@ -51,6 +51,11 @@ kept_at dropped = none
 kept_at (shared l) = at l
 kept_at (own l) = at l
 
+abbrev pub is_own : Level → Bool
+is_own dropped = false
+is_own (shared l) = false
+is_own (own l) = true
+
 -- T4: the base of the group's previous stop, dropped later or not.
 abbrev pub previous_stop : List Stop → ℕ → Found
 previous_stop [] g = none

@@ -16,14 +16,14 @@ use Rattle.board.specs.Groups.{source_row}
 use Rattle.board.specs.Demands.{PageLanes}
 use Rattle.board.specs.Tables.{held, flag, tap_in}
 use Rattle.routes.specs.Stops.{new_group, new_row}
-use Rattle.routes.specs.Levels.{Level, Stop, unclaimed, lane_for}
+use Rattle.routes.specs.Levels.{Level, Stop, is_own, unclaimed, lane_for}
 use Rattle.routes.specs.Rerouters.{TAP_RESERVE, source}
 use Rattle.routes_taps.specs.declared.taps.Lane.{Lane}
 use Rattle.routes_taps.specs.declared.taps.Tap.{Tap}
 use Rattle.routes_taps.specs.declared.taps.News.{News}
 use Rattle.routes_taps.specs.Taps.{tap_of, tap_read, lane_read, LaneOf, NewsOf, RowHeld}
 use Rattle.routes_taps.specs.Asking
-use Rattle.routes_taps.specs.Asking.{served_at, is_own, is_kept, claim_if, head_here, link_here, headed, ask_tap, question_row, source_x}
+use Rattle.routes_taps.specs.Asking.{served_at, is_kept, claim_if, head_here, link_here, headed, ask_tap, question_row, source_x}
 use Rattle.routes_columns.specs.declared.columns.Questions.{Questions}
 use Rattle.routes_columns.specs.Columns.{lane_key, claim_at, claimed_if, ClaimsHeld, ClaimRoom, Claiming, TwoMore, head_in, headed_in, link_in, linked_in, TapTold, TapAsked, row_in, NextAsked}
 use Rattle.routes_columns.proofs.Claiming.{claim_held, one_claim}

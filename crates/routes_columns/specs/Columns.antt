@@ -11,14 +11,14 @@ use Rattle.board.specs.Groups
 use Rattle.board.specs.Demands.{PageLanes}
 use Rattle.board.specs.Tables.{flag}
 use Rattle.routes.specs.Stops.{near}
-use Rattle.routes.specs.Levels.{Level, dropped, shared, own, Stop, unclaimed}
+use Rattle.routes.specs.Levels.{Level, dropped, shared, own, Stop, is_own, unclaimed}
 use Rattle.routes.specs.Rerouters.{TAP_RESERVE}
 use Rattle.routes.specs.declared.levels.Level.TheVariants.{Dropped}
 use Rattle.routes_taps.specs.declared.taps.Lane.{Lane}
 use Rattle.routes_taps.specs.declared.taps.Tap.{Tap}
 use Rattle.routes_taps.specs.declared.taps.News.{News}
 use Rattle.routes_taps.specs.declared.taps.Reached.{Reached}
-use Rattle.routes_taps.specs.Asking.{Asking, served_at, is_kept, is_own, ask_tap, question_row}
+use Rattle.routes_taps.specs.Asking.{Asking, served_at, is_kept, ask_tap, question_row}
 use Rattle.routes_columns.specs.declared.columns.Questions.{Questions}
 
 -- The run of a lane. Behind those of the pages is one for what claims nothing.

@@ -12,7 +12,7 @@ use base::growing::put;
 use base::rows::WorkRow;
 use base::runs::sum_up;
 use lanes::table::LANE_MOST;
-use routes_taps::taps::{KIND_DROPPED, KIND_SHARED};
+use routes::levels::Level;
 
 // The number of a lane's run.
 pub fn lane_key(page: u32, lane: u32) -> usize
@@ -36,11 +36,9 @@ fn stop_key(stop: [u32; 8], pages: usize) -> usize
     requires { pages ≤ 64 }
     ensures { result ≡ own_key pages stop }
 {
-    let kind = stop[6];
     let page = stop[0] as usize;
     let lane = stop[1] as usize;
-    let own = (kind != KIND_DROPPED) & (kind != KIND_SHARED);
-    if own & (page < pages) & (lane < LANE_MOST) {
+    if Level::from(stop).is_own() & (page < pages) & (lane < LANE_MOST) {
         page * LANE_MOST + lane
     } else {
         pages * LANE_MOST

@@ -8,7 +8,7 @@ ghost use Rattle.base.specs.Views.{view};
 ghost use Rattle.routes.specs.Tables.{stop_in};
 ghost use Rattle.routes.specs.Holding.{stop_level_of};
 ghost use Rattle.routes_taps.specs.Taps.{LaneInRange, LaneRanges, LevelRange, NextInRange, WentOn, Tables, TapOn, LaidInRange};
-ghost use Rattle.routes_taps.specs.Asking.{served_at, is_own, is_kept, QuestionsIn};
+ghost use Rattle.routes_taps.specs.Asking.{served_at, QuestionsIn};
 ghost use Rattle.routes_columns.specs.Columns.{lane_key, tap_key, TapKeyed, ClaimRoom, TwoMore, ClaimsHeld, TapAsked, NextAsked, row_in, AskRoom};
 
 use crate::claims::{claim_column, lane_key, make_room, put_stops};
@@ -28,22 +28,7 @@ pub struct Questions {
 fn served_at(level: Level) -> u32
     ensures { result ≡ served_at (stop_level_of level) }
 {
-    match level {
-        Level::Dropped => 0,
-        Level::Shared(x) | Level::Own(x) => x,
-    }
-}
-
-fn is_kept(level: Level) -> bool
-    ensures { result ≡ is_kept (stop_level_of level) }
-{
-    !matches!(level, Level::Dropped)
-}
-
-fn is_own(level: Level) -> bool
-    ensures { result ≡ is_own (stop_level_of level) }
-{
-    matches!(level, Level::Own(_))
+    level.kept().unwrap_or(0)
 }
 
 // R5, R8: a group's head at its source's x, then a row's link just above its tap.
@@ -66,7 +51,7 @@ fn ask_tap(
     let wants_head = news.group & (x != MISSING);
     let head = claim_column(starts, nexts, xs, k, x, wants_head);
     let above = served_at(level) + REROUTER_SIZE;
-    let wants_link = news.row & is_own(level);
+    let wants_link = news.row & level.is_own();
     let link = claim_column(starts, nexts, xs, k, above, wants_link);
     Questions { head, link }
 }
@@ -77,7 +62,7 @@ fn question_row(l: Lane, news: News, level: Level, head: bool, link: bool) -> [u
     ensures { result ≡ row_in l news (stop_level_of level) head link }
 {
     let asks_source = head & (l.source_row != MISSING);
-    let asks_gate_side = news.column & is_kept(level);
+    let asks_gate_side = news.column & level.kept().is_some();
     [
         u32::from(head),
         u32::from(link),

@@ -5,10 +5,11 @@ use mathlib.Core.Path.{◌≡◌, refl, sym, ap, ◌∙◌}
 use mathlib.Core.Bool.{Bool, true, false, ◌&&◌}
 use mathlib.Core.List.{List, [], ◌∷◌, ◌++◌, map}
 use lib.Dec.{leb}
-use lib.ListN.{length, drop}
+use lib.ListN.{length, take, drop}
+use lib.Seq.{length-take-le}
 use borrow.Author.Tests.{leb-true, leb-false, le-leb, lt-leb}
 use Rattle.base.specs.Views.{view}
-use Rattle.base.proofs.Bools.{never, and_false}
+use Rattle.base.proofs.Bools.{and_false}
 use Rattle.std.proofs.Common.{Result, Ok, Err}
 use Rattle.base.specs.declared.refusal.Reason.TheVariants.{BadBox}
 use Rattle.base.specs.declared.refusal.Refusal.{Refusal}
@@ -31,14 +32,13 @@ use Rattle.routes.specs.Plan.{finished, laid_groups}
 use Rattle.routes.specs.Route.{Routed, turned_away, plan, routed_by, fits_plan, routed}
 use Rattle.routes.specs.declared.bus.BusCounts.{BusCounts}
 use Rattle.routes_gutter.specs.Bus.{BusStands}
-use Rattle.routes_gutter.specs.declared.laying.BusLaid.{BusLaid}
 use Rattle.routes_calls.specs.Finish.{PlanReady}
 use Rattle.routes_promise.proofs.ReadBack.{done_few, done_back}
 use Rattle.routes_hits.specs.declared.boxes.PageBox.{PageBox}
 use Rattle.routes_hits.specs.declared.list.HitCounts.{HitCounts}
-use Rattle.routes_hits.specs.declared.find.HitsFound.{HitsFound}
 use Rattle.routes_hits.specs.Hits.{on_board}
 use Rattle.routes_hits.specs.Listing.{Listed}
+use Rattle.routes_hits.proofs.Listing.{view_front}
 use Rattle.routes_hits.specs.Finding.{HITS_A_WIRE, boxed, hits_fit, hits_call, HitsCalled}
 
 -- 21 numbers a wire are lent where the ports told to planning are no more than the hit buffer has room for.
@@ -138,17 +138,28 @@ module _ {b : Board} {ps : List PageLanes} {rows : List (List ℕ)} {c : Counts}
   few : (length bus.rerouters ≤ 5 * length b.wires) × (length bus.wires ≤ 6 * length b.wires) × (length bus.ports ≤ length b.wires)
   few = let t = ready.laying.ready in done_few b t.accepted ps t.plan
 
+  -- Its rows are there.
+  pub rows_there : length rerouters ≡ length old → length bus_wires ≡ length old_wires → (held.rerouters ≤ length rerouters) × (held.bus_wires ≤ length bus_wires)
+  rows_there lr lw =
+      let t = ready.laying.ready in
+      let f0 = few.0 in let f1 = few.1 in
+      let r0 = t.bus_room.0 in let r1 = t.bus_room.1 in
+      let n = stands.rerouter_count in let k = stands.wires in
+      (omega arith, omega arith)
+
   -- Its hits can be listed.
   pub list_ready : (room : ℕ) → HITS_A_WIRE * length b.wires ≤ room → length rerouters ≡ length old → length bus_wires ≡ length old_wires
-      → (held.rerouters ≤ length rerouters) × (held.bus_wires ≤ length bus_wires) × (held.rerouters ≤ 4294967296) × (held.bus_wires ≤ 4294967296)
-      × (3 * held.rerouters + held.bus_wires ≤ room)
+      → (length (take held.rerouters rerouters) ≤ 4294967296) × (length (take held.bus_wires bus_wires) ≤ 4294967296)
+      × (3 * length (take held.rerouters rerouters) + length (take held.bus_wires bus_wires) ≤ room)
   list_ready room fits lr lw =
       let t = ready.laying.ready in
       let most = t.accepted.few_wires in
       let f0 = few.0 in let f1 = few.1 in
-      let r0 = t.bus_room.0 in let r1 = t.bus_room.1 in
       let n = stands.rerouter_count in let k = stands.wires in
-      (omega arith, omega arith, omega arith, omega arith, omega arith)
+      let there = rows_there lr lw in
+      let ln = length-take-le held.rerouters rerouters there.0 in
+      let lk = length-take-le held.bus_wires bus_wires there.1 in
+      (omega arith, omega arith, omega arith)
 
   -- The rows, read back, are the plan.
   back : bus_held rerouters held.rerouters bus_wires held.bus_wires ports held.ports ≡ bus
@@ -166,10 +177,12 @@ module _ {b : Board} {ps : List PageLanes} {rows : List (List ℕ)} {c : Counts}
   wires_back = ap (λ (z : Bus). z.wires) back
 
   pub hits_found : (q : PageBox) (call : Routed) → call ≡ plan b ps bus (laid_groups b ps) → (oldHits after : List ℕ) (found : HitCounts) (g : ℕ) (pages : List (List ℕ))
-      → Listed q (view rerouter_in rerouters held.rerouters) (view wire_in bus_wires held.bus_wires) oldHits after found → g ≡ laid_groups b ps → pages ≡ map page_row ps ++ drop (length ps) oldAnswers
+      → (held.rerouters ≤ length rerouters) × (held.bus_wires ≤ length bus_wires)
+      → Listed q (view rerouter_in (take held.rerouters rerouters) (length (take held.rerouters rerouters))) (view wire_in (take held.bus_wires bus_wires) (length (take held.bus_wires bus_wires))) oldHits after found → g ≡ laid_groups b ps → pages ≡ map page_row ps ++ drop (length ps) oldAnswers
       → HitsCalled q call oldHits old old_wires oldPorts oldAnswers after rerouters bus_wires ports pages (Ok (record { hits = found; laid = record { bus = held; groups = g } }))
-  hits_found q call e oldHits after found g pages l groups written =
-      let s : Listed q bus.rerouters bus.wires oldHits after found = rw (rerouters_back, wires_back) at l in
+  hits_found q call e oldHits after found g pages there l groups written =
+      let s : Listed q bus.rerouters bus.wires oldHits after found =
+      rw (view_front rerouter_in rerouters held.rerouters there.0 ∙ rerouters_back, view_front wire_in bus_wires held.bus_wires there.1 ∙ wires_back) at l in
       rw e
       (record {
         answer = λ i. Ok (record { hits = record { rerouters = s.rerouters i; wires = s.wires i }; laid = record { bus = record { rerouters = stands.rerouter_count i; bus_wires = stands.wires i; ports = stands.suppressed i }; groups = groups i } });

@@ -76,6 +76,11 @@ pub fn find_hits(
         answers,
     );
     let bus = laid.bus;
-    let found = list_hits(q, rerouters, bus.rerouters, bus_wires, bus.bus_wires, hits);
+    let found = list_hits(
+        q,
+        &rerouters[..bus.rerouters],
+        &bus_wires[..bus.bus_wires],
+        hits,
+    );
     Ok(HitsFound { hits: found, laid })
 }

@@ -97,21 +97,18 @@ fn put_hits<H: HitRows>(table: &H, rows: &[H::Row], hits: &mut [u32], at: usize)
     next
 }
 
-// H4, H5: the list of hits of a plan in the buffers, and the two counts.
+// H4, H5: the list of hits of a plan's rows, and the two counts.
 pub fn list_hits(
     q: PageBox,
     rerouters: &[RerouterRow],
-    n: usize,
     bus_wires: &[BusWireRow],
-    k: usize,
     hits: &mut [u32],
 ) -> HitCounts
-    requires { (n ≤ length rerouters.now) × (k ≤ length bus_wires.now) × (n ≤ 4294967296) × (k ≤ 4294967296) × (3 * n + k ≤ length hits.old) }
-    ensures { Listed q (view rerouter_in rerouters.now n) (view wire_in bus_wires.now k) hits.old hits.new result }
+    requires { (length rerouters.now ≤ 4294967296) × (length bus_wires.now ≤ 4294967296) × (3 * length rerouters.now + length bus_wires.now ≤ length hits.old) }
+    ensures { Listed q (view rerouter_in rerouters.now (length rerouters.now)) (view wire_in bus_wires.now (length bus_wires.now)) hits.old hits.new result }
 {
-    let rerouters = &rerouters[..n];
     let middle = put_hits(&Rerouters { q }, rerouters, hits, 0);
-    let end = put_hits(&BusWires { q, rerouters }, &bus_wires[..k], hits, middle);
+    let end = put_hits(&BusWires { q, rerouters }, bus_wires, hits, middle);
     HitCounts {
         rerouters: middle / 3,
         wires: end - middle,

@@ -8,7 +8,7 @@ ghost use Rattle.board.specs.Demands.{PageLanes};
 ghost use Rattle.base.specs.Views.{view};
 ghost use Rattle.board.specs.Tables.{tap_in};
 ghost use Rattle.routes.specs.Stops.{new_row, stop_x};
-ghost use Rattle.routes.specs.Levels.{Level as StopsLevel, Stop, kept_at, level_with_base, level_of, stop_for, stops_of};
+ghost use Rattle.routes.specs.Levels.{Level as StopsLevel, Stop, level_with_base, level_of, stop_for, stops_of};
 ghost use Rattle.routes.specs.Tables.{stop_in};
 ghost use Rattle.routes_levels.specs.Laying.{level_answer, stop_answer, kept_end, Ends, StopIndex, LaidFits, LaidFacts, WIRES_MOST, ROWS_MOST, LANES_MOST};
 ghost use Rattle.routes_levels.specs.Pages.{KEYS, lane_key, levels_on, claims_on, NoneFrom, PageRuns, StopLaid, RoomFor, Wide, Used, OnePage};
@@ -22,14 +22,6 @@ use routes::levels::Level;
 
 // The most wires, and so the most groups.
 pub const WIRES_MOST: usize = 8_192;
-
-// Stays (C interface): stops are rows of numbers, in work space that the caller lends.
-// How a stop's row says that it has its level: not at all, from the last kept stop, or its own.
-pub const KIND_DROPPED: u32 = 0;
-
-pub const KIND_SHARED: u32 = 1;
-
-pub const KIND_OWN: u32 = 2;
 
 // The last stops of a group: the x of the last one, and the last one that was kept.
 #[derive(Clone, Copy)]
@@ -80,22 +72,8 @@ fn stop_row(tap: [u32; 8], lane: u32, base: u32, level: Level) -> [u32; 8]
     ensures { (v : StopsLevel) → level ≡ stop_answer v
         → stop_in result ≡ record { page = (tap_in tap).page; lane = lane; group = (tap_in tap).group; row = (tap_in tap).row; base = base; level = v } }
 {
-    let (l, kind) = match level {
-        Level::Dropped => (0, KIND_DROPPED),
-        Level::Shared(l) => (l, KIND_SHARED),
-        Level::Own(l) => (l, KIND_OWN),
-    };
+    let [l, kind] = <[u32; 2]>::from(level);
     [tap[0], lane, tap[1], tap[2], base, l, kind, 0]
-}
-
-// The level that a stop is kept at, or none.
-fn kept_at(level: Level) -> Option<u32>
-    ensures { (v : StopsLevel) → level ≡ stop_answer v → result ≡ level_answer (kept_at v) }
-{
-    match level {
-        Level::Dropped => None,
-        Level::Shared(l) | Level::Own(l) => Some(l),
-    }
 }
 
 // Group `g` has a stop more, the last one from here on.
@@ -104,7 +82,7 @@ fn note_end(ends: &mut [GroupEnd], g: usize, base: u32, level: Level)
     ensures { (ss : List Stop) (s : Stop) → s.group ≡ g → s.base ≡ base → level ≡ stop_answer s.level
         → Ends ends.old ss → Ends ends.new (s ∷ ss) }
 {
-    let kept = match kept_at(level) {
+    let kept = match level.kept() {
         Some(l) => Some(KeptStop { base, level: l }),
         None => ends[g].kept,
     };

@@ -1,5 +1,5 @@
 // Levels: how far apart they are, and how many there are up to a top.
-ghost use Rattle.std.specs.Prelude.{◌≡◌, ◌+◌, leb};
+ghost use Rattle.std.specs.Prelude.{◌≡◌};
 ghost use Rattle.routes.specs.Stops.{near};
 ghost use Rattle.routes.specs.Levels.{STAGGER_STEP, levels_in};
 
@@ -13,13 +13,6 @@ pub fn is_near(x: u32, p: u32) -> bool
     ensures { result ≡ near x p }
 {
     x.abs_diff(p) < REROUTER_SIZE
-}
-
-// Whether a rerouter at `level` ends within the row.
-pub fn is_within(level: u32, top: u32) -> bool
-    ensures { result ≡ leb (level + STAGGER_STEP) top }
-{
-    STAGGER_STEP <= top.saturating_sub(level)
 }
 
 // V3: how many levels there are from a base up to a top.

@@ -1,6 +1,6 @@
--- The text that the buffers' rows give is the plan sheet of the plan that they hold.
+-- The text that the tables' rows give is the plan sheet of the plan that they hold.
 use Prim.Native.Char.{code}
-use Rattle.std.proofs.Common.{◌≡◌, ℕ, suc, ◌-◌, List, [], ◌∷◌, ◌++◌, map, reverse, length, get_or, take, sym, refl, ap, ◌∙◌, append_assoc, arith}
+use Rattle.std.proofs.Common.{◌≡◌, ℕ, suc, ◌-◌, List, [], ◌∷◌, ◌++◌, map, reverse, length, get_or, sym, refl, ap, ◌∙◌, append_assoc, arith}
 use mathlib.Core.List.{Memᴰ}
 use Rattle.sheet.specs.Table.{MISSING}
 use Rattle.sheet.specs.Written.{decimal, number_text}
@@ -15,7 +15,7 @@ use Rattle.routes_plan_sheet.specs.declared.plan_sheet.Totals.{Totals}
 use Rattle.routes.proofs.Rows.{RerouterFits, EndFit, CarriesFit, WireFits, rerouter_back}
 use Rattle.routes.specs.PlanSheet.{line, numbered, lane_line, rerouter_line, wire_line, port_line, end_fields, carries_fields, plan_sheet, total_line}
 use Rattle.routes_plan_sheet.proofs.Lines.{letter_port}
-use Rattle.routes_plan_sheet.specs.Fields.{rerouter_line_in, wire_text, wire_text_in, port_line_in, lane_line_in, letter_of, total_text, plan_text}
+use Rattle.routes_plan_sheet.specs.Fields.{rerouter_line_in, wire_text, wire_text_in, port_line_in, lane_line_in, letter_of, total_text, rows_text}
 
 -- Lines by rows are lines by elements, where each row gives its element's line.
 pub numbered_rows {ℓ} : {A : Type ℓ} (row : A → List ℕ) (oneIn : ℕ → List ℕ → List ℕ) (one : ℕ → A → List ℕ) (Fits : A → Type 0)
@@ -70,32 +70,32 @@ wire_line_lem n w f =
     wire_text_of w.source w.target w.carries
     ∙ (λ i. line (code "B") (end_fields_lem w.source f.source i ++ (end_fields_lem w.target f.target i ++ carries_fields_lem w.carries f.carries i)))
 
--- The buffers hold a plan: the rows of its pages, rerouters, bus wires and suppressed ports, and its totals.
+-- The tables hold a plan: the rows of its pages, rerouters, bus wires and suppressed ports, and its totals.
 pub record Holds (b : Board) (ps : List PageLanes) (bus : Bus) (laid : ℕ) (pages rerouters wires ports : List (List ℕ)) (t : Totals) : Type 0 where
-  pub lanes : take (length ps) pages ≡ map page_row ps
-  pub rerouter_rows : take (length bus.rerouters) rerouters ≡ map rerouter_row (reverse bus.rerouters)
-  pub bus_wires : take (length bus.wires) wires ≡ map wire_row (reverse bus.wires)
-  pub suppressed : take (length bus.ports) ports ≡ map port_row bus.ports
+  pub lanes : pages ≡ map page_row ps
+  pub rerouter_rows : rerouters ≡ map rerouter_row (reverse bus.rerouters)
+  pub bus_wires : wires ≡ map wire_row (reverse bus.wires)
+  pub suppressed : ports ≡ map port_row bus.ports
   pub rerouters_fit : (k : Rerouter) → Memᴰ k (reverse bus.rerouters) → RerouterFits k
   pub wires_fit : (w : BusWire) → Memᴰ w (reverse bus.wires) → WireFits w
   pub total : t ≡ record { rerouters = length bus.rerouters; bus_wires = length bus.wires; deliveries = deliveries bus; direct = length b.wires - deliveries bus; laid = laid }
 
 pub plan_text_lem : (b : Board) (ps : List PageLanes) (bus : Bus) (laid : ℕ) (pages rerouters wires ports : List (List ℕ)) (t : Totals)
     → Holds b ps bus laid pages rerouters wires ports t
-    → plan_text pages (length ps) rerouters (length bus.rerouters) wires (length bus.wires) ports (length bus.ports) t ≡ plan_sheet b ps bus laid
+    → rows_text pages rerouters wires ports t ≡ plan_sheet b ps bus laid
 unfolding plan_sheet total_line
 plan_text_lem b ps bus laid pages rerouters wires ports t h =
     (λ i. pages_eq i ++ (rerouters_eq i ++ wires_eq i ++ (ports_eq i ++ total_text (h.total i))))
     ∙ ap (λ l. numbered lane_line 0 ps ++ l) (append_assoc (numbered rerouter_line 0 (reverse bus.rerouters)) (numbered wire_line 0 (reverse bus.wires)) (numbered port_line 0 bus.ports ++ total_line b bus laid))
   where
-    pages_eq : numbered lane_line_in 0 (take (length ps) pages) ≡ numbered lane_line 0 ps
+    pages_eq : numbered lane_line_in 0 pages ≡ numbered lane_line 0 ps
     pages_eq = ap (numbered lane_line_in 0) h.lanes ∙ numbered_rows page_row lane_line_in lane_line (λ _. Unit {0}) lane_line_lem ps (λ x m. tt) 0
 
-    rerouters_eq : numbered rerouter_line_in 0 (take (length bus.rerouters) rerouters) ≡ numbered rerouter_line 0 (reverse bus.rerouters)
+    rerouters_eq : numbered rerouter_line_in 0 rerouters ≡ numbered rerouter_line 0 (reverse bus.rerouters)
     rerouters_eq = ap (numbered rerouter_line_in 0) h.rerouter_rows ∙ numbered_rows rerouter_row rerouter_line_in rerouter_line RerouterFits rerouter_line_lem (reverse bus.rerouters) h.rerouters_fit 0
 
-    wires_eq : numbered wire_text_in 0 (take (length bus.wires) wires) ≡ numbered wire_line 0 (reverse bus.wires)
+    wires_eq : numbered wire_text_in 0 wires ≡ numbered wire_line 0 (reverse bus.wires)
     wires_eq = ap (numbered wire_text_in 0) h.bus_wires ∙ numbered_rows wire_row wire_text_in wire_line WireFits wire_line_lem (reverse bus.wires) h.wires_fit 0
 
-    ports_eq : numbered port_line_in 0 (take (length bus.ports) ports) ≡ numbered port_line 0 bus.ports
+    ports_eq : numbered port_line_in 0 ports ≡ numbered port_line 0 bus.ports
     ports_eq = ap (numbered port_line_in 0) h.suppressed ∙ numbered_rows port_row port_line_in port_line (λ _. Unit {0}) port_line_lem bus.ports (λ x m. tt) 0

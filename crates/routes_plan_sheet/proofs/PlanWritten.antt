@@ -1,6 +1,6 @@
--- The buffers of a finished plan give its plan sheet.
-use Rattle.std.proofs.Common.{◌≡◌, ℕ, zero, suc, ◌+◌, ◌*◌, ◌<◌, ◌≤◌, List, [], ◌∷◌, ◌++◌, map, length, take, sym, refl, ap, ◌∙◌, subst, arith, length-append, length-set, take_at}
-use lib.ListN.{length-map}
+-- The tables of a finished plan give its plan sheet.
+use Rattle.std.proofs.Common.{◌≡◌, ℕ, zero, suc, ◌+◌, ◌*◌, ◌<◌, ◌≤◌, List, [], ◌∷◌, ◌++◌, map, reverse, length, take, count_by, sym, refl, ap, ◌∙◌, subst, arith, length-append, length-set}
+use lib.ListN.{length-map, length-reverse}
 use Rattle.sheet.specs.Table.{MISSING}
 use Rattle.sheet.specs.Written.{Wrote}
 use Rattle.board.specs.Board.{Board}
@@ -13,7 +13,7 @@ use Rattle.base.proofs.Lists.{by_test, in_reverse}
 use Rattle.routes.specs.Bus.{Bus, Rerouter, BusWire, End, port, rerouter, Carries, onward, delivery}
 use Rattle.routes.specs.Buffers.{rerouter_row, wire_row, port_row}
 use Rattle.routes.specs.Tables.{written_over}
-use Rattle.routes_plan_sheet.specs.Fields.{plan_text, PlanFits}
+use Rattle.routes_plan_sheet.specs.Fields.{rows_text}
 use Rattle.routes.specs.Stops.{laid_taps, new_group}
 use Rattle.routes.specs.Plan.{deliveries, group_count, finished, laid_groups}
 use Rattle.routes.specs.PlanSheet.{plan_sheet}
@@ -22,11 +22,11 @@ use Rattle.routes.proofs.Views.{rows_written}
 use Rattle.routes.proofs.Rows.{RerouterFits, EndFit, CarriesFit, WireFits}
 use Rattle.routes_plan_sheet.proofs.PlanText.{Holds, plan_text_lem}
 use Rattle.routes.proofs.Laid.{laid_short}
-use Rattle.routes_plan_sheet.specs.Held.{delivery_rows, totals_of, PlanHeld}
+use Rattle.routes_plan_sheet.specs.Held.{names_wire, totals_of, PlanHeld}
 use Rattle.board.proofs.Reach.{All}
 use Rattle.routes_plan_sheet.proofs.InRange.{RerouterInRange, EndInRange, CarriesInRange, WireInRange, PlanInRange}
 use Rattle.routes_plan_sheet.proofs.PlanRange.{plan_in_range}
-use Rattle.routes_plan_sheet.proofs.Deliveries.{rows_deliver}
+use Rattle.routes_plan_sheet.proofs.Deliveries.{deliveries_counted}
 
 -- What is in range fits the rows of the buffers.
 pub rerouter_fits : (k : Rerouter) → RerouterInRange k → RerouterFits k
@@ -44,10 +44,15 @@ pub wire_fits : (wires n : ℕ) → wires < MISSING → n < MISSING → (w : Bus
 wire_fits wires n h k w r =
     record { source = end_fits n w.source r.source; target = end_fits n w.target r.target; carries = carries_fit wires n h k w.carries r.carries }
 
--- Writing over a table keeps its length.
-written_long : {A : Type 0} (row : A → List ℕ) (l : List A) (old : List (List ℕ)) → length (written_over row l old) ≡ length old
-written_long row [] old = refl
-written_long row (x ∷ l) old = length-set (written_over row l old) (length l) (row x) ∙ written_long row l old
+-- The first rows of a table that a list was written over, as many as the list is long.
+pub front_written : {A : Type 0} (row : A → List ℕ) (l : List A) (old rows : List (List ℕ)) (n : ℕ) → rows ≡ written_over row l old → n ≡ length l → n ≤ length rows
+    → take n rows ≡ map row (reverse l)
+front_written row l old rows n is count there =
+    (λ i. take (count i) (is i)) ∙ (rows_written row l old (omega (arith, there, ap length is, written_long row l old, count))).0
+  where
+    written_long : {A : Type 0} (row : A → List ℕ) (l : List A) (old : List (List ℕ)) → length (written_over row l old) ≡ length old
+    written_long row [] old = refl
+    written_long row (x ∷ l) old = length-set (written_over row l old) (length l) (row x) ∙ written_long row l old
 
 -- There is a lane count for each page, and at most a laid group for each tap.
 planned_long : (b : Board) (ps : List PageLanes) → plan_lanes b ≡ planned ps → length ps ≡ length b.pages
@@ -76,8 +81,7 @@ groups_most : (l : List Tap) → group_count l ≤ length l
 groups_most [] = omega arith
 groups_most (t ∷ l) = let ih = groups_most l in by_test (λ m. m ≤ suc (length l)) (new_group l t) (λ e. omega arith) (λ e. omega arith)
 
-module _ (b : Board) (ps : List PageLanes) (answers : List (List ℕ)) (p : ℕ) (rerouters : List (List ℕ)) (n : ℕ) (bus_wires : List (List ℕ)) (k : ℕ) (ports : List (List ℕ)) (u wires groups : ℕ)
-    (h : PlanHeld b ps answers p rerouters n bus_wires k ports u wires groups) where
+module _ (b : Board) (ps : List PageLanes) (answers rerouters bus_wires ports : List (List ℕ)) (wires groups : ℕ) (h : PlanHeld b ps answers rerouters bus_wires ports wires groups) where
   abbrev bus : Bus
   bus = finished b ps
 
@@ -88,62 +92,52 @@ module _ (b : Board) (ps : List PageLanes) (answers : List (List ℕ)) (p : ℕ)
   wires_fit_lem w m =
       wire_fits (length b.wires) (length bus.rerouters) (omega (arith, range.few_on_board)) (omega (arith, range.few_rerouters)) w (range.ranges.wires w m)
 
-  module _ (rerouters_there : n ≤ length rerouters) (wiresThere : k ≤ length bus_wires) where
-    -- The deliveries counted by the rows.
-    deliveries_held : delivery_rows bus_wires k ≡ deliveries bus
-    unfolding deliveries
-    deliveries_held =
-        let rows = h.bus_rows.wire_rows in
-        let count = h.bus_rows.wire_count in
-        rw (rows, count) (rows_deliver bus.wires h.old_wires (omega (arith, wiresThere, ap length rows, written_long wire_row bus.wires h.old_wires, count)) wires_fit_lem)
+  -- There are as many rows as things.
+  pub long : (length answers ≡ length ps) × (length rerouters ≡ length bus.rerouters) × (length bus_wires ≡ length bus.wires) × (length ports ≡ length bus.ports)
+  long = (
+    ap length h.page_rows ∙ length-map ps page_row,
+    ap length h.rerouter_rows ∙ length-map (reverse bus.rerouters) rerouter_row ∙ length-reverse bus.rerouters,
+    ap length h.wire_rows ∙ length-map (reverse bus.wires) wire_row ∙ length-reverse bus.wires,
+    ap length h.port_rows ∙ length-map bus.ports port_row,
+  )
 
-    holds : Holds b ps bus (laid_groups b ps) answers rerouters bus_wires ports (totals_of n k (delivery_rows bus_wires k) wires groups)
-    holds =
-        let rerouter_rows = h.bus_rows.rerouter_rows in
-        let rerouter_count = h.bus_rows.rerouter_count in
-        let rows = h.bus_rows.wire_rows in
-        let count = h.bus_rows.wire_count in
-        record {
-          lanes = ap (take (length ps)) h.page_rows ∙ take_at (map page_row ps) h.rest_answers (length ps) (length-map ps page_row);
-          rerouter_rows = ap (take (length bus.rerouters)) rerouter_rows ∙ (rows_written rerouter_row bus.rerouters h.old (omega (arith, rerouters_there, ap length rerouter_rows, written_long rerouter_row bus.rerouters h.old, rerouter_count))).0;
-          bus_wires = ap (take (length bus.wires)) rows ∙ (rows_written wire_row bus.wires h.old_wires (omega (arith, wiresThere, ap length rows, written_long wire_row bus.wires h.old_wires, count))).0;
-          suppressed = ap (take (length bus.ports)) h.port_rows ∙ take_at (map port_row bus.ports) h.rest_ports (length bus.ports) (length-map bus.ports port_row);
-          rerouters_fit = λ j m. rerouter_fits j (range.ranges.rerouters j (in_reverse bus.rerouters m));
-          wires_fit = λ w m. wires_fit_lem w (in_reverse bus.wires m);
-          total = λ i. totals_of (rerouter_count i) (count i) (deliveries_held i) (h.wire_count i) (h.group_count i);
-        }
+  -- The deliveries counted by the rows.
+  deliveries_held : count_by names_wire bus_wires ≡ deliveries bus
+  unfolding deliveries
+  deliveries_held = ap (λ rows. count_by names_wire rows) h.wire_rows ∙ deliveries_counted bus.wires wires_fit_lem
 
-    pub plan_written : plan_text answers p rerouters n bus_wires k ports u (totals_of n k (delivery_rows bus_wires k) wires groups) ≡ plan_sheet b ps bus (laid_groups b ps)
-    plan_written =
-        (λ i. plan_text answers (h.page_count i) rerouters (h.bus_rows.rerouter_count i) bus_wires (h.bus_rows.wire_count i) ports (h.port_count i) (totals_of n k (delivery_rows bus_wires k) wires groups))
-        ∙ plan_text_lem b ps bus (laid_groups b ps) answers rerouters bus_wires ports (totals_of n k (delivery_rows bus_wires k) wires groups) holds
+  abbrev counted : Totals
+  counted = totals_of (length rerouters) (length bus_wires) (count_by names_wire bus_wires) wires groups
 
-    -- What is written of the buffers, with the totals that the rows give.
-    pub wrote_plan : (out new : List ℕ) (r d : ℕ) (t : Totals) → d ≡ delivery_rows bus_wires k → t ≡ totals_of n k d wires groups
-        → Wrote out 0 (plan_text answers p rerouters n bus_wires k ports u t) new r → Wrote out 0 (plan_sheet b ps bus (laid_groups b ps)) new r
-    wrote_plan out new r d t counted totals wrote =
-        let same : t ≡ totals_of n k (delivery_rows bus_wires k) wires groups = totals ∙ ap (λ e. totals_of n k e wires groups) counted in
-        subst (λ text. Wrote out 0 text new r) (ap (plan_text answers p rerouters n bus_wires k ports u) same ∙ plan_written) wrote
+  holds : Holds b ps bus (laid_groups b ps) answers rerouters bus_wires ports counted
+  holds =
+      record {
+        lanes = h.page_rows;
+        rerouter_rows = h.rerouter_rows;
+        bus_wires = h.wire_rows;
+        suppressed = h.port_rows;
+        rerouters_fit = λ j m. rerouter_fits j (range.ranges.rerouters j (in_reverse bus.rerouters m));
+        wires_fit = λ w m. wires_fit_lem w (in_reverse bus.wires m);
+        total = λ i. totals_of (long.1 i) (long.2 i) (deliveries_held i) (h.wire_count i) (h.group_count i);
+      }
 
-    -- A buffer of 128 bytes for each line has room.
-    pub plan_fits_lem : (out : List ℕ) → 128 * (p + n + k + u + 1) ≤ length out
-        → PlanFits out answers p rerouters n bus_wires k ports u × (wires < MISSING) × (groups < MISSING)
-    unfolding laid_groups
-    plan_fits_lem out room =
-        let page = h.page_count in
-        let pages : length ps ≤ 64 = omega (arith, planned_long b ps h.lanes, h.accepted.few_pages) in
-        let rerouter_count = h.bus_rows.rerouter_count in
-        let wire = h.bus_rows.wire_count in
-        let suppressed = h.port_count in
-        let few = range.few_on_board in (
-          record {
-            room = omega arith;
-            answers = omega (arith, ap length h.page_rows, length-append (map page_row ps) h.rest_answers, length-map ps page_row);
-            rerouters_there = rerouters_there;
-            bus_wires = wiresThere;
-            suppressed = omega (arith, ap length h.port_rows, length-append (map port_row bus.ports) h.rest_ports, length-map bus.ports port_row);
-            few = (omega arith, omega (arith, range.few_rerouters), omega (arith, range.few_wires), omega (arith, range.few_ports));
-          },
-          omega (arith, h.wire_count),
-          omega (arith, h.group_count, groups_most (laid_taps b (taps_of b) ps), laid_short b ps),
-        )
+  pub plan_written : rows_text answers rerouters bus_wires ports counted ≡ plan_sheet b ps bus (laid_groups b ps)
+  plan_written = plan_text_lem b ps bus (laid_groups b ps) answers rerouters bus_wires ports counted holds
+
+  -- What is written of the tables, with the totals that the rows give.
+  pub wrote_plan : (out new : List ℕ) (r d : ℕ) (t : Totals) → d ≡ count_by names_wire bus_wires → t ≡ totals_of (length rerouters) (length bus_wires) d wires groups
+      → Wrote out 0 (rows_text answers rerouters bus_wires ports t) new r → Wrote out 0 (plan_sheet b ps bus (laid_groups b ps)) new r
+  wrote_plan out new r d t deliveries totals wrote =
+      let same : t ≡ counted = totals ∙ ap (λ e. totals_of (length rerouters) (length bus_wires) e wires groups) deliveries in
+      subst (λ text. Wrote out 0 text new r) (ap (rows_text answers rerouters bus_wires ports) same ∙ plan_written) wrote
+
+  -- A line's number, and the counts of the last line, are numbers of 32 bits.
+  pub plan_fits_lem : ((length answers < MISSING) × (length rerouters < MISSING) × (length bus_wires < MISSING) × (length ports < MISSING)) × (wires < MISSING) × (groups < MISSING)
+  unfolding laid_groups
+  plan_fits_lem =
+      let pages : length ps ≤ 64 = omega (arith, planned_long b ps h.lanes, h.accepted.few_pages) in
+      let few = range.few_on_board in (
+        (omega (arith, long.0), omega (arith, long.1, range.few_rerouters), omega (arith, long.2, range.few_wires), omega (arith, long.3, range.few_ports)),
+        omega (arith, h.wire_count),
+        omega (arith, h.group_count, groups_most (laid_taps b (taps_of b) ps), laid_short b ps),
+      )

@@ -52,16 +52,3 @@ total_text t =
 abbrev pub rows_text : List (List ℕ) → List (List ℕ) → List (List ℕ) → List (List ℕ) → Totals → List ℕ
 rows_text pages rerouters wires ports t =
     numbered lane_line_in 0 pages ++ (numbered rerouter_line_in 0 rerouters ++ numbered wire_text_in 0 wires ++ (numbered port_line_in 0 ports ++ total_text t))
-
--- The same of the first rows of buffers.
-abbrev pub plan_text : List (List ℕ) → ℕ → List (List ℕ) → ℕ → List (List ℕ) → ℕ → List (List ℕ) → ℕ → Totals → List ℕ
-plan_text pages p rerouters n wires k ports u t = rows_text (take p pages) (take n rerouters) (take k wires) (take u ports) t
-
--- Room for it.
-pub record PlanFits (out : List ℕ) (pages : List (List ℕ)) (p : ℕ) (rerouters : List (List ℕ)) (n : ℕ) (wires : List (List ℕ)) (k : ℕ) (ports : List (List ℕ)) (u : ℕ) : Type 0 where
-  pub room : 128 * p + 128 * n + 128 * k + 128 * u + 128 ≤ length out
-  pub answers : p ≤ length pages
-  pub rerouters_there : n ≤ length rerouters
-  pub bus_wires : k ≤ length wires
-  pub suppressed : u ≤ length ports
-  pub few : (p < 4294967295) × (n < 4294967295) × (k < 4294967295) × (u < 4294967295)

@@ -6,12 +6,11 @@ use base::rows::{BusWireRow, PageRow, PortRow, RerouterRow};
 
 pub mod plan_sheet;
 
-ghost use Rattle.std.specs.Prelude.{◌≡◌, ◌<◌, ◌≤◌, List, length};
+ghost use Rattle.std.specs.Prelude.{◌≡◌, ◌+◌, ◌*◌, ◌<◌, ◌≤◌, List, length};
 ghost use Rattle.std.specs.List.{count_by};
 ghost use Rattle.sheet.specs.Written.{Wrote};
 ghost use Rattle.board.specs.Board.{Board};
 ghost use Rattle.board.specs.Demands.{PageLanes};
-ghost use Rattle.routes_plan_sheet.specs.Fields.{PlanFits};
 ghost use Rattle.routes.specs.Plan.{finished, laid_groups};
 ghost use Rattle.routes.specs.PlanSheet.{plan_sheet};
 ghost use Rattle.routes_plan_sheet.specs.Held.{names_wire, totals_of, PlanHeld};
@@ -39,35 +38,24 @@ fn totals(n: usize, k: usize, deliveries: usize, wires: usize, groups: usize) ->
     }
 }
 
-// Writes the plan sheet of the finished plan that the buffers hold: how many bytes it has.
+// Writes the plan sheet of the finished plan that the tables hold: how many bytes it has.
 pub fn write_plan(
     out: &mut [u8],
     answers: &[PageRow],
-    p: usize,
     rerouters: &[RerouterRow],
-    n: usize,
     bus_wires: &[BusWireRow],
-    k: usize,
     ports: &[PortRow],
-    u: usize,
     wires: usize,
     groups: usize,
 ) -> usize
-    requires plan_fits { PlanFits out.old answers.now p rerouters.now n bus_wires.now k ports.now u }
+    requires room { 128 * length answers.now + 128 * length rerouters.now + 128 * length bus_wires.now + 128 * length ports.now + 128 ≤ length out.old }
+    requires few { (length answers.now < 4294967295) × (length rerouters.now < 4294967295) × (length bus_wires.now < 4294967295) × (length ports.now < 4294967295) }
     requires wires_bound { (wires < 4294967295) × (groups < 4294967295) }
     ensures { (b : Board) (ps : List PageLanes)
-        → PlanHeld b ps answers.now p rerouters.now n bus_wires.now k ports.now u wires groups
+        → PlanHeld b ps answers.now rerouters.now bus_wires.now ports.now wires groups
         → Wrote out.old 0 (plan_sheet b ps (finished b ps) (laid_groups b ps)) out.new result }
 {
-    let bus_wires = &bus_wires[..k];
     let deliveries = count_deliveries(bus_wires);
-    let t = totals(n, k, deliveries, wires, groups);
-    put_plan(
-        out,
-        &answers[..p],
-        &rerouters[..n],
-        bus_wires,
-        &ports[..u],
-        t,
-    )
+    let t = totals(rerouters.len(), bus_wires.len(), deliveries, wires, groups);
+    put_plan(out, answers, rerouters, bus_wires, ports, t)
 }

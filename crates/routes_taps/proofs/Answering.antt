@@ -18,10 +18,10 @@ use Rattle.board.specs.Groups.{Tap, source_row}
 use Rattle.board.specs.Demands.{PageLanes}
 use Rattle.board.specs.Tables.{held, tap_in}
 use Rattle.routes.specs.Stops.{near, new_group, new_row, new_column}
-use Rattle.routes.specs.Levels.{Level, dropped, shared, own, Stop, claim_near, unclaimed, lane_for}
+use Rattle.routes.specs.Levels.{Level, dropped, shared, own, Stop, is_own, claim_near, unclaimed, lane_for}
 use Rattle.routes.specs.Bus.{Bus, Feed, Rerouter, place, deliver, empty_bus, beside_row, clear_of_row, part_head, part_link}
 use Rattle.routes.specs.Rerouters.{Emission, TAP_RESERVE, rerouter_near, column_free, source, level_here, stops_before, lane_rerouter, row_rerouter, head_rerouter, link_rerouter, tap_rerouter, source_rerouter, gate_side_rerouter, clear_for, hang_on, tap_off, chain_on, with_source, start_group, with_link, start_row, with_gate_side, serve, emit_tap, emit}
-use Rattle.routes_taps.specs.Asking.{Candidate, is_clear, booked, Answers, Asking, candidate_if, served_at, is_kept, is_own, claim, claim_if, source_x, head_here, link_here, asks_source, source_candidate, gate_side_candidate, headed, sourced, ask_tap, answers_of, ask, source_by, at_port, group_by, link_by, row_by, serve_by, tap_by, emit_by, Right}
+use Rattle.routes_taps.specs.Asking.{Candidate, is_clear, booked, Answers, Asking, candidate_if, served_at, is_kept, claim, claim_if, source_x, head_here, link_here, asks_source, source_candidate, gate_side_candidate, headed, sourced, ask_tap, answers_of, ask, source_by, at_port, group_by, link_by, row_by, serve_by, tap_by, emit_by, Right}
 
 -- A tap has a row, and its source too where that is known.
 pub record RowsThere (b : Board) (t : Tap) : Type 0 where

@@ -9,7 +9,7 @@ use Rattle.board.specs.Groups.{Tap, source_row}
 use Rattle.board.specs.Demands.{PageLanes}
 use Rattle.board.specs.Tables.{held, flag}
 use Rattle.routes.specs.Stops.{new_group, new_row, new_column}
-use Rattle.routes.specs.Levels.{Level, dropped, shared, own, Stop, unclaimed, lane_for}
+use Rattle.routes.specs.Levels.{Level, dropped, shared, own, Stop, is_own, unclaimed, lane_for}
 use Rattle.routes.specs.Bus.{deliver, empty_bus, port_feed}
 use Rattle.routes.specs.Rerouters.{Emission, TAP_RESERVE, source, level_here, stops_before, head_rerouter, link_rerouter, tap_rerouter, source_rerouter, gate_side_rerouter, hang_on, tap_off, chain_on, no_feed}
 
@@ -60,11 +60,6 @@ abbrev pub is_kept : Level → Bool
 is_kept dropped = false
 is_kept (shared x) = true
 is_kept (own x) = true
-
-abbrev pub is_own : Level → Bool
-is_own dropped = false
-is_own (shared x) = false
-is_own (own x) = true
 
 module _ (b : Board) (ts : List Tap) (ps : List PageLanes) where
   -- A head or link at x in the column of the tap's lane claims its span as a level does.

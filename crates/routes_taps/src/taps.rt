@@ -3,8 +3,6 @@ ghost use Rattle.std.specs.Prelude.{◌≡◌, true, [], ◌+◌, ◌-◌, ◌*�
 ghost use Rattle.board.specs.Demands.{lane_y};
 ghost use Rattle.base.specs.Views.{view};
 ghost use Rattle.board.specs.Tables.{tap_in};
-ghost use Rattle.routes.specs.Tables.{stop_in};
-ghost use Rattle.routes.specs.Holding.{stop_level_of};
 ghost use Rattle.routes_taps.specs.Taps.{rotation_over, row_on_page, LaneInRange, lane_read, NewsOf, ReachedNext};
 
 use base::ids::NodeId;
@@ -14,11 +12,6 @@ use routes::levels::Level;
 
 // R6, R10: how far from its brick a source or gate-side rerouter stands.
 pub const TAP_RESERVE: u32 = 5;
-
-// The kind of a stop's level in its row; any other number is a level of its own.
-pub const KIND_DROPPED: u32 = 0;
-
-pub const KIND_SHARED: u32 = 1;
 
 // One wire that a lane carries, and where its target stands.
 #[derive(Clone, Copy)]
@@ -178,17 +171,6 @@ pub fn news_at(laid: &[WorkRow], k: usize) -> News
     }
 }
 
-// The level in a stop's row.
-fn level_of(stop: [u32; 8]) -> Level
-    ensures { stop_level_of result ≡ (stop_in stop).level }
-{
-    match stop[6] {
-        KIND_DROPPED => Level::Dropped,
-        KIND_SHARED => Level::Shared(stop[5]),
-        _ => Level::Own(stop[5]),
-    }
-}
-
 // A new row reaches the next stop.
 pub fn reach(stops: &[WorkRow], reached: Reached, fresh: bool) -> Reached
     requires { fresh ≡ true → reached.stops < length stops.now }
@@ -197,7 +179,7 @@ pub fn reach(stops: &[WorkRow], reached: Reached, fresh: bool) -> Reached
     if fresh {
         Reached {
             stops: reached.stops + 1,
-            level: level_of(stops[reached.stops]),
+            level: Level::from(stops[reached.stops]),
         }
     } else {
         reached

@@ -4,6 +4,7 @@ use native.Mathlib.Omega.{arith}
 use mathlib.Core.Path.{◌≡◌, sym, ap, ◌∙◌}
 use mathlib.Core.List.{List, [], ◌∷◌}
 use lib.ListN.{length}
+use lib.Seq.{length-take-le}
 use Rattle.board_plan.specs.declared.Asked.{Asked}
 use Rattle.base.proofs.Passing.{passed}
 use Rattle.board.specs.Planning.{planning}
@@ -16,7 +17,7 @@ use Rattle.routes.specs.Plan.{finished}
 use Rattle.routes_calls.specs.Finish.{PlanReady}
 use Rattle.routes_calls.proofs.Routing.{plan_ready}
 use Rattle.routes_hits.specs.Finding.{HITS_A_WIRE}
-use Rattle.routes_hits.proofs.Calling.{box_refused, box_crowded, box_away, box_told, box_call, box_room, nothing_found, list_ready, hits_found}
+use Rattle.routes_hits.proofs.Calling.{box_refused, box_crowded, box_away, box_told, box_call, box_room, nothing_found, rows_there, list_ready, hits_found}
 use Rattle.routes_hits.proofs.find.find_hits.Lts as lts
 use Rattle.routes_hits.proofs.find.find_hits.Reads as reads
 use Rattle.routes_hits.proofs.find.find_hits.Tie as tie
@@ -67,6 +68,54 @@ plan_text-requires c =
 pub finish_plan-laid-requires : goal.finish_plan-laid-requires
 finish_plan-laid-requires c =
     let w = c.before in ((told w).on_board, (told w).lanes, ready w)
+
+pub slice_bounds-list_hits-end : goal.slice_bounds-list_hits-end
+unfolding told
+slice_bounds-list_hits-end c =
+    let w = c.before.before.before.before.before.before.before.before.before.before.before in
+    let Stands : Type 0 = let a = c.args in
+    let f = c.finish_plan-laid in
+    BusStands (finished (told w).on_board (told w).lanes) a.rerouters.now a.bus_wires.now a.ports.now f.new.rerouters f.new.bus_wires f.new.ports f.result.bus in
+    let stands : Stands = (c.finish_plan-laid.ensures (told w).on_board (told w).lanes (ready w)).0 in
+    let f = c.finish_plan-laid in
+    let there = rows_there (ready w) f.result.bus stands f.auto.rerouters f.auto.bus_wires in
+    there.0
+
+pub slice_bounds-list_hits-end-2 : goal.slice_bounds-list_hits-end-2
+unfolding told
+slice_bounds-list_hits-end-2 c =
+    let w = c.before.before.before.before.before.before.before.before.before.before.before in
+    let Stands : Type 0 = let a = c.args in
+    let f = c.finish_plan-laid in
+    BusStands (finished (told w).on_board (told w).lanes) a.rerouters.now a.bus_wires.now a.ports.now f.new.rerouters f.new.bus_wires f.new.ports f.result.bus in
+    let stands : Stands = (c.finish_plan-laid.ensures (told w).on_board (told w).lanes (ready w)).0 in
+    let f = c.finish_plan-laid in
+    let there = rows_there (ready w) f.result.bus stands f.auto.rerouters f.auto.bus_wires in
+    sym (length-take-le f.result.bus.rerouters f.new.rerouters there.0)
+
+pub slice_bounds-list_hits-end-3 : goal.slice_bounds-list_hits-end-3
+unfolding told
+slice_bounds-list_hits-end-3 c =
+    let w = c.before.before.before.before.before.before.before.before.before.before.before in
+    let Stands : Type 0 = let a = c.args in
+    let f = c.finish_plan-laid in
+    BusStands (finished (told w).on_board (told w).lanes) a.rerouters.now a.bus_wires.now a.ports.now f.new.rerouters f.new.bus_wires f.new.ports f.result.bus in
+    let stands : Stands = (c.finish_plan-laid.ensures (told w).on_board (told w).lanes (ready w)).0 in
+    let f = c.finish_plan-laid in
+    let there = rows_there (ready w) f.result.bus stands f.auto.rerouters f.auto.bus_wires in
+    there.1
+
+pub slice_bounds-list_hits-end-4 : goal.slice_bounds-list_hits-end-4
+unfolding told
+slice_bounds-list_hits-end-4 c =
+    let w = c.before.before.before.before.before.before.before.before.before.before.before in
+    let Stands : Type 0 = let a = c.args in
+    let f = c.finish_plan-laid in
+    BusStands (finished (told w).on_board (told w).lanes) a.rerouters.now a.bus_wires.now a.ports.now f.new.rerouters f.new.bus_wires f.new.ports f.result.bus in
+    let stands : Stands = (c.finish_plan-laid.ensures (told w).on_board (told w).lanes (ready w)).0 in
+    let f = c.finish_plan-laid in
+    let there = rows_there (ready w) f.result.bus stands f.auto.rerouters f.auto.bus_wires in
+    sym (length-take-le f.result.bus.bus_wires f.new.bus_wires there.1)
 
 pub list_hits-found-requires : goal.list_hits-found-requires
 unfolding told
@@ -120,4 +169,4 @@ returns c =
     let a = c.args in
     let f = c.finish_plan-laid in
     let done = f.ensures (told w).on_board (told w).lanes (ready w) in
-    hits_found (ready w) f.result.bus stands a.q _ (box_call a.q a.text.now c.ask-asked.result (length a.hits.now) (length a.rerouters.now) (length a.bus_wires.now) (length a.ports.now) (length a.answers.now) (work_rows a.records.now a.facts.now a.taps.now a.groups.now a.demands.now a.keys.now a.marks.now) (asked w) p.new.records p.new.facts p.new.taps p.new.groups p.result p.ensures _ c.in_ok-planned.was _ c.in_ok-m.was (sym c.is_on_board.ensures ∙ c.if-not-is_on_board.false)) a.hits.now _ c.list_hits-found.result f.result.groups _ c.list_hits-found.ensures done.1 done.2
+    hits_found (ready w) f.result.bus stands a.q _ (box_call a.q a.text.now c.ask-asked.result (length a.hits.now) (length a.rerouters.now) (length a.bus_wires.now) (length a.ports.now) (length a.answers.now) (work_rows a.records.now a.facts.now a.taps.now a.groups.now a.demands.now a.keys.now a.marks.now) (asked w) p.new.records p.new.facts p.new.taps p.new.groups p.result p.ensures _ c.in_ok-planned.was _ c.in_ok-m.was (sym c.is_on_board.ensures ∙ c.if-not-is_on_board.false)) a.hits.now _ c.list_hits-found.result f.result.groups _ (rows_there (ready w) f.result.bus stands f.auto.rerouters f.auto.bus_wires) c.list_hits-found.ensures done.1 done.2
