@@ -91,7 +91,7 @@ def for_loops():
 
 def hands():
     """4: what a derive or the library gives: the lesser and the greater, equality, order and conversion by hand."""
-    yield from lines(r"\bfn (lesser|greater|larger|less|number|told|report|\w+_before|same_\w+|\w+_in_numbers|in_numbers|shortest_of|distance|is_near|lifted|below|counting_pays|wide|list|from_list|port_of|refused|fine|bytes_written|without_counts|served_at|is_kept|is_own|end_node|end_port)\(")
+    yield from lines(r"\bfn (lesser|greater|larger|less|number|told|report|\w+_before|same_\w+|shortest_of|distance|is_near|lifted|below|counting_pays|wide|list|from_list|port_of|refused|fine|bytes_written|without_counts|served_at|is_kept|is_own|end_node|end_port)\(")
 
 
 def wide():

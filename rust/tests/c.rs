@@ -4,7 +4,7 @@
 mod c_texts;
 
 use panzhyqur::calls::{self, BusCounts, Counts, Output, PageBox, Work};
-use panzhyqur::{Limits, Reason, stack};
+use panzhyqur::{stack, Limits, Reason};
 use std::fs;
 use std::mem::size_of;
 use std::path::{Path, PathBuf};
@@ -271,7 +271,14 @@ fn the_rattle_source_has_them() {
     calls.sort();
     assert_eq!(found, calls);
 
-    let source = rattle(&["panzhyqur", "lanes", "routes", "routes_hits", "sheet"]);
+    let source = rattle(&[
+        "panzhyqur",
+        "lanes",
+        "routes",
+        "routes_gutter",
+        "routes_hits",
+        "sheet",
+    ]);
     let there = c_texts::rust_structs(&source);
     let here = c_texts::rust_structs(&rust);
     for (name, _) in &here {

@@ -1,6 +1,7 @@
 // Numbers that more than one crate names.
 
 // A field that is missing, above every range.
+// Stays (C interface): rows of tables are numbers that C callers lend and read, so a number of a row that may not be there is MISSING where it is not.
 pub const MISSING: u32 = 4_294_967_295;
 
 // A coordinate c is held as c + ORIGIN, so that no number held is negative.
@@ -15,12 +16,8 @@ pub const BUS_BAND_GUTTER: u32 = 6;
 pub const REROUTER_SIZE: u32 = 2;
 
 // The kind of a chip.
+// Stays (C interface): a record's kind is a number of its row, which C callers lend and read.
 pub const KIND_CHIP: u32 = 2;
-
-// The parts that claim a span of a lane's column besides taps.
-pub const PART_HEAD: u32 = 2;
-
-pub const PART_LINK: u32 = 3;
 
 // Bytes of a sheet.
 pub const TAB: u8 = 9;

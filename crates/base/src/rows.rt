@@ -1,4 +1,5 @@
 // The rows of the tables, by what they hold.
+// Stays (C interface): C lends tables as plain numbers, and one type of row serves several tables, whose columns hold other things.
 
 // A record of a sheet: its section, then its fields as held.
 pub type Record = [u32; 16];
@@ -19,4 +20,5 @@ pub type PortRow = [u32; 2];
 pub type PageRow = [u32; 2];
 
 // An index of ids: the id of entry i, the entry before it in its bucket, and the head of bucket i.
+// Stays (no plainer): an entry and a bucket share a row by its place alone, and the head is no part of the entry, so a struct of the three would tie what only lies side by side.
 pub type IdRow = [u32; 3];

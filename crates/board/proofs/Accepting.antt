@@ -21,7 +21,7 @@ use Rattle.board.specs.Refusals.{Judged, board, judged, judged_board, id_twice, 
 use Rattle.board.specs.Walk.{WithinLibrary}
 use Rattle.board.specs.Accepted.{COORDINATE_HIGH, Y_LOW, Accepted, AcceptedNodes}
 use Rattle.base.proofs.Bools.{never}
-use Rattle.board.proofs.Sections.{Sections, sections}
+use Rattle.board.proofs.BySection.{Sections, sections}
 
 -- A test that finds nothing fails everywhere.
 pub oldest_none : (p : ℕ → Bool) (n : ℕ) → oldest p n ≡ none → (i : ℕ) → i < n → p i ≡ false

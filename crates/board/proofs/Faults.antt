@@ -4,11 +4,11 @@ use mathlib.Core.Path.{◌≡◌, refl, ap, ap₂, sym, subst, ◌∙◌}
 use mathlib.Core.Bool.{Bool, true, false, not, ◌&&◌, ◌||◌}
 use mathlib.Core.List.{List, []}
 use native.Mathlib.Omega.{arith}
-use lib.Dec.{eqb, leb, eqb-suc-zero}
+use lib.Dec.{eqb, leb}
 use lib.ListN.{length, get_or, set, replicate, length-replicate}
 use lib.Seq.{get_or-set_same, get_or-set_other}
 use native.Mathlib.Nat.{add-suc}
-use borrow.Author.Tests.{ne_eqb, eqb-true, eqb-false}
+use borrow.Author.Tests.{eqb-true, eqb-false}
 use Rattle.sheet.specs.Table.{library_most}
 use Rattle.sheet.specs.Reading.{rows_from}
 use Rattle.sheet.specs.Answer.{row_from}
@@ -17,18 +17,20 @@ use Rattle.sheet.proofs.Along.{row_of_row, row_of_next}
 use Rattle.base.specs.Lists.{Found, none, at, found, or_else, newest, oldest}
 use Rattle.board.specs.Board.{Board, field, given, kind_chip, id_of, kind_of, chip_id, parent_of, inner_id}
 use Rattle.board.specs.Refusals.{first_line, node_line, chip_line, inner_line, body_of, chip_at, inner_of, body_chip, node_twice, chip_twice, inner_twice, page_missing, parent_missing, chip_missing, row_unplaced, id_twice, not_there, unplaced, turned_away, board, judged_board}
-use Rattle.board.specs.Index.{Index, BUCKETS, link, entry_of, column}
-use Rattle.std.proofs.Common.{Result, Err}
+use Rattle.board.specs.Index.{Index, BUCKETS, link, entry_of, found_of, column}
+use Rattle.std.proofs.Common.{Result, Ok, Err}
+use Rattle.std.specs.Prelude.{Option, Some, None}
+use Rattle.std.specs.Bool.{then_some}
+use Rattle.std.specs.Option.{option_or}
 use Rattle.base.specs.declared.refusal.Reason.TheVariants.{IdTaken, NotThere, Unplaced}
 use Rattle.base.specs.declared.refusal.Refusal.{Refusal}
 use Rattle.base.specs.Refusal.{refusal}
 use Rattle.sheet.specs.declared.Counts.{Counts}
 use Rattle.sheet.specs.Answer.{counts_of}
-use Rattle.board.specs.Walk.{verdict_of, fault_of, line_or, line_if, earlier, line_from, sheet_board, is_chip, Ids, Entered, Fresh, Ready, Walked, ChipsReady, InnerReady}
+use Rattle.board.specs.Walk.{verdict_of, fault_of, line_from, sheet_board, is_chip, Ids, Entered, Fresh, Ready, LineTwice, ChipsReady, InnerReady}
 use Rattle.sheet.specs.declared.RowAt.{RowAt}
-use Rattle.board.specs.declared.walks.Walk.{Walk}
-use Rattle.board.proofs.Sections.{Part, part_at, part_below, Sections, sections, in_order_lem}
-use Rattle.base.proofs.Bools.{never, pick_false}
+use Rattle.board.proofs.BySection.{Part, part_at, part_below, Sections, sections, in_order_lem}
+use Rattle.base.proofs.Bools.{never}
 use Rattle.board.proofs.Newest.{newest_same, link_below, column_at, column-length}
 
 -- Entries -----------------------------------------------------------------------------------------------------------------------------------
@@ -62,16 +64,33 @@ module _ {ids : List (List ℕ)} {n : ℕ} {id_at : ℕ → ℕ} where
             ∙ set_same (column 0 ids) id_at n id (λ i l. column_at 0 ids i ∙ x.same i l) (let w = column-length 0 ids in omega arith) same j h;
       }
 
-  pub ids_more : {ids' : List (List ℕ)} {was : Bool} (id : ℕ) → Ids ids n id_at → n < length ids → Entered ids n id was ids' → was ≡ false → id ≡ id_at n
+  pub ids_more : {ids' : List (List ℕ)} {line : ℕ} {r : Result (Unit {0}) Refusal} (id : ℕ) → Ids ids n id_at → n < length ids → Entered ids n id line r ids' → r ≡ Ok tt → id ≡ id_at n
       → Ids ids' (suc n) id_at
   ids_more id x room e fresh same = ids_added id x room (e.added fresh) (e.index fresh) same
 
-module _ (ids : List (List ℕ)) (n id : ℕ) (ids' : List (List ℕ)) where
-  pub entered_there : true ≡ found (entry_of ids n id) → Entered ids n id true ids'
-  entered_there e = record { answer = e; added = λ z. absurd (apart z); index = λ z. absurd (apart z) }
-    where
-      apart : true ≡ false → ⊥
-      apart z = never cc
+-- What entering an id says.
+module _ {ids : List (List ℕ)} {n id line : ℕ} {ids' : List (List ℕ)} where
+  pub entered_there : Bool.true ≡ found (entry_of ids n id) → Entered ids n id line (Err (refusal IdTaken line)) ids'
+  entered_there e = record { answer = rw (← e) refl; added = λ z. never cc; index = λ z. never cc }
+
+  pub entered_new : Bool.false ≡ found (entry_of ids n id) → column 0 ids' ≡ set (column 0 ids) n id → Index ids' (suc n) → Entered ids n id line (Ok tt) ids'
+  entered_new e added index = record { answer = rw (← e) refl; added = λ z. added; index = λ z. index }
+
+  module _ {r : Result (Unit {0}) Refusal} (entered : Entered ids n id line r ids') where
+    pub was_there : (e : Refusal) → r ≡ Err e → (found (entry_of ids n id) ≡ true) × (e ≡ refusal IdTaken line)
+    was_there e is = go (found (entry_of ids n id)) refl (sym is ∙ entered.answer)
+      where
+        go : (t : Bool) → found (entry_of ids n id) ≡ t → Err e ≡ elim t as (λ x. Result (Unit {0}) Refusal) [ true ↦ Err (refusal IdTaken line) | false ↦ Ok tt ]
+            → (found (entry_of ids n id) ≡ true) × (e ≡ refusal IdTaken line)
+        go true t q = (t, cc)
+        go false t q = never cc
+
+    pub was_new : r ≡ Ok tt → found (entry_of ids n id) ≡ false
+    was_new is = go (found (entry_of ids n id)) refl (sym is ∙ entered.answer)
+      where
+        go : (t : Bool) → found (entry_of ids n id) ≡ t → Ok tt ≡ elim t as (λ x. Result (Unit {0}) Refusal) [ true ↦ Err (refusal IdTaken line) | false ↦ Ok tt ] → found (entry_of ids n id) ≡ false
+        go true t q = never cc
+        go false t q = t
 
 -- An array of zeros is an index without entries.
 zero_rows : (m k c : ℕ) → field (replicate m (replicate {A = ℕ} k 0)) c 2 ≡ 0
@@ -117,15 +136,13 @@ module _ (p : ℕ → Bool) where
       go true is rec = let same : m ≡ suc n = eqb-true m (suc n) is in rw same at e
       go false is rec = let other = eqb-false m (suc n) is in rw (rec (omega (arith, other)))
 
-earlier_assoc : (a b c : ℕ) → earlier (earlier a b) c ≡ earlier a (earlier b c)
-earlier_assoc a b c = go (eqb a 0) refl
-  where
-    go : (t : Bool) → eqb a 0 ≡ t → earlier (elim t [ true ↦ b | false ↦ a ]) c ≡ elim t [ true ↦ earlier b c | false ↦ a ]
-    go true e = refl
-    go false e = pick_false (eqb a 0) c a e
+or_assoc : (a b c : Option ℕ) → option_or (option_or a b) c ≡ option_or a (option_or b c)
+or_assoc None b c = refl
+or_assoc (Some l) b c = refl
 
-earlier_there : (l c : ℕ) → earlier (suc l) c ≡ suc l
-earlier_there l c = pick_false (eqb (suc l) 0) c (suc l) (eqb-suc-zero l)
+found_or : (f g : Found) → found_of (or_else f g) ≡ option_or (found_of f) (found_of g)
+found_or none g = refl
+found_or (at l) g = refl
 
 -- The line of the record found.
 abbrev on_line_lem : ℕ → Found → Found
@@ -140,43 +157,36 @@ module _ (b : Board) (first : ℕ) (p : ℕ → Bool) where
       go none = refl
       go (at k) = refl
 
-  first_more : (i : ℕ) → earlier (line_or (first_line b (line_from first) p i)) (line_if (p i) (line_from first i)) ≡ line_or (first_line b (line_from first) p (suc i))
+  first_more : (i : ℕ) → option_or (found_of (first_line b (line_from first) p i)) (then_some (p i) (line_from first i)) ≡ found_of (first_line b (line_from first) p (suc i))
   first_more i = rw (on_line i, on_line (suc i)) (go (oldest p i) (p i))
     where
-      go : (f : Found) (t : Bool) → earlier (line_or (on_line_lem first f)) (line_if t (line_from first i))
-          ≡ line_or (on_line_lem first (elim f as (λ x. Found) [ at k ↦ at k | none ↦ elim t [ true ↦ at i | false ↦ none ] ]))
+      go : (f : Found) (t : Bool) → option_or (found_of (on_line_lem first f)) (then_some t (line_from first i))
+          ≡ found_of (on_line_lem first (elim f as (λ x. Found) [ at k ↦ at k | none ↦ elim t [ true ↦ at i | false ↦ none ] ]))
       go none true = refl
       go none false = refl
-      go (at k) t = earlier_there (first + k) _
+      go (at k) t = refl
 
   -- One record more, after a line found before.
-  pub first_step : (i m₀ m m' : ℕ) → m' ≡ earlier m (line_if (p i) (line_from first i)) → m ≡ earlier m₀ (line_or (first_line b (line_from first) p i))
-      → m' ≡ earlier m₀ (line_or (first_line b (line_from first) p (suc i)))
+  pub first_step : (i : ℕ) (m₀ m m' : Option ℕ) → m' ≡ option_or m (then_some (p i) (line_from first i)) → m ≡ option_or m₀ (found_of (first_line b (line_from first) p i))
+      → m' ≡ option_or m₀ (found_of (first_line b (line_from first) p (suc i)))
   first_step i m₀ m m' e e₀ =
-      e ∙ ap (λ (k : ℕ). earlier k (line_if (p i) (line_from first i))) e₀
-      ∙ earlier_assoc m₀ (line_or (first_line b (line_from first) p i)) (line_if (p i) (line_from first i)) ∙ ap (earlier m₀) (first_more i)
-
-  pub first_or : (n : ℕ) (g : Found) → earlier (line_or (first_line b (line_from first) p n)) (line_or g) ≡ line_or (or_else (first_line b (line_from first) p n) g)
-  first_or n g = rw (on_line n) (go (oldest p n))
-    where
-      go : (f : Found) → earlier (line_or (on_line_lem first f)) (line_or g) ≡ line_or (or_else (on_line_lem first f) g)
-      go none = refl
-      go (at k) = earlier_there (first + k) _
+      e ∙ ap (λ (k : Option ℕ). option_or k (then_some (p i) (line_from first i))) e₀
+      ∙ or_assoc m₀ (found_of (first_line b (line_from first) p i)) (then_some (p i) (line_from first i)) ∙ ap (option_or m₀) (first_more i)
 
 -- The walk along one section ------------------------------------------------------------------------------------------------------------------
 
 -- i of the n records are behind, and no id stood there before.
-pub record Walking (text : List ℕ) (lent : List (List ℕ)) (first n i : ℕ) (id_at : ℕ → ℕ) (repeats gone : ℕ → Bool) (missing₀ missing place : ℕ) (ids : List (List ℕ)) : Type 0 where
+pub record Walking (text : List ℕ) (lent : List (List ℕ)) (first n i : ℕ) (id_at : ℕ → ℕ) (repeats gone : ℕ → Bool) (missing₀ missing : Option ℕ) (place : ℕ) (ids : List (List ℕ)) : Type 0 where
   pub within : i ≤ n
   pub ready : Ready text lent (first + i) place
   pub entered : Ids ids i id_at
   pub once : oldest repeats i ≡ none
-  pub so_far : missing ≡ earlier missing₀ (line_or (first_line (sheet_board text) (line_from first) gone i))
+  pub so_far : missing ≡ option_or missing₀ (found_of (first_line (sheet_board text) (line_from first) gone i))
 
-module _ (text : List ℕ) (lent : List (List ℕ)) (first n : ℕ) (id_at : ℕ → ℕ) (repeats gone : ℕ → Bool) (missing₀ : ℕ) where
-  module _ (i missing place : ℕ) {ids : List (List ℕ)} (w : Walking text lent first n i id_at repeats gone missing₀ missing place ids) (h : i < n) where
-    pub walking_more : (place' missing' : ℕ) {ids' : List (List ℕ)} → repeats i ≡ false → Ready text lent (suc (first + i)) place' → Ids ids' (suc i) id_at
-        → missing' ≡ earlier missing (line_if (gone i) (line_from first i))
+module _ (text : List ℕ) (lent : List (List ℕ)) (first n : ℕ) (id_at : ℕ → ℕ) (repeats gone : ℕ → Bool) (missing₀ : Option ℕ) where
+  module _ (i : ℕ) (missing : Option ℕ) (place : ℕ) {ids : List (List ℕ)} (w : Walking text lent first n i id_at repeats gone missing₀ missing place ids) (h : i < n) where
+    pub walking_more : (place' : ℕ) (missing' : Option ℕ) {ids' : List (List ℕ)} → repeats i ≡ false → Ready text lent (suc (first + i)) place' → Ids ids' (suc i) id_at
+        → missing' ≡ option_or missing (then_some (gone i) (line_from first i))
         → Walking text lent first n (suc i) id_at repeats gone missing₀ missing' place' ids'
     walking_more place' missing' once' r x e =
         record {
@@ -187,16 +197,10 @@ module _ (text : List ℕ) (lent : List (List ℕ)) (first n : ℕ) (id_at : ℕ
           so_far = first_step (sheet_board text) first gone i missing₀ missing missing' e w.so_far;
         }
 
-    pub walking_twice : (w₀ w' : Walk) (ids' : List (List ℕ)) → repeats i ≡ true → w'.twice ≡ line_from first i
-        → Walked text lent first n id_at repeats gone w₀ w' ids'
-    walking_twice w₀ w' ids' again e =
+    pub walking_twice : (e : Refusal) → repeats i ≡ true → e ≡ refusal IdTaken (line_from first i) → LineTwice (sheet_board text) first n repeats e
+    walking_twice e again is =
         let found_here : oldest repeats n ≡ at i = oldest_stays repeats (suc i) n i (oldest_here repeats i w.once again) (omega arith) in
-        record {
-          twice = e ∙ ap line_or (sym (on_line (sheet_board text) first repeats n ∙ ap (on_line_lem first) found_here));
-          place = λ z. absurd (omega arith);
-          missing = λ z. absurd (omega arith);
-          entered = λ z. absurd (omega arith);
-        }
+        (line_from first i, on_line (sheet_board text) first repeats n ∙ ap (on_line_lem first) found_here, is)
 
 -- What the sheet of a walk says of its rows.
 ready_accepted : (text : List ℕ) {lent : List (List ℕ)} {k place : ℕ} → Ready text lent k place → Accepted library_most text (rows_from text)
@@ -349,129 +353,90 @@ counted text c r e =
       inner = ap (λ (x : Counts). x.inner) same;
     }
 
+pub counts_few : (text : List ℕ) {lent : List (List ℕ)} {k place : ℕ} (c : Counts) → Ready text lent k place → c ≡ counts_of (rows_from text)
+    → (c.pages ≤ 64) × (c.nodes ≤ 4096) × (c.chips ≤ 256) × (c.inner ≤ 4096)
+counts_few text c r e =
+    let n = counted text c r e in
+    let s = walk_sections text r in
+    (omega (arith, n.pages, s.few_pages), omega (arith, n.nodes, s.few_nodes), omega (arith, n.chips, s.few_chips), omega (arith, n.inner, s.few_inner))
+
 -- 4 before 5 before 6, by the first lines of each.
-abbrev pub fault_by : ℕ → ℕ → ℕ → Result (Unit {0}) Refusal
-fault_by twice missing unplaced = elim (eqb twice 0) [ false ↦ Err (refusal IdTaken twice) | true ↦ verdict_of missing unplaced ]
+abbrev pub fault_by : Found → Found → Found → Result (Unit {0}) Refusal
+fault_by (at line) g h = Err (refusal IdTaken line)
+fault_by none g h = verdict_of (found_of g) (found_of h)
 
--- A line that is there is not 0.
-abbrev Counting : Found → Type 0
-Counting f = (l : ℕ) → f ≡ at l → 0 < l
-
-counting_first : (b : Board) (first : ℕ) (p : ℕ → Bool) (n : ℕ) → Counting (first_line b (line_from first) p n)
-counting_first b first p n l e = go (oldest p n) (sym (on_line b first p n) ∙ e)
-  where
-    go : (f : Found) → on_line_lem first f ≡ at l → 0 < l
-    go none q = never cc
-    go (at k) q = let same : line_from first k ≡ l = cc in omega arith
-
-counting_or : (f g : Found) → Counting f → Counting g → Counting (or_else f g)
-counting_or none g cf cg = cg
-counting_or (at k) g cf cg = cf
-
-counting_other : (l : ℕ) → 0 < l → eqb l 0 ≡ false
-counting_other l h = ne_eqb l 0 (λ z. omega arith)
-
-judged_by_lem : (b : Board) (f g h : Found) → Counting f → Counting g → Counting h
+judged_by_lem : (b : Board) (f g h : Found)
     → fault_of (elim f [ at l ↦ turned_away (refusal IdTaken l) | none ↦ elim g [ at l ↦ turned_away (refusal NotThere l) | none ↦ elim h [ at l ↦ turned_away (refusal Unplaced l) | none ↦ board b ] ] ])
-    ≡ fault_by (line_or f) (line_or g) (line_or h)
-judged_by_lem b (at l) g h cf cg ch = sym (pick_false (eqb l 0) _ _ (counting_other l (cf l refl)))
-judged_by_lem b none (at l) h cf cg ch = sym (pick_false (eqb l 0) _ _ (counting_other l (cg l refl)))
-judged_by_lem b none none (at l) cf cg ch = sym (pick_false (eqb l 0) _ _ (counting_other l (ch l refl)))
-judged_by_lem b none none none cf cg ch = refl
+    ≡ fault_by f g h
+judged_by_lem b (at l) g h = refl
+judged_by_lem b none (at l) h = refl
+judged_by_lem b none none (at l) = refl
+judged_by_lem b none none none = refl
 
 module _ (b : Board) (c : Counts) (e : Counted b c) where
   -- The first line of a fault among the nodes, the chips and the nodes inside chips.
-  abbrev pub nodes_first : (ℕ → Bool) → ℕ
-  nodes_first p = line_or (first_line b (line_from c.pages) p c.nodes)
+  abbrev pub nodes_first : (ℕ → Bool) → Found
+  nodes_first p = first_line b (line_from c.pages) p c.nodes
 
-  abbrev pub chips_first : (ℕ → Bool) → ℕ
-  chips_first p = line_or (first_line b (line_from (c.pages + c.nodes)) p c.chips)
+  abbrev pub chips_first : (ℕ → Bool) → Found
+  chips_first p = first_line b (line_from (c.pages + c.nodes)) p c.chips
 
-  abbrev pub inner_first : (ℕ → Bool) → ℕ
-  inner_first p = line_or (first_line b (line_from (c.pages + c.nodes + c.chips)) p c.inner)
+  abbrev pub inner_first : (ℕ → Bool) → Found
+  inner_first p = first_line b (line_from (c.pages + c.nodes + c.chips)) p c.inner
 
-  nodes_line : (p : ℕ → Bool) → line_or (first_line b (node_line b) p (length b.nodes)) ≡ nodes_first p
-  nodes_line p w = line_or (first_line b (line_from (sym e.pages w)) p (sym e.nodes w))
+  nodes_line : (p : ℕ → Bool) → first_line b (node_line b) p (length b.nodes) ≡ nodes_first p
+  nodes_line p w = first_line b (line_from (sym e.pages w)) p (sym e.nodes w)
 
-  chips_line : (p : ℕ → Bool) → line_or (first_line b (chip_line b) p (length b.chips)) ≡ chips_first p
-  chips_line p w = line_or (first_line b (line_from (sym e.pages w + sym e.nodes w)) p (sym e.chips w))
+  chips_line : (p : ℕ → Bool) → first_line b (chip_line b) p (length b.chips) ≡ chips_first p
+  chips_line p w = first_line b (line_from (sym e.pages w + sym e.nodes w)) p (sym e.chips w)
 
-  inner_line_lem : (p : ℕ → Bool) → line_or (first_line b (inner_line b) p (length b.inner)) ≡ inner_first p
-  inner_line_lem p w = line_or (first_line b (line_from (sym e.pages w + sym e.nodes w + sym e.chips w)) p (sym e.inner w))
+  inner_line_lem : (p : ℕ → Bool) → first_line b (inner_line b) p (length b.inner) ≡ inner_first p
+  inner_line_lem p w = first_line b (line_from (sym e.pages w + sym e.nodes w + sym e.chips w)) p (sym e.inner w)
 
-  module _ (p q r : ℕ → Bool) where
-    abbrev f₁ : Found
-    f₁ = first_line b (node_line b) p (length b.nodes)
+  -- The first line of a fault among all of them.
+  abbrev pub any_first : (p q r : ℕ → Bool) → Found
+  any_first p q r = or_else (nodes_first p) (or_else (chips_first q) (inner_first r))
 
-    abbrev f₂ : Found
-    f₂ = first_line b (chip_line b) q (length b.chips)
-
-    abbrev f₃ : Found
-    f₃ = first_line b (inner_line b) r (length b.inner)
-
-    any_line : line_or (or_else f₁ (or_else f₂ f₃)) ≡ earlier (nodes_first p) (earlier (chips_first q) (inner_first r))
-    any_line =
-        sym (first_or b (length b.pages) p (length b.nodes) (or_else f₂ f₃))
-        ∙ ap (earlier (line_or f₁)) (sym (first_or b (length b.pages + length b.nodes) q (length b.chips) f₃))
-        ∙ (λ w. earlier (nodes_line p w) (earlier (chips_line q w) (inner_line_lem r w)))
-
-    any_counts : Counting (or_else f₁ (or_else f₂ f₃))
-    any_counts =
-        counting_or f₁ (or_else f₂ f₃) (counting_first b (length b.pages) p (length b.nodes))
-        (counting_or f₂ f₃ (counting_first b (length b.pages + length b.nodes) q (length b.chips))
-        (counting_first b (length b.pages + length b.nodes + length b.chips) r (length b.inner)))
+  any_line : (p q r : ℕ → Bool)
+      → or_else (first_line b (node_line b) p (length b.nodes)) (or_else (first_line b (chip_line b) q (length b.chips)) (first_line b (inner_line b) r (length b.inner))) ≡ any_first p q r
+  any_line p q r w = or_else (nodes_line p w) (or_else (chips_line q w) (inner_line_lem r w))
 
   pub fault_by_lem :
       fault_of (judged_board b)
-      ≡ fault_by (earlier (nodes_first (node_twice b)) (earlier (chips_first (chip_twice b)) (inner_first (inner_twice b))))
-      (earlier (nodes_first (page_missing b)) (earlier (chips_first (parent_missing b)) (inner_first (chip_missing b))))
-      (nodes_first (row_unplaced b))
+      ≡ fault_by (any_first (node_twice b) (chip_twice b) (inner_twice b)) (any_first (page_missing b) (parent_missing b) (chip_missing b)) (nodes_first (row_unplaced b))
   unfolding judged_board id_twice not_there unplaced
   fault_by_lem =
-      judged_by_lem b (id_twice b) (not_there b) (unplaced b) (any_counts (node_twice b) (chip_twice b) (inner_twice b))
-      (any_counts (page_missing b) (parent_missing b) (chip_missing b)) (counting_first b (length b.pages) (row_unplaced b) (length b.nodes))
+      judged_by_lem b (id_twice b) (not_there b) (unplaced b)
       ∙ (λ w. fault_by (any_line (node_twice b) (chip_twice b) (inner_twice b) w) (any_line (page_missing b) (parent_missing b) (chip_missing b) w) (nodes_line (row_unplaced b) w))
 
   -- What each outcome of the walk says.
-  abbrev some_twice : ℕ
-  some_twice = earlier (nodes_first (node_twice b)) (earlier (chips_first (chip_twice b)) (inner_first (inner_twice b)))
+  fault_four : (l : ℕ) → any_first (node_twice b) (chip_twice b) (inner_twice b) ≡ at l → Err (refusal IdTaken l) ≡ fault_of (judged_board b)
+  fault_four l same =
+      sym (fault_by_lem ∙ ap (λ (f : Found). fault_by f (any_first (page_missing b) (parent_missing b) (chip_missing b)) (nodes_first (row_unplaced b))) same)
 
-  fault_four : (t : ℕ) → some_twice ≡ t → (t ≡ 0 → ⊥) → Err (refusal IdTaken t) ≡ fault_of (judged_board b)
-  fault_four t same some =
-      sym
-      (fault_by_lem
-      ∙ ap
-      (λ (k : ℕ).
-      fault_by k (earlier (nodes_first (page_missing b)) (earlier (chips_first (parent_missing b)) (inner_first (chip_missing b)))) (nodes_first (row_unplaced b)))
-      same
-      ∙ pick_false (eqb t 0) _ _ (ne_eqb t 0 some))
+  pub fault_nodes : (r : Refusal) → LineTwice b c.pages c.nodes (node_twice b) r → Err r ≡ fault_of (judged_board b)
+  fault_nodes r t = ap Err t.2 ∙ fault_four t.0 (λ w. or_else (t.1 w) (or_else (chips_first (chip_twice b)) (inner_first (inner_twice b))))
 
-  pub fault_nodes : (t : ℕ) → t ≡ nodes_first (node_twice b) → (t ≡ 0 → ⊥) → Err (refusal IdTaken t) ≡ fault_of (judged_board b)
-  fault_nodes t same some =
-      fault_four t
-      (ap (λ (k : ℕ). earlier k (earlier (chips_first (chip_twice b)) (inner_first (inner_twice b)))) (sym same) ∙ pick_false (eqb t 0) _ t (ne_eqb t 0 some)) some
+  module _ (none₁ : nodes_first (node_twice b) ≡ none) where
+    pub fault_chips : (r : Refusal) → LineTwice b (c.pages + c.nodes) c.chips (chip_twice b) r → Err r ≡ fault_of (judged_board b)
+    fault_chips r t = ap Err t.2 ∙ fault_four t.0 (λ w. or_else (none₁ w) (or_else (t.1 w) (inner_first (inner_twice b))))
 
-  module _ (t₁ : ℕ) (nodes-once : t₁ ≡ nodes_first (node_twice b)) (none₁ : t₁ ≡ 0) where
-    pub fault_chips : (t : ℕ) → t ≡ chips_first (chip_twice b) → (t ≡ 0 → ⊥) → Err (refusal IdTaken t) ≡ fault_of (judged_board b)
-    fault_chips t same some =
-        fault_four t
-        ((λ w. earlier ((sym nodes-once ∙ none₁) w) (earlier (sym same w) (inner_first (inner_twice b)))) ∙ pick_false (eqb t 0) _ t (ne_eqb t 0 some)) some
+    module _ (none₂ : chips_first (chip_twice b) ≡ none) where
+      pub fault_inner : (r : Refusal) → LineTwice b (c.pages + c.nodes + c.chips) c.inner (inner_twice b) r → Err r ≡ fault_of (judged_board b)
+      fault_inner r t = ap Err t.2 ∙ fault_four t.0 (λ w. or_else (none₁ w) (or_else (none₂ w) (t.1 w)))
 
-    module _ (t₂ : ℕ) (chips-once : t₂ ≡ chips_first (chip_twice b)) (none₂ : t₂ ≡ 0) where
-      rest_twice : (t : ℕ) → t ≡ inner_first (inner_twice b) → some_twice ≡ t
-      rest_twice t same w = earlier ((sym nodes-once ∙ none₁) w) (earlier ((sym chips-once ∙ none₂) w) (sym same w))
-
-      pub fault_inner : (t : ℕ) → t ≡ inner_first (inner_twice b) → (t ≡ 0 → ⊥) → Err (refusal IdTaken t) ≡ fault_of (judged_board b)
-      fault_inner t same some = fault_four t (rest_twice t same) some
-
-      pub fault_rest : (t m₁ m₂ m₃ u : ℕ) → t ≡ inner_first (inner_twice b) → t ≡ 0 → m₁ ≡ nodes_first (page_missing b)
-          → m₂ ≡ earlier m₁ (chips_first (parent_missing b)) → m₃ ≡ earlier m₂ (inner_first (chip_missing b)) → u ≡ nodes_first (row_unplaced b)
+      pub fault_rest : (m₁ m₂ m₃ u : Option ℕ) → inner_first (inner_twice b) ≡ none → m₁ ≡ found_of (nodes_first (page_missing b))
+          → m₂ ≡ option_or m₁ (found_of (chips_first (parent_missing b))) → m₃ ≡ option_or m₂ (found_of (inner_first (chip_missing b))) → u ≡ found_of (nodes_first (row_unplaced b))
           → verdict_of m₃ u ≡ fault_of (judged_board b)
-      fault_rest t m₁ m₂ m₃ u same none₃ e₁ e₂ e₃ eu =
-          let missing : m₃ ≡ earlier (nodes_first (page_missing b)) (earlier (chips_first (parent_missing b)) (inner_first (chip_missing b))) =
-          e₃ ∙ (λ w. earlier ((e₂ ∙ (λ v. earlier (e₁ v) (chips_first (parent_missing b)))) w) (inner_first (chip_missing b)))
-          ∙ earlier_assoc (nodes_first (page_missing b)) (chips_first (parent_missing b)) (inner_first (chip_missing b)) in
-          (λ w. fault_by (sym (rest_twice t same ∙ none₃) w) (missing w) (eu w)) ∙ sym fault_by_lem
+      fault_rest m₁ m₂ m₃ u none₃ e₁ e₂ e₃ eu =
+          let p : Found = nodes_first (page_missing b) in
+          let q : Found = chips_first (parent_missing b) in
+          let r : Found = inner_first (chip_missing b) in
+          let missing : m₃ ≡ found_of (or_else p (or_else q r)) =
+          e₃ ∙ (λ w. option_or ((e₂ ∙ (λ v. option_or (e₁ v) (found_of q))) w) (found_of r)) ∙ or_assoc (found_of p) (found_of q) (found_of r)
+          ∙ ap (option_or (found_of p)) (sym (found_or q r)) ∙ sym (found_or p (or_else q r)) in
+          let once : any_first (node_twice b) (chip_twice b) (inner_twice b) ≡ none = λ w. or_else (none₁ w) (or_else (none₂ w) (none₃ w)) in
+          (λ w. verdict_of (missing w) (eu w)) ∙ sym (fault_by_lem ∙ ap (λ (f : Found). fault_by f (or_else p (or_else q r)) (nodes_first (row_unplaced b))) once)
 
 pub ids_at : {ids : List (List ℕ)} {n m : ℕ} {id_at : ℕ → ℕ} → n ≡ m → Ids ids n id_at → Ids ids m id_at
 ids_at {ids} {id_at = id_at} e x = subst (λ (k : ℕ). Ids ids k id_at) e x

@@ -14,7 +14,7 @@ use Rattle.base.specs.Lists.{Found, none, at}
 use Rattle.board.specs.Board.{Board, board_of}
 use Rattle.board.specs.Refusals.{Judged, turned_away, board, id_twice, not_there, unplaced, judged_board, judged}
 use Rattle.board.specs.Walk.{sheet_board, counts_in, fault_of, WithinLibrary, Ready}
-use Rattle.board.proofs.Sections.{sections}
+use Rattle.board.proofs.BySection.{sections}
 
 module _ (most : Counts) (text : List ℕ) (place : ℕ) where
   -- Refusals 1 to 3 are the reading's.

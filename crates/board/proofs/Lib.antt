@@ -1,6 +1,6 @@
 pub mod Newest
 pub mod Chips
-pub mod Sections
+pub mod BySection
 pub mod Faults
 pub mod Judging
 pub mod Taps
@@ -8,3 +8,4 @@ pub mod LanesFit
 pub mod Accepting
 pub mod Planning
 pub mod Reach
+pub mod Slices

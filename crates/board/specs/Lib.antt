@@ -4,6 +4,7 @@ pub mod Rows
 pub mod Groups
 pub mod Demands
 pub mod Planning
+pub mod Sections
 pub mod Tables
 pub mod Index
 pub mod Walk

@@ -1,8 +1,9 @@
 -- How the code finds refusals 4 to 6: one walk along a sheet's records, in which every id is entered into an index. No rule stands here.
-use Rattle.std.specs.Prelude.{ℕ, suc, ◌+◌, ◌≤◌, ◌<◌, ◌≡◌, Bool, true, false, List, eqb, length, get_or, set, Result, Ok, Err}
-use Rattle.base.specs.declared.refusal.Reason.TheVariants.{NotThere, Unplaced}
+use Rattle.std.specs.Prelude.{ℕ, suc, ◌+◌, ◌≤◌, ◌<◌, ◌≡◌, Bool, true, false, List, eqb, length, get_or, set, Option, Some, None, Result, Ok, Err, MatchResult}
+use Rattle.base.specs.declared.refusal.Reason.TheVariants.{IdTaken, NotThere, Unplaced}
 use Rattle.base.specs.declared.refusal.Refusal.{Refusal}
 use Rattle.base.specs.Refusal.{refusal}
+use Rattle.std.specs.Option.{option_or}
 use Rattle.sheet.specs.declared.Counts.{Counts}
 use Rattle.sheet.specs.Table.{library_most}
 use Rattle.sheet.specs.Reading.{rows_from, listed, rows, reading}
@@ -11,24 +12,12 @@ use Rattle.board.specs.declared.walks.Walk.{Walk}
 use Rattle.base.specs.Lists.{Found, none, at, found}
 use Rattle.board.specs.Board.{Board, board_of, kind_chip, id_of, kind_of, chip_id, inner_id}
 use Rattle.board.specs.Refusals.{first_line, node_twice, chip_twice, inner_twice, page_missing, parent_missing, chip_missing, row_unplaced, Judged, turned_away, board}
-use Rattle.board.specs.Index.{Index, column, entry_of}
+use Rattle.board.specs.Index.{Index, column, entry_of, found_of}
 pub use Rattle.board.specs.Index.{Ids}
 
 -- The board of a sheet that reading accepts.
 abbrev pub sheet_board : List ℕ → Board
 sheet_board text = board_of (rows_from text)
-
--- A line that may not be there as one number: 0 for none.
-abbrev pub line_or : Found → ℕ
-line_or none = 0
-line_or (at line) = line
-
-abbrev pub line_if : Bool → ℕ → ℕ
-line_if here line = elim here [ true ↦ line | false ↦ 0 ]
-
--- The first of two such lines that is there.
-abbrev pub earlier : ℕ → ℕ → ℕ
-earlier a b = elim (eqb a 0) [ true ↦ b | false ↦ a ]
 
 -- The line of the i-th record of a section that so many lines stand before.
 abbrev pub line_from : ℕ → ℕ → ℕ
@@ -54,11 +43,11 @@ pub record Fresh (ids : List (List ℕ)) (most : ℕ) : Type 0 where
   pub index : Index ids 0
   pub room : most ≤ length ids
 
--- An id entered as the n-th entry, unless it was there.
-pub record Entered (ids : List (List ℕ)) (n id : ℕ) (was : Bool) (ids' : List (List ℕ)) : Type 0 where
-  pub answer : was ≡ found (entry_of ids n id)
-  pub added : was ≡ false → column 0 ids' ≡ set (column 0 ids) n id
-  pub index : was ≡ false → Index ids' (suc n)
+-- An id entered as the n-th entry, for a line; or a 4 there, where it was entered before.
+pub record Entered (ids : List (List ℕ)) (n id line : ℕ) (r : Result (Unit {0}) Refusal) (ids' : List (List ℕ)) : Type 0 where
+  pub answer : r ≡ elim (found (entry_of ids n id)) [ true ↦ Err (refusal IdTaken line) | false ↦ Ok tt ]
+  pub added : r ≡ Ok tt → column 0 ids' ≡ set (column 0 ids) n id
+  pub index : r ≡ Ok tt → Index ids' (suc n)
 
 -- No more records of each section than the library takes.
 abbrev pub WithinLibrary : Counts → Type 0
@@ -93,35 +82,42 @@ pub record InnerReady (b : Board) (first n nodes chips : ℕ) (bodyIds chipIds :
   pub body : Ids bodyIds nodes (id_of b)
   pub chip : Ids chipIds chips (chip_id b)
 
--- A walk along the n records of a section from w₀ to w: the first line whose id was there before, and, without one, the first line at which something
--- is not there.
+-- The 4 at the first line of a section whose id was there before.
+abbrev pub LineTwice : Board → ℕ → ℕ → (ℕ → Bool) → Refusal → Type 0
+LineTwice b first n repeats e = (line : ℕ) × (first_line b (line_from first) repeats n ≡ at line) × (e ≡ refusal IdTaken line)
+
+-- A walk along the n records of a section from w₀ to w, none of whose ids was there before: the first line at which something is not there.
 pub record Walked (text : List ℕ) (lent : List (List ℕ)) (first n : ℕ) (id_at : ℕ → ℕ) (repeats gone : ℕ → Bool) (w₀ w : Walk) (ids : List (List ℕ)) : Type 0 where
-  pub twice : w.twice ≡ line_or (first_line (sheet_board text) (line_from first) repeats n)
-  pub place : w.twice ≡ 0 → Ready text lent (first + n) w.place
-  pub missing : w.twice ≡ 0 → w.missing ≡ earlier w₀.missing (line_or (first_line (sheet_board text) (line_from first) gone n))
-  pub entered : w.twice ≡ 0 → Ids ids n id_at
-
-abbrev pub WalkedNodes : List ℕ → List (List ℕ) → ℕ → ℕ → Walk → Walk → List (List ℕ) → Type 0
-WalkedNodes text lent first n w₀ w ids =
-    let b = sheet_board text in Walked text lent first n (id_of b) (node_twice b) (page_missing b) w₀ w ids
-
-abbrev pub WalkedChips : List ℕ → List (List ℕ) → ℕ → ℕ → Walk → Walk → List (List ℕ) → Type 0
-WalkedChips text lent first n w₀ w ids =
-    let b = sheet_board text in Walked text lent first n (chip_id b) (chip_twice b) (parent_missing b) w₀ w ids
-
-abbrev pub WalkedInner : List ℕ → List (List ℕ) → ℕ → ℕ → Walk → Walk → List (List ℕ) → Type 0
-WalkedInner text lent first n w₀ w ids =
-    let b = sheet_board text in Walked text lent first n (inner_id b) (inner_twice b) (chip_missing b) w₀ w ids
+  pub once : first_line (sheet_board text) (line_from first) repeats n ≡ none
+  pub place : Ready text lent (first + n) w.place
+  pub missing : w.missing ≡ option_or w₀.missing (found_of (first_line (sheet_board text) (line_from first) gone n))
+  pub entered : Ids ids n id_at
 
 -- The kinds of the body nodes, and the first line of a 6.
 pub record NodesSeen (text : List ℕ) (first n : ℕ) (w₀ w : Walk) (held : List ℕ) : Type 0 where
-  pub kinds : w.twice ≡ 0 → (j : ℕ) → j < n → get_or held j 0 ≡ kind_of (sheet_board text) j
-  pub unplaced : w.twice ≡ 0 → w.unplaced ≡ earlier w₀.unplaced (line_or (first_line (sheet_board text) (line_from first) (row_unplaced (sheet_board text)) n))
+  pub kinds : (j : ℕ) → j < n → get_or held j 0 ≡ kind_of (sheet_board text) j
+  pub unplaced : w.unplaced ≡ option_or w₀.unplaced (found_of (first_line (sheet_board text) (line_from first) (row_unplaced (sheet_board text)) n))
+
+abbrev pub WalkedNodes : List ℕ → List (List ℕ) → ℕ → ℕ → Walk → Result Walk Refusal → List (List ℕ) → List ℕ → Type 0
+WalkedNodes text lent first n w₀ r ids held =
+    let b = sheet_board text in
+    MatchResult r (λ w. Walked text lent first n (id_of b) (node_twice b) (page_missing b) w₀ w ids × NodesSeen text first n w₀ w held) (LineTwice b first n (node_twice b))
+
+abbrev pub WalkedChips : List ℕ → List (List ℕ) → ℕ → ℕ → Walk → Result Walk Refusal → List (List ℕ) → Type 0
+WalkedChips text lent first n w₀ r ids =
+    let b = sheet_board text in
+    MatchResult r (λ w. Walked text lent first n (chip_id b) (chip_twice b) (parent_missing b) w₀ w ids × (w.unplaced ≡ w₀.unplaced)) (LineTwice b first n (chip_twice b))
+
+abbrev pub WalkedInner : List ℕ → List (List ℕ) → ℕ → ℕ → Walk → Result Walk Refusal → List (List ℕ) → Type 0
+WalkedInner text lent first n w₀ r ids =
+    let b = sheet_board text in
+    MatchResult r (λ w. Walked text lent first n (inner_id b) (inner_twice b) (chip_missing b) w₀ w ids × (w.unplaced ≡ w₀.unplaced)) (LineTwice b first n (inner_twice b))
 
 -- 5 before 6, by the first lines of each.
-abbrev pub verdict_of : ℕ → ℕ → Result (Unit {0}) Refusal
-verdict_of missing unplaced =
-    elim (eqb missing 0) [ false ↦ Err (refusal NotThere missing) | true ↦ elim (eqb unplaced 0) [ false ↦ Err (refusal Unplaced unplaced) | true ↦ Ok tt ] ]
+abbrev pub verdict_of : Option ℕ → Option ℕ → Result (Unit {0}) Refusal
+verdict_of (Some line) last = Err (refusal NotThere line)
+verdict_of None (Some line) = Err (refusal Unplaced line)
+verdict_of None None = Ok tt
 
 -- What `find_fault` answers.
 abbrev pub fault_of : Judged → Result (Unit {0}) Refusal

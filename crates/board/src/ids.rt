@@ -2,6 +2,7 @@
 // 244, further ids share a bucket.
 ghost use Rattle.std.specs.Prelude.{◌≡◌, List, length, get_or, set, ◌+◌, IfSome, MatchOption};
 ghost use Prim.Native.Nat.{ℕ, ◌≤◌, ◌<◌};
+ghost use Rattle.base.specs.Lists.{found};
 ghost use Rattle.board.specs.Board.{Board, field};
 ghost use Rattle.board.specs.Groups.{top_chip};
 ghost use Rattle.board.specs.Index.{Index, column, found_of, entry_of, NoChipFrom};
@@ -18,25 +19,40 @@ fn bucket_of(id: u32) -> usize
     (id % BUCKETS) as usize
 }
 
-// Stays (no plainer): an index is not cut to its first `n` entries, since the heads of the buckets stand in the rows behind them, too.
+// The ids of a section's records: the first `count` rows are its entries.
+// Stays (no plainer): an index is not cut to its entries, since the heads of the buckets stand in the rows behind them, too.
+#[derive(Clone, Copy)]
+pub struct IdIndex<'a> {
+    pub rows: &'a [IdRow],
+    pub count: usize,
+    pub ghost chained: { Index rows.now count },
+}
 
-// The newest of the first `n` entries that has the id.
-pub fn find_id(index: &[IdRow], n: usize, id: NodeId) -> Option<usize>
-    requires { Index index.now n }
-    ensures value { result ≡ found_of (entry_of index.now n id.0) }
-    ensures below { IfSome result (λ i. i < n) }
-{
-    let wanted = id.0;
-    // Stays (no heap): an id's bucket is followed by links, in place of a map.
-    let mut link = index[bucket_of(wanted)][2];
-    while link != 0 {
-        let i = (link - 1) as usize;
-        if index[i][0] == wanted {
-            return Some(i);
+impl IdIndex<'_> {
+    // The newest entry that has the id.
+    pub fn find(self, id: NodeId) -> Option<usize>
+        ensures value { result ≡ found_of (entry_of self.entry.rows.now self.entry.count id.0) }
+        ensures below { IfSome result (λ i. i < self.entry.count) }
+    {
+        let wanted = id.0;
+        // Stays (no heap): an id's bucket is followed by links, in place of a map.
+        // Stays (no plainer): a link is an entry's place and one, 0 for none, so that an array of zeros is an index without entries.
+        let mut link = self.rows[bucket_of(wanted)][2];
+        while link != 0 {
+            let i = (link - 1) as usize;
+            if self.rows[i][0] == wanted {
+                return Some(i);
+            }
+            link = self.rows[i][1];
         }
-        link = index[i][1];
+        None
     }
-    None
+
+    pub(crate) fn has(self, id: NodeId) -> bool
+        ensures { result ≡ found (entry_of self.entry.rows.now self.entry.count id.0) }
+    {
+        self.find(id).is_some()
+    }
 }
 
 // One more entry.

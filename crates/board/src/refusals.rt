@@ -5,35 +5,30 @@ ghost use Rattle.board.specs.Refusals.{judged_board, judged};
 ghost use Rattle.board.specs.Walk.{sheet_board, Fresh, Ready, RowsIf, Indexed, NODES_MOST, CHIPS_MOST, INNER_MOST, WithinLibrary, IndexedIf, verdict_of, fault_of, board_checked};
 ghost use Rattle.sheet.specs.Answer.{counts_of};
 
-use crate::walks::{Walk, skip_lines, walk_chips, walk_inner, walk_nodes};
+use crate::ids::IdIndex;
+use crate::walks::{Bodies, Lines, Walk, skip_lines, walk_chips, walk_inner, walk_nodes};
 use base::refusal::{Reason, Refusal};
 use base::rows::{IdRow, Record};
 use sheet::{Counts, check_rows};
 
 // 5 before 6, once no id stands twice.
-fn verdict(missing: usize, unplaced: usize) -> Result<(), Refusal>
+fn verdict(missing: Option<usize>, unplaced: Option<usize>) -> Result<(), Refusal>
     ensures { result ≡ verdict_of missing unplaced }
 {
-    if missing != 0 {
-        return Err(Refusal {
-            reason: Reason::NotThere,
-            place: missing,
-        });
+    if let Some(line) = missing {
+        return Err(Reason::NotThere.at(line));
     }
-    if unplaced != 0 {
-        return Err(Refusal {
-            reason: Reason::Unplaced,
-            place: unplaced,
-        });
+    match unplaced {
+        Some(line) => Err(Reason::Unplaced.at(line)),
+        None => Ok(()),
     }
-    Ok(())
 }
 
 // Refusals 4 to 6 of a sheet that reading accepts: `rows` holds its rows as far as they were lent, and at `rest` the first line without one starts. Without a
 // refusal, the three indexes hold the ids of the body nodes, the chips and the nodes inside chips.
-pub fn find_fault(
-    text: &[u8],
-    rows: &[Record],
+pub fn find_fault<'a>(
+    text: &'a [u8],
+    rows: &'a [Record],
     rest: usize,
     counts: Counts,
     body: &mut [IdRow],
@@ -48,58 +43,40 @@ pub fn find_fault(
     ensures value { result ≡ fault_of (judged_board (sheet_board text.now)) }
     ensures indexed { result ≡ Ok tt → Indexed (sheet_board text.now) body.new chips.new inner.new }
 {
-    let pages = counts.pages;
-    let nodes = counts.nodes;
-    let chip_count = counts.chips;
     let mut kinds = [0u32; 4096];
     let start = Walk {
-        place: skip_lines(text, rows, pages, rest),
-        twice: 0,
-        missing: 0,
-        unplaced: 0,
+        place: skip_lines(text, rows, counts.pages, rest),
+        missing: None,
+        unplaced: None,
     };
-    let after_nodes = walk_nodes(text, rows, pages, nodes, start, body, &mut kinds);
-    if after_nodes.twice != 0 {
-        return Err(Refusal {
-            reason: Reason::IdTaken,
-            place: after_nodes.twice,
-        });
-    }
-    let after_chips = walk_chips(
+    let lines = Lines {
         text,
         rows,
-        pages + nodes,
-        chip_count,
-        after_nodes,
-        body,
-        &kinds,
-        nodes,
-        chips,
-    );
-    if after_chips.twice != 0 {
-        return Err(Refusal {
-            reason: Reason::IdTaken,
-            place: after_chips.twice,
-        });
-    }
+        first: counts.pages,
+        count: counts.nodes,
+    };
+    let after_nodes = walk_nodes(lines, start, body, &mut kinds)?;
+    let bodies = IdIndex {
+        rows: body,
+        count: counts.nodes,
+    };
+    let known = Bodies {
+        ids: bodies,
+        kinds: &kinds,
+    };
+    let lines = lines.behind(counts.chips);
+    let after_chips = walk_chips(lines, after_nodes, known, chips)?;
+    let named = IdIndex {
+        rows: chips,
+        count: counts.chips,
+    };
     let after_inner = walk_inner(
-        text,
-        rows,
-        pages + nodes + chip_count,
-        counts.inner,
+        lines.behind(counts.inner),
         after_chips,
-        body,
-        nodes,
-        chips,
-        chip_count,
+        bodies,
+        named,
         inner,
-    );
-    if after_inner.twice != 0 {
-        return Err(Refusal {
-            reason: Reason::IdTaken,
-            place: after_inner.twice,
-        });
-    }
+    )?;
     verdict(after_inner.missing, after_inner.unplaced)
 }
 

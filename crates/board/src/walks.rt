@@ -1,104 +1,129 @@
 // A sheet's sections, walked line by line from the rows that the reading kept, and behind the last of them from the text: every id is entered into an index on the
 // way, and the first line at fault is kept.
 ghost use Rattle.std.specs.Prelude.{◌≡◌, true, false, not, ◌&&◌, ◌≤◌, ◌<◌, ◌+◌, leb, length, get_or};
+ghost use Rattle.sheet.specs.Table.{library_most};
 ghost use Rattle.sheet.specs.Reading.{rows_from};
+ghost use Rattle.sheet.specs.Answer.{row_from};
 ghost use Rattle.base.specs.Lists.{found};
 ghost use Rattle.board.specs.Board.{given};
 ghost use Rattle.board.specs.Index.{Index, entry_of};
-ghost use Rattle.board.specs.Walk.{line_if, earlier, is_chip, sheet_board, Fresh, Entered, Ready, ChipsReady, InnerReady, WalkedNodes, WalkedChips, WalkedInner, NodesSeen};
+ghost use Rattle.board.specs.Walk.{is_chip, line_from, sheet_board, Fresh, Entered, Ready, ChipsReady, InnerReady, WalkedNodes, WalkedChips, WalkedInner};
 
-use crate::ids::{add_id, find_id};
+use crate::ids::{IdIndex, add_id};
 use base::ids::NodeId;
 use base::numbers::{KIND_CHIP, MISSING};
+use base::refusal::{Reason, Refusal};
 use base::rows::{IdRow, Record};
-use sheet::row_of;
+use sheet::{RowAt, row_of};
 
-// Where in the text a walk along the records goes on behind the rows; the line of a 4, and the first lines of a 5 and a 6 so far, 0 for none.
+// The lines of a section: so many lines stand before them, and so many there are. Those that have no row are read from the text.
+#[derive(Clone, Copy)]
+pub struct Lines<'a> {
+    pub text: &'a [u8],
+    pub rows: &'a [Record],
+    pub first: usize,
+    pub count: usize,
+}
+
+impl<'a> Lines<'a> {
+    // Those of the section behind it, of which there are so many.
+    pub(crate) fn behind(self, count: usize) -> Lines<'a>
+        requires { self.first + self.count ≤ library_most.pages + library_most.nodes + library_most.chips }
+        ensures { (result.text.now ≡ self.entry.text.now) × (result.rows.now ≡ self.entry.rows.now) × (result.first ≡ self.entry.first + self.entry.count) × (result.count ≡ count) }
+    {
+        Lines {
+            first: self.first + self.count,
+            count,
+            ..self
+        }
+    }
+
+    // The row of line i, which is read from the text at `at` where none is kept.
+    fn row_of(self, i: usize, at: usize) -> RowAt
+        requires { self.first + i < 4294967295 }
+        ensures { result ≡ row_from self.entry.text.now self.entry.rows.now (self.entry.first + i) at }
+    {
+        row_of(self.text, self.rows, self.first + i, at)
+    }
+
+    // The number of line i, which a refusal names.
+    fn line_of(self, i: usize) -> usize
+        requires { self.first + i < 4294967295 }
+        ensures { result ≡ line_from self.entry.first i }
+    {
+        self.first + i + 1
+    }
+}
+
+// Where in the text a walk along the lines goes on behind the rows, and the first lines of a 5 and a 6 so far.
 #[derive(Clone, Copy)]
 pub struct Walk {
     pub place: usize,
-    pub twice: usize,
-    pub missing: usize,
-    pub unplaced: usize,
+    pub missing: Option<usize>,
+    pub unplaced: Option<usize>,
 }
 
-fn has_id(index: &[IdRow], n: usize, id: NodeId) -> bool
-    requires { Index index.now n }
-    ensures { result ≡ found (entry_of index.now n id.0) }
-{
-    find_id(index, n, id).is_some()
+// The body nodes: their ids, and the kind of each.
+#[derive(Clone, Copy)]
+pub struct Bodies<'a, 'b> {
+    pub ids: IdIndex<'a>,
+    pub kinds: &'b [u32],
+    pub ghost kinds_there: { ids.count ≤ length kinds.now },
 }
 
-// Enters an id, unless it is there already.
-fn enter_id(index: &mut [IdRow], n: usize, id: NodeId) -> bool
+impl Bodies<'_, '_> {
+    // Whether the id names a body node that is a Chip.
+    fn is_chip(self, id: NodeId) -> bool
+        ensures { result ≡ is_chip self.entry.kinds.now (entry_of self.entry.ids.rows.now self.entry.ids.count id.0) }
+    {
+        self.ids
+            .find(id)
+            .is_some_and(|i| self.kinds[i] == KIND_CHIP)
+    }
+}
+
+// Enters the id of a line: a 4, if it is there already.
+fn enter_id(index: &mut [IdRow], n: usize, id: NodeId, line: usize) -> Result<(), Refusal>
     requires index { Index index.old n }
     requires n_in_bounds { (n < length index.old) × (n < 4096) }
-    ensures { Entered index.old n id.0 result index.new }
+    ensures { Entered index.old n id.0 line result index.new }
 {
-    if has_id(index, n, id) {
-        return true;
+    let ids = IdIndex {
+        rows: index,
+        count: n,
+    };
+    if ids.has(id) {
+        return Err(Reason::IdTaken.at(line));
     }
     add_id(index, n, id);
-    false
-}
-
-// The first of a line found so far and the line at hand, if it has the fault.
-fn first_line(so_far: usize, here: bool, line: usize) -> usize
-    ensures { result ≡ earlier so_far (line_if here line) }
-{
-    if so_far != 0 {
-        so_far
-    } else if here {
-        line
-    } else {
-        0
-    }
+    Ok(())
 }
 
 // E5: the page of an N.
-fn page_missing(row: [u32; 16], pages: usize) -> bool
+fn page_missing(row: Record, pages: usize) -> bool
     ensures { result ≡ (given (get_or row 10 0) && leb pages (get_or row 10 0)) }
 {
     row[10] != MISSING && pages <= row[10] as usize
 }
 
 // E6: an N that has a row and is not placed.
-fn row_unplaced(row: [u32; 16]) -> bool
+fn row_unplaced(row: Record) -> bool
     ensures { result ≡ (given (get_or row 10 0) && not (given (get_or row 8 0))) }
 {
     row[10] != MISSING && row[8] == MISSING
 }
 
-// Whether the id names a body node that is a Chip.
-fn is_body_chip(body: &[IdRow], kinds: &[u32], n: usize, id: NodeId) -> bool
-    requires index { Index body.now n }
-    requires n_in_bounds { n ≤ length kinds.now }
-    ensures { result ≡ is_chip kinds.now (entry_of body.now n id.0) }
-{
-    find_id(body, n, id).is_some_and(|i| kinds[i] == KIND_CHIP)
-}
-
-// E5: the parent of a C, among the `c` chips before it, or the brick of a top chip.
-fn parent_missing(
-    body: &[IdRow],
-    kinds: &[u32],
-    nodes: usize,
-    index: &[IdRow],
-    c: usize,
-    row: [u32; 16],
-) -> bool
-    requires index { Index body.now nodes }
-    requires nodes_in_bounds { nodes ≤ length kinds.now }
-    requires index_2 { Index index.now c }
+// E5: the parent of a C, among the chips before it, or the brick of a top chip.
+fn parent_missing(bodies: Bodies<'_, '_>, chips: IdIndex<'_>, row: Record) -> bool
     ensures { result ≡ elim (given (get_or row 2 0)) [
-      | true ↦ not (found (entry_of index.now c (get_or row 2 0)))
-      | false ↦ not (is_chip kinds.now (entry_of body.now nodes (get_or row 1 0)))
+      | true ↦ not (found (entry_of chips.entry.rows.now chips.entry.count (get_or row 2 0)))
+      | false ↦ not (is_chip bodies.entry.kinds.now (entry_of bodies.entry.ids.rows.now bodies.entry.ids.count (get_or row 1 0)))
     ] }
 {
     if row[2] == MISSING {
-        !is_body_chip(body, kinds, nodes, NodeId(row[1]))
+        !bodies.is_chip(NodeId(row[1]))
     } else {
-        !has_id(index, c, NodeId(row[2]))
+        !chips.has(NodeId(row[2]))
     }
 }
 
@@ -115,100 +140,83 @@ pub fn skip_lines(text: &[u8], rows: &[Record], n: usize, rest: usize) -> usize
     place
 }
 
-// Stays (no plainer): each of the three walks asks and enters something else of a row; one walk would take that as a closure over the index that it fills.
+// Stays (no plainer): each of the three walks asks and enters something else of a row, and that of a chip asks the index that its walk is filling: one walk would
+// hand the index to a closure at each turn.
 
-// The N lines, `first` lines behind.
+// The N lines.
 pub fn walk_nodes(
-    text: &[u8],
-    rows: &[Record],
-    first: usize,
-    n: usize,
+    lines: Lines<'_>,
     mut w: Walk,
     index: &mut [IdRow],
     kinds: &mut [u32],
-) -> Walk
-    requires ready { Ready text.now rows.now first w.place }
-    requires first_value { (first ≡ length (sheet_board text.now).pages) × (n ≡ length (sheet_board text.now).nodes) }
-    requires n_in_bounds { n ≤ length kinds.old }
-    requires fresh { Fresh index.old n }
-    ensures walked_nodes { WalkedNodes text.now rows.now first n w result index.new }
-    ensures nodes_seen { NodesSeen text.now first n w result kinds.new }
+) -> Result<Walk, Refusal>
+    requires ready { Ready lines.text.now lines.rows.now lines.first w.place }
+    requires first_value { (lines.first ≡ length (sheet_board lines.text.now).pages) × (lines.count ≡ length (sheet_board lines.text.now).nodes) }
+    requires n_in_bounds { lines.count ≤ length kinds.old }
+    requires fresh { Fresh index.old lines.count }
+    ensures { WalkedNodes lines.entry.text.now lines.entry.rows.now lines.entry.first lines.entry.count w result index.new kinds.new }
 {
-    for i in 0..n {
-        let r = row_of(text, rows, first + i, w.place);
-        let row = r.row;
-        let line = first + i + 1;
-        if enter_id(index, i, NodeId(row[1])) {
-            return Walk { twice: line, ..w };
-        }
+    for i in 0..lines.count {
+        let RowAt { row, next } = lines.row_of(i, w.place);
+        let line = lines.line_of(i);
+        enter_id(index, i, NodeId(row[1]), line)?;
         kinds[i] = row[2];
-        w.missing = first_line(w.missing, page_missing(row, first), line);
-        w.unplaced = first_line(w.unplaced, row_unplaced(row), line);
-        w.place = r.next;
+        w.missing = w.missing.or(page_missing(row, lines.first).then_some(line));
+        w.unplaced = w.unplaced.or(row_unplaced(row).then_some(line));
+        w.place = next;
     }
-    Walk { twice: 0, ..w }
+    Ok(w)
 }
 
-// The C lines, `first` lines behind, once the body nodes are known.
+// The C lines, once the body nodes are known.
 pub fn walk_chips(
-    text: &[u8],
-    rows: &[Record],
-    first: usize,
-    n: usize,
+    lines: Lines<'_>,
     mut w: Walk,
-    body: &[IdRow],
-    kinds: &[u32],
-    nodes: usize,
+    bodies: Bodies<'_, '_>,
     index: &mut [IdRow],
-) -> Walk
-    requires ready { Ready text.now rows.now first w.place }
-    requires chips_ready { ChipsReady (sheet_board text.now) first n nodes body.now kinds.now }
-    requires fresh { Fresh index.old n }
-    ensures walked_chips { WalkedChips text.now rows.now first n w result index.new }
-    ensures unplaced_value { result.unplaced ≡ w.unplaced }
+) -> Result<Walk, Refusal>
+    requires ready { Ready lines.text.now lines.rows.now lines.first w.place }
+    requires chips_ready { ChipsReady (sheet_board lines.text.now) lines.first lines.count bodies.ids.count bodies.ids.rows.now bodies.kinds.now }
+    requires fresh { Fresh index.old lines.count }
+    ensures { WalkedChips lines.entry.text.now lines.entry.rows.now lines.entry.first lines.entry.count w result index.new }
 {
-    for c in 0..n {
-        let r = row_of(text, rows, first + c, w.place);
-        let row = r.row;
-        let line = first + c + 1;
-        let gone = parent_missing(body, kinds, nodes, index, c, row);
-        if enter_id(index, c, NodeId(row[1])) {
-            return Walk { twice: line, ..w };
-        }
-        w.missing = first_line(w.missing, gone, line);
-        w.place = r.next;
+    for c in 0..lines.count {
+        let RowAt { row, next } = lines.row_of(c, w.place);
+        let line = lines.line_of(c);
+        let chips = IdIndex {
+            rows: index,
+            count: c,
+        };
+        let gone = parent_missing(bodies, chips, row);
+        enter_id(index, c, NodeId(row[1]), line)?;
+        w.missing = w.missing.or(gone.then_some(line));
+        w.place = next;
     }
-    Walk { twice: 0, ..w }
+    Ok(w)
 }
 
-// The F lines, `first` lines behind, once the body nodes and the chips are known.
+// The F lines, once the body nodes and the chips are known.
 pub fn walk_inner(
-    text: &[u8],
-    rows: &[Record],
-    first: usize,
-    n: usize,
+    lines: Lines<'_>,
     mut w: Walk,
-    body: &[IdRow],
-    nodes: usize,
-    chips: &[IdRow],
-    chip_count: usize,
+    bodies: IdIndex<'_>,
+    chips: IdIndex<'_>,
     index: &mut [IdRow],
-) -> Walk
-    requires ready { Ready text.now rows.now first w.place }
-    requires inner_ready { InnerReady (sheet_board text.now) first n nodes chip_count body.now chips.now }
-    requires fresh { Fresh index.old n }
-    ensures walked_inner { WalkedInner text.now rows.now first n w result index.new }
-    ensures unplaced_value { result.unplaced ≡ w.unplaced }
+) -> Result<Walk, Refusal>
+    requires ready { Ready lines.text.now lines.rows.now lines.first w.place }
+    requires inner_ready { InnerReady (sheet_board lines.text.now) lines.first lines.count bodies.count chips.count bodies.rows.now chips.rows.now }
+    requires fresh { Fresh index.old lines.count }
+    ensures { WalkedInner lines.entry.text.now lines.entry.rows.now lines.entry.first lines.entry.count w result index.new }
 {
-    for f in 0..n {
-        let r = row_of(text, rows, first + f, w.place);
-        let row = r.row;
-        let line = first + f + 1;
-        if has_id(body, nodes, NodeId(row[1])) || enter_id(index, f, NodeId(row[1])) {
-            return Walk { twice: line, ..w };
+    for f in 0..lines.count {
+        let RowAt { row, next } = lines.row_of(f, w.place);
+        let line = lines.line_of(f);
+        if bodies.has(NodeId(row[1])) {
+            return Err(Reason::IdTaken.at(line));
         }
-        w.missing = first_line(w.missing, !has_id(chips, chip_count, NodeId(row[2])), line);
-        w.place = r.next;
+        enter_id(index, f, NodeId(row[1]), line)?;
+        w.missing = w.missing.or((!chips.has(NodeId(row[2]))).then_some(line));
+        w.place = next;
     }
-    Walk { twice: 0, ..w }
+    Ok(w)
 }

@@ -79,33 +79,33 @@ found_nothing none e = refl
 found_nothing (at j) e = never cc
 
 -- The anchor of an inner record, as `inner_anchor` finds it.
-pub anchor_found : (nodes chips inner bi : List (List ℕ)) → Ids bi (length nodes) (λ i. field nodes i 1) → (f top r : ℕ)
-    → ((b : Board) → b.chips ≡ chips → top ≡ top_chip b (length chips) (field inner f 2)) → r ≡ held (entry_of bi (length nodes) top)
-    → (b : Board) → b.nodes ≡ nodes → b.chips ≡ chips → b.inner ≡ inner → r ≡ held (inner_anchor b f)
+pub anchor_found : (nodes chips inner bi : List (List ℕ)) → Ids bi (length nodes) (λ i. field nodes i 1) → (f top : ℕ) (r : Option ℕ)
+    → ((b : Board) → b.chips ≡ chips → top ≡ top_chip b (length chips) (field inner f 2)) → r ≡ found_of (entry_of bi (length nodes) top)
+    → (b : Board) → b.nodes ≡ nodes → b.chips ≡ chips → b.inner ≡ inner → r ≡ found_of (inner_anchor b f)
 anchor_found nodes chips inner bi known f top r t e b n c i =
-    e ∙ ap held (body_entry nodes bi known top b n ∙ ap (body_of b) (t b c ∙ (λ z. top_chip b (length (sym c z)) (field (sym i z) f 2))))
+    e ∙ ap found_of (body_entry nodes bi known top b n ∙ ap (body_of b) (t b c ∙ (λ z. top_chip b (length (sym c z)) (field (sym i z) f 2))))
 
 -- A table of anchors: none asked for, and one more entered.
 pub none_asked : (b : Board) (n : ℕ) → length b.inner ≤ n → SomeAnchors b (replicate n None)
 none_asked b n h f anchor l e = let none : None ≡ Some anchor = sym (get_or-replicate n f None None (omega (arith, h, l))) ∙ e in never cc
 
-pub anchor_entered : (b : Board) (anchors : List (Option ℕ)) (f r : ℕ) → f < length anchors → SomeAnchors b anchors → r ≡ held (inner_anchor b f) → SomeAnchors b (set anchors f (Some r))
+pub anchor_entered : (b : Board) (anchors : List (Option (Option ℕ))) (f : ℕ) (r : Option ℕ) → f < length anchors → SomeAnchors b anchors → r ≡ found_of (inner_anchor b f) → SomeAnchors b (set anchors f (Some r))
 anchor_entered b anchors f r room some is k anchor l e = go (eqb k f) refl
   where
-    go : (t : Bool) → eqb k f ≡ t → anchor ≡ held (inner_anchor b k)
+    go : (t : Bool) → eqb k f ≡ t → anchor ≡ found_of (inner_anchor b k)
     go true q =
         let z : k ≡ f = eqb-true k f q in
         let here : Some r ≡ Some anchor = sym (get_or-set_same anchors f (Some r) None room) ∙ (λ w. get_or (set anchors f (Some r)) (sym z w) None) ∙ e in
         let same : anchor ≡ r = cc in
-        same ∙ is ∙ ap (λ (i : ℕ). held (inner_anchor b i)) (sym z)
+        same ∙ is ∙ ap (λ (i : ℕ). found_of (inner_anchor b i)) (sym z)
     go false q = some k anchor l (sym (get_or-set_other anchors f k (Some r) None (λ w. eqb-false k f q w)) ∙ e)
 
 -- The end at a node: what `find_end` finds of a board whose body nodes and nodes inside chips are indexed.
 module _ (nodes inner bi ii : List (List ℕ)) (known : Indexes nodes inner bi ii) (id : ℕ) (b : Board) (n : b.nodes ≡ nodes) (f : b.inner ≡ inner) where
-  pub end_body : (i : ℕ) → Some i ≡ found_of (entry_of bi (length nodes) id) → (i ≡ held (anchor_of b id)) × (not (eqb (field nodes i 3) 2) ≡ is_bussable b id)
+  pub end_body : (i : ℕ) → Some i ≡ found_of (entry_of bi (length nodes) id) → (Some i ≡ found_of (anchor_of b id)) × (not (eqb (field nodes i 3) 2) ≡ is_bussable b id)
   end_body i e =
       let here : body_of b id ≡ at i = sym (body_entry nodes bi known.body id b n) ∙ found_some _ i e in (
-        sym (ap held (anchor_body b id i here)),
+        sym (ap found_of (anchor_body b id i here)),
         (λ z. not (eqb (field (sym n z) i 3) 2)) ∙ sym (bussable_body b id i here),
       )
 
@@ -113,17 +113,17 @@ module _ (nodes inner bi ii : List (List ℕ)) (known : Indexes nodes inner bi i
     no_body : body_of b id ≡ none
     no_body = sym (body_entry nodes bi known.body id b n) ∙ found_nothing _ e
 
-    pub end_inner : (j : ℕ) → Some j ≡ found_of (entry_of ii (length inner) id) → (r : ℕ) → r ≡ held (inner_anchor b j) → (r ≡ held (anchor_of b id)) × (not (eqb (field inner j 3) 2) ≡ is_bussable b id)
+    pub end_inner : (j : ℕ) → Some j ≡ found_of (entry_of ii (length inner) id) → (r : Option ℕ) → r ≡ found_of (inner_anchor b j) → (r ≡ found_of (anchor_of b id)) × (not (eqb (field inner j 3) 2) ≡ is_bussable b id)
     end_inner j g r a =
         let here : inner_of b id ≡ at j = sym (inner_entry inner ii known.inside id b f) ∙ found_some _ j g in (
-          a ∙ sym (ap held (anchor_inner b id no_body j here)),
+          a ∙ sym (ap found_of (anchor_inner b id no_body j here)),
           (λ z. not (eqb (field (sym f z) j 3) 2)) ∙ sym (bussable_inner b id no_body j here),
         )
 
-    pub end_none : None ≡ found_of (entry_of ii (length inner) id) → (MISSING ≡ held (anchor_of b id)) × (false ≡ is_bussable b id)
+    pub end_none : None ≡ found_of (entry_of ii (length inner) id) → (None ≡ found_of (anchor_of b id)) × (false ≡ is_bussable b id)
     end_none g =
         let gone : inner_of b id ≡ none = sym (inner_entry inner ii known.inside id b f) ∙ found_nothing _ g in
-        (sym (ap held (anchor_none b id no_body gone)), sym (bussable_none b id no_body gone))
+        (sym (ap found_of (anchor_none b id no_body gone)), sym (bussable_none b id no_body gone))
 
 -- A bool cast to a number.
 pub byte_flag : (r : Bool) → bool_byte r ≡ flag r

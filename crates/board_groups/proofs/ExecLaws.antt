@@ -6,11 +6,10 @@ use mathlib.Core.Path.{◌≡◌, refl, sym, ◌∙◌}
 use mathlib.Core.Bool.{Bool, true, false, ◌&&◌}
 use mathlib.Core.List.{List}
 use lib.Dec.{eqb}
-use lib.ListN.{length, get_or, take}
+use lib.ListN.{length, get_or}
 use Rattle.std.specs.Prelude.{Result, Ok, Err, is_ok, MatchResult}
 use Rattle.std.specs.List.Sorted.{IsBinarySearchResult}
 use Rattle.std.specs.Ordering.{nat_cmp}
-use Rattle.std.proofs.lemmas.List.{length-take-le, get_or-take}
 use Rattle.std.proofs.lemmas.List.Sorted.{searched}
 use borrow.Author.Tests.{eq-eqb}
 use Rattle.base.specs.Lists.{any, upto}
@@ -48,38 +47,28 @@ execs_sorted execs given risen room r known =
     }
 
 -- What a search among the keys found tells whether an X names both.
-module _ (execs : List (List ℕ)) (keys : List ℕ) (known : ExecKeys execs keys) (node port : ℕ) (less : port < WORD) where
-  rising : (i j : ℕ) → i ≤ j → j < length (take (length execs) keys) → get_or (take (length execs) keys) i 0 ≤ get_or (take (length execs) keys) j 0
-  rising i j h l =
-      let long = length-take-le (length execs) keys known.room in
-      let at_i = get_or-take (length execs) keys i 0 (omega (arith, long)) in
-      let at_j = get_or-take (length execs) keys j 0 (omega (arith, long)) in
-      let up = known.rising i j h (omega (arith, long)) in
-      omega (arith, at_i, at_j, up)
+module _ (execs : List (List ℕ)) (keys : List ℕ) (size : length keys ≡ length execs) (known : ExecKeys execs keys) (node port : ℕ) (less : port < WORD) where
+  rising : (i j : ℕ) → i ≤ j → j < length keys → get_or keys i 0 ≤ get_or keys j 0
+  rising i j h l = known.rising i j h (omega arith)
 
-  unnamed : (p : ℕ) → ((k : ℕ) → k < p → get_or (take (length execs) keys) k 0 < exec_key node port)
-      → ((k : ℕ) → p ≤ k → k < length (take (length execs) keys) → exec_key node port < get_or (take (length execs) keys) k 0)
+  unnamed : (p : ℕ) → ((k : ℕ) → k < p → get_or keys k 0 < exec_key node port) → ((k : ℕ) → p ≤ k → k < length keys → exec_key node port < get_or keys k 0)
       → (e : ℕ) → e < length execs → (t : Bool) → Exec execs node port e ≡ t → t ≡ false
   unnamed p before after e h false q = refl
   unnamed p before after e h true q =
       let same = same_two (field execs e 1) node (field execs e 2) port q in
       let at = known.to e h in
       let key : get_or keys at.0 0 ≡ exec_key node port = at.2 ∙ (λ z. exec_key (same.0 z) (same.1 z)) in
-      let long = length-take-le (length execs) keys known.room in
-      let here = get_or-take (length execs) keys at.0 0 at.1 in
-      absurd (elim (dec_lt at.0 p) [ yes l ↦ let b = before at.0 l in omega arith | no f ↦ let a = after at.0 (omega arith) (omega (arith, long, at.1)) in omega arith ])
+      absurd (elim (dec_lt at.0 p) [ yes l ↦ let b = before at.0 l in omega arith | no f ↦ let a = after at.0 (omega arith) (omega (arith, at.1)) in omega arith ])
 
-  pub exec_searched : (r : Result ℕ ℕ) → IsBinarySearchResult (λ y. nat_cmp y (exec_key node port)) (take (length execs) keys) r → is_ok r ≡ any (Exec execs node port) (upto (length execs))
-  exec_searched r found = go r (searched (take (length execs) keys) (exec_key node port) r found rising)
+  pub exec_searched : (r : Result ℕ ℕ) → IsBinarySearchResult (λ y. nat_cmp y (exec_key node port)) keys r → is_ok r ≡ any (Exec execs node port) (upto (length execs))
+  exec_searched r found = go r (searched keys (exec_key node port) r found rising)
     where
-      go : (r : Result ℕ ℕ) → MatchResult r (λ i. (i < length (take (length execs) keys)) × (get_or (take (length execs) keys) i 0 ≡ exec_key node port))
-          (λ i. (i ≤ length (take (length execs) keys)) × ((k : ℕ) → k < i → get_or (take (length execs) keys) k 0 < exec_key node port) × ((k : ℕ) → i ≤ k → k < length (take (length execs) keys) → exec_key node port < get_or (take (length execs) keys) k 0))
+      go : (r : Result ℕ ℕ) → MatchResult r (λ i. (i < length keys) × (get_or keys i 0 ≡ exec_key node port))
+          (λ i. (i ≤ length keys) × ((k : ℕ) → k < i → get_or keys k 0 < exec_key node port) × ((k : ℕ) → i ≤ k → k < length keys → exec_key node port < get_or keys k 0))
           → is_ok r ≡ any (Exec execs node port) (upto (length execs))
       go (Ok p) at =
-          let long = length-take-le (length execs) keys known.room in
-          let inside : p < length execs = omega (arith, long, at.0) in
-          let f = known.from p inside in
-          let same : get_or keys p 0 ≡ exec_key node port = sym (get_or-take (length execs) keys p 0 inside) ∙ at.1 in
+          let f = known.from p (omega (arith, at.0)) in
+          let same = at.1 in
           let key : get_or keys p 0 ≡ exec_key (field execs f.0 1) (field execs f.0 2) = f.2 in
           let low : field execs f.0 2 < WORD = f.3 in
           sym (any_one (Exec execs node port) (length execs) f.0 f.1 (both _ _ (eq-eqb (field execs f.0 1) node (omega arith)) (eq-eqb (field execs f.0 2) port (omega arith))))

@@ -4,7 +4,7 @@ use native.Mathlib.Omega.{arith}
 use native.Mathlib.Decide.{ℕ_discrete}
 use mathlib.Core.Path.{◌≡◌, sym, ap, ◌∙◌, subst}
 use mathlib.Core.List.{List, []}
-use lib.ListN.{length, get_or, set}
+use lib.ListN.{length, get_or, set, length-set}
 use lib.Seq.{get_or-set_same, get_or-set_other}
 use Rattle.board.specs.Board.{Board, field}
 use Rattle.board.specs.Tables.{NodeFacts, WireFacts}
@@ -47,3 +47,11 @@ module _ (facts : List (List ℕ)) (w : ℕ) (row : List ℕ) (room : w < length
         | yes e ↦ subst (λ (j : ℕ). field (set facts w row) j c ≡ want j) (sym e) (column_here c ∙ new)
         | no f ↦ column_else c k f ∙ old k (omega (arith, f))
       ]
+
+-- A store to one cell leaves every row as long as it was.
+pub rows_wide : (table : List (List ℕ)) (w c v : ℕ) → w < length table → (k : ℕ) → length (get_or (set table w (set (get_or table w []) c v)) k []) ≡ length (get_or table k [])
+rows_wide table w c v room k =
+    elim (ℕ_discrete k w) [
+      | yes e ↦ rw e (ap length (get_or-set_same table w (set (get_or table w []) c v) [] room) ∙ length-set (get_or table w []) c v)
+      | no f ↦ ap length (get_or-set_other table w k (set (get_or table w []) c v) [] f)
+    ]

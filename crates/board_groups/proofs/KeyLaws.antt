@@ -5,10 +5,11 @@ use native.Mathlib.Decide.{dec_lt}
 use native.Mathlib.Numerals.{add-one}
 use mathlib.Core.Path.{◌≡◌, refl, sym, ap, ◌∙◌, subst}
 use mathlib.Core.Bool.{Bool, true, false, not}
-use mathlib.Core.List.{List, [], ◌∷◌, ◌++◌, Memᴰ}
+use mathlib.Core.List.{List, [], ◌∷◌, Memᴰ}
 use lib.Dec.{eqb}
-use lib.ListN.{length, get_or, set, take, drop}
-use lib.Seq.{get_or-set_same, get_or-set_other, get_or-take, length-take-le, take_at}
+use Rattle.std.specs.Prelude.{Option, Some, None}
+use lib.ListN.{length, get_or, set}
+use lib.Seq.{get_or-set_same, get_or-set_other}
 use borrow.Author.Tests.{eq-eqb, ne_eqb, eqb-true, eqb-false, lt-ltb, le-ltb}
 use Rattle.sheet.specs.Table.{MISSING, HALF_MOST}
 use Rattle.base.specs.Sort.{lex_less, sorted_rows, sorted}
@@ -20,8 +21,8 @@ use Rattle.board.specs.Accepted.{AcceptedNodes}
 use Rattle.board.proofs.Accepting.{nodes_half_x, nodes_half_y, nodes_x}
 use Rattle.board.specs.Rows.{turned, brick_cell, bricks_in, nodes_on, downs_on, row_of, row_top}
 use Rattle.board.specs.Tables.{nodes_alone, NodeFacts}
-use Rattle.board_groups.specs.Collecting.{row_key, END_MOST, Ranked, run_after}
-use Rattle.base.proofs.Members.{mem_at, at_mem, sorted_in, sorted_from_lem, length-sorted, sorted_ascending, ascending_at, lex_alone}
+use Rattle.board_groups.specs.Collecting.{row_key, END_MOST, Ranked, run_from, next_run, run_after}
+use Rattle.base.proofs.Members.{mem_at, at_mem, sorted_in, sorted_from_lem, sorted_ascending, ascending_at, lex_alone}
 use Rattle.board_groups.proofs.RowLaws.{On, row_first, row_next, row_same, top_is}
 
 module _ (b : Board) (i : ℕ) where
@@ -88,8 +89,8 @@ head_order [] y h = omega arith
 head_order (p ∷ x) [] h = clash refl h
 head_order (p ∷ x) (q ∷ y) h = elim (dec_lt q p) [ yes k ↦ clash refl (rw (lt-ltb q p k) at h) | no f ↦ omega arith ]
 
-run_page : (run : Run) (key : List ℕ) → (run_after run key).page ≡ get_or key 0 0
-unfolding run_after
+run_page : (run : Run) (key : List ℕ) → (next_run run key).page ≡ get_or key 0 0
+unfolding next_run
 run_page run key = go (eqb (get_or key 0 0) run.page) (eqb (get_or key 1 0) run.down) refl
   where
     go : (s t : Bool) → eqb (get_or key 0 0) run.page ≡ s
@@ -103,17 +104,17 @@ run_page run key = go (eqb (get_or key 0 0) run.page) (eqb (get_or key 1 0) run.
 
 -- The three cases of a step.
 module _ (run : Run) (key : List ℕ) where
-  pub run_new_page : (get_or key 0 0 ≡ run.page → ⊥) → run_after run key ≡ record { page = get_or key 0 0; down = get_or key 1 0; row = 0; top = get_or key 4 0 }
-  unfolding run_after
-  run_new_page h = rw (ne_eqb (get_or key 0 0) run.page h, run_after) refl
+  pub run_new_page : (get_or key 0 0 ≡ run.page → ⊥) → next_run run key ≡ record { page = get_or key 0 0; down = get_or key 1 0; row = 0; top = get_or key 4 0 }
+  unfolding next_run
+  run_new_page h = rw (ne_eqb (get_or key 0 0) run.page h, next_run) refl
 
-  pub run_new_row : get_or key 0 0 ≡ run.page → (get_or key 1 0 ≡ run.down → ⊥) → run_after run key ≡ record { page = get_or key 0 0; down = get_or key 1 0; row = run.row + 1; top = get_or key 4 0 }
-  unfolding run_after
-  run_new_row e h = rw (eq-eqb (get_or key 0 0) run.page e, ne_eqb (get_or key 1 0) run.down h, run_after) refl
+  pub run_new_row : get_or key 0 0 ≡ run.page → (get_or key 1 0 ≡ run.down → ⊥) → next_run run key ≡ record { page = get_or key 0 0; down = get_or key 1 0; row = run.row + 1; top = get_or key 4 0 }
+  unfolding next_run
+  run_new_row e h = rw (eq-eqb (get_or key 0 0) run.page e, ne_eqb (get_or key 1 0) run.down h, next_run) refl
 
-  pub run_same_row : get_or key 0 0 ≡ run.page → get_or key 1 0 ≡ run.down → run_after run key ≡ run
-  unfolding run_after
-  run_same_row e h = rw (eq-eqb (get_or key 0 0) run.page e, eq-eqb (get_or key 1 0) run.down h, run_after) refl
+  pub run_same_row : get_or key 0 0 ≡ run.page → get_or key 1 0 ≡ run.down → next_run run key ≡ run
+  unfolding next_run
+  run_same_row e h = rw (eq-eqb (get_or key 0 0) run.page e, eq-eqb (get_or key 1 0) run.down h, next_run) refl
 
 -- What is known of the row of a key's node.
 pub record RowIs (b : Board) (i : ℕ) (run : Run) : Type 0 where
@@ -293,10 +294,10 @@ module _ (b : Board) (keys : List (List ℕ)) (ranked : Ranked b keys) where
                   rest = λ r. (sym h, known.1 ∙ sym rows, known.2 ∙ (λ z. row_top b (on.page z) (sym rows z)));
                 }
 
-      pub row_is : RowIs b i (run_after run (get_or keys k []))
+      pub row_is : RowIs b i (next_run run (get_or keys k []))
       row_is = go (eqb (page_of b i) run.page) refl (eqb (down_of b i) run.down) refl k refl
         where
-          go : (s : Bool) → eqb (page_of b i) run.page ≡ s → (t : Bool) → eqb (down_of b i) run.down ≡ t → (q : ℕ) → k ≡ q → RowIs b i (run_after run (get_or keys k []))
+          go : (s : Bool) → eqb (page_of b i) run.page ≡ s → (t : Bool) → eqb (down_of b i) run.down ≡ t → (q : ℕ) → k ≡ q → RowIs b i (next_run run (get_or keys k []))
           go false f t g q e =
               subst (RowIs b i) (sym (run_new_page run (get_or keys k []) (λ z. eqb-false (page_of b i) run.page f (sym (col 0) ∙ z)))) (in_new_page (eqb-false (page_of b i) run.page f))
           go true f t g zero e = not_missing (page_of b i) has (eqb-true (page_of b i) run.page f ∙ before.none e)
@@ -317,15 +318,35 @@ pub record Walked (b : Board) (keys facts : List (List ℕ)) (k : ℕ) (run : Ru
   pub before : Before b keys k run
   pub known : (j : ℕ) → j < k → (i : ℕ) → i < length b.nodes → get_or keys j [] ≡ row_key b i → has_row b i ≡ true → Known b facts i
 
-pub walk_start : (b : Board) (keys facts : List (List ℕ)) (run : Run) → run.page ≡ MISSING → Walked b keys facts 0 run
-walk_start b keys facts run e =
-    record { before = record { none = λ z. e; last = λ j z. absurd (omega arith) }; known = λ j h. absurd (omega arith) }
+-- A run in which no key stands, where none is before.
+abbrev pub no_run : Run
+no_run = record { page = MISSING; down = 0; row = 0; top = 0 }
+
+abbrev pub run_or_none : Option Run → Run
+run_or_none None = no_run
+run_or_none (Some run) = run
+
+pub walk_start : (b : Board) (keys facts : List (List ℕ)) → Walked b keys facts 0 no_run
+walk_start b keys facts =
+    record { before = record { none = λ z. refl; last = λ j z. absurd (omega arith) }; known = λ j h. absurd (omega arith) }
+
+first_run : (b : Board) (i : ℕ) (key : List ℕ) → key ≡ row_key b i → run_from key 0 ≡ next_run no_run key
+unfolding next_run
+first_run b i key e = go (has_row b i) refl
+  where
+    go : (t : Bool) → has_row b i ≡ t → run_from key 0 ≡ next_run no_run key
+    go true has = sym (run_new_page no_run key (λ z. not_missing (page_of b i) has (sym (ap (λ (r : List ℕ). get_or r 0 0) e ∙ key_page b i) ∙ z)))
+    go false h = let is = e ∙ key_none b i h in rw is refl
+
+pub run_told : (b : Board) (keys : List (List ℕ)) → Ranked b keys → (k : ℕ) → k < length keys → (before : Option Run) → run_after before (get_or keys k []) ≡ next_run (run_or_none before) (get_or keys k [])
+run_told b keys ranked k h None = let w = ranked.each k h in first_run b w.0 (get_or keys k []) w.2
+run_told b keys ranked k h (Some run) = refl
 
 module _ (b : Board) (keys : List (List ℕ)) (ranked : Ranked b keys) (facts : List (List ℕ)) (k : ℕ) (run : Run) (walked : Walked b keys facts k run) (in-keys : k < length keys) where
-  row_after_lem : (i : ℕ) → i < length b.nodes → get_or keys k [] ≡ row_key b i → RowIs b i (run_after run (get_or keys k []))
+  row_after_lem : (i : ℕ) → i < length b.nodes → get_or keys k [] ≡ row_key b i → RowIs b i (next_run run (get_or keys k []))
   row_after_lem i h e = go (has_row b i) refl
     where
-      go : (t : Bool) → has_row b i ≡ t → RowIs b i (run_after run (get_or keys k []))
+      go : (t : Bool) → has_row b i ≡ t → RowIs b i (next_run run (get_or keys k []))
       go true has = row_is b keys ranked k i in-keys h e has run walked.before
       go false has =
           record {
@@ -333,7 +354,7 @@ module _ (b : Board) (keys : List (List ℕ)) (ranked : Ranked b keys) (facts : 
             rest = λ z. clash z has;
           }
 
-  pub walk_more : (next : Run) (at : ℕ) → next ≡ run_after run (get_or keys k []) → at ≡ field keys k 3 → at < length facts
+  pub walk_more : (next : Run) (at : ℕ) → next ≡ next_run run (get_or keys k []) → at ≡ field keys k 3 → at < length facts
       → Walked b keys (set facts at (next.row ∷ next.top ∷ 0 ∷ 0 ∷ 0 ∷ 0 ∷ 0 ∷ 0 ∷ [])) (k + 1) next
   walk_more next at e f room =
       record {
@@ -379,35 +400,23 @@ walk_end b keys ranked facts k run walked h =
     }
 
 -- The keys of all nodes, sorted.
-pub ranked_of : (b : Board) (keys : List (List ℕ)) → length b.nodes ≤ length keys
+pub ranked_of : (b : Board) (keys : List (List ℕ)) → length keys ≡ length b.nodes
     → ((i : ℕ) → i < length b.nodes → get_or keys i [] ≡ row_key b i)
     → ((i : ℕ) → i < length b.nodes → has_row b i ≡ true → (brick_cell b i).x1 ≤ END_MOST)
-    → Ranked b (sorted_rows (take (length b.nodes) keys))
+    → Ranked b (sorted_rows keys)
 unfolding sorted_rows
-ranked_of b keys room filled ends =
+ranked_of b keys size filled ends =
     record {
-      each = λ k h. from k (mem_at [] given' (sorted_from_lem lex_less given' (at_mem [] (sorted lex_less given') k h)));
-      all = λ i h. to i h (mem_at [] (sorted lex_less given') (sorted_in lex_less given' (subst (λ (r : List ℕ). Memᴰ r given') (key i h) (at_mem [] given' i (inside i h)))));
-      rising = λ j k h g. ascending_at lex_less [] (sorted lex_less given') j k (sorted_ascending lex_less lex_order lex_alone given') h g;
+      each = λ k h. from k (mem_at [] keys (sorted_from_lem lex_less keys (at_mem [] (sorted lex_less keys) k h)));
+      all = λ i h. to i h (mem_at [] (sorted lex_less keys) (sorted_in lex_less keys (subst (λ (r : List ℕ). Memᴰ r keys) (filled i h) (at_mem [] keys i (omega (arith, size))))));
+      rising = λ j k h g. ascending_at lex_less [] (sorted lex_less keys) j k (sorted_ascending lex_less lex_order lex_alone keys) h g;
       ends = ends;
     }
   where
-    given' : List (List ℕ)
-    given' = take (length b.nodes) keys
+    from : (k : ℕ) → (i : ℕ) × (i < length keys) × (get_or keys i [] ≡ get_or (sorted lex_less keys) k []) → (i : ℕ) × (i < length b.nodes) × (get_or (sorted lex_less keys) k [] ≡ row_key b i)
+    from k w = let e = size in let l = w.1 in let h : w.0 < length b.nodes = omega arith in (w.0, h, sym w.2 ∙ filled w.0 h)
 
-    size : length given' ≡ length b.nodes
-    size = length-take-le (length b.nodes) keys room
-
-    inside : (i : ℕ) → i < length b.nodes → i < length given'
-    inside i h = let e = size in omega arith
-
-    key : (i : ℕ) → i < length b.nodes → get_or given' i [] ≡ row_key b i
-    key i h = get_or-take (length b.nodes) keys i [] h ∙ filled i h
-
-    from : (k : ℕ) → (i : ℕ) × (i < length given') × (get_or given' i [] ≡ get_or (sorted lex_less given') k []) → (i : ℕ) × (i < length b.nodes) × (get_or (sorted lex_less given') k [] ≡ row_key b i)
-    from k w = let e = size in let l = w.1 in let h : w.0 < length b.nodes = omega arith in (w.0, h, sym w.2 ∙ key w.0 h)
-
-    to : (i : ℕ) → i < length b.nodes → (k : ℕ) × (k < length (sorted lex_less given')) × (get_or (sorted lex_less given') k [] ≡ row_key b i) → (k : ℕ) × (k < length (sorted lex_less given')) × (get_or (sorted lex_less given') k [] ≡ row_key b i)
+    to : (i : ℕ) → i < length b.nodes → (k : ℕ) × (k < length (sorted lex_less keys)) × (get_or (sorted lex_less keys) k [] ≡ row_key b i) → (k : ℕ) × (k < length (sorted lex_less keys)) × (get_or (sorted lex_less keys) k [] ≡ row_key b i)
     to i h w = w
 
 -- Rows and tops are found from the nodes alone.
@@ -415,9 +424,9 @@ pub facts_of_nodes : (b : Board) (nodes facts : List (List ℕ)) → b.nodes ≡
 unfolding row_of downs_on nodes_on row_top bricks_in brick_cell
 facts_of_nodes b nodes facts e f = let g : NodeFacts (nodes_alone b.nodes) facts = subst (λ (ns : List (List ℕ)). NodeFacts (nodes_alone ns) facts) (sym e) f in record { rows = g.rows; tops = g.tops }
 
--- The sorted keys as they are lent on: the front of a table whose front was sorted.
-module _ (nodes keys front : List (List ℕ)) (room : length nodes ≤ length keys) (accepted : AcceptedNodes nodes)
-    (filled : (i : ℕ) → i < length nodes → get_or keys i [] ≡ row_key (nodes_alone nodes) i) (done : front ≡ sorted_rows (take (length nodes) keys)) where
+-- The sorted keys.
+module _ (nodes keys risen : List (List ℕ)) (room : length keys ≡ length nodes) (accepted : AcceptedNodes nodes)
+    (filled : (i : ℕ) → i < length nodes → get_or keys i [] ≡ row_key (nodes_alone nodes) i) (done : risen ≡ sorted_rows keys) where
   end_most : (i : ℕ) → i < length nodes → has_row (nodes_alone nodes) i ≡ true → (brick_cell (nodes_alone nodes) i).x1 ≤ END_MOST
   unfolding brick_cell
   end_most i h has =
@@ -425,18 +434,12 @@ module _ (nodes keys front : List (List ℕ)) (room : length nodes ≤ length ke
       let half = half_within (turned (nodes_alone nodes) i) _ (field nodes i 5) (field nodes i 6) HALF_MOST refl (nodes_half_x accepted i) (nodes_half_y accepted i) in
       omega arith
 
-  front_length : length front ≡ length nodes
-  unfolding sorted_rows
-  front_length = ap length done ∙ length-sorted lex_less (take (length nodes) keys) ∙ length-take-le (length nodes) keys room
+  pub keys_ranked : Ranked (nodes_alone nodes) risen
+  keys_ranked = subst (Ranked (nodes_alone nodes)) (sym done) (ranked_of (nodes_alone nodes) keys room filled end_most)
 
-  pub lent_ranked : Ranked (nodes_alone nodes) (take (length nodes) (front ++ drop (length nodes) keys))
-  lent_ranked =
-      subst (Ranked (nodes_alone nodes)) (sym done ∙ sym (take_at front (drop (length nodes) keys) (length nodes) front_length))
-      (ranked_of (nodes_alone nodes) keys room filled end_most)
-
-  pub lent_index : (k : ℕ) → k < length (take (length nodes) (front ++ drop (length nodes) keys)) → field (take (length nodes) (front ++ drop (length nodes) keys)) k 3 < length nodes
-  lent_index k h =
-      let w = lent_ranked.each k h in
+  pub keys_index : (k : ℕ) → k < length risen → field risen k 3 < length nodes
+  keys_index k h =
+      let w = keys_ranked.each k h in
       let l = w.1 in
-      let e : field (take (length nodes) (front ++ drop (length nodes) keys)) k 3 ≡ w.0 = ap (λ (r : List ℕ). get_or r 3 0) w.2 ∙ key_index (nodes_alone nodes) w.0 in
+      let e : field risen k 3 ≡ w.0 = ap (λ (r : List ℕ). get_or r 3 0) w.2 ∙ key_index (nodes_alone nodes) w.0 in
       omega arith

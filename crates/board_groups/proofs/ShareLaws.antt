@@ -13,6 +13,8 @@ use lib.Seq.{get_or-set_same, get_or-set_other}
 use borrow.Author.Tests.{eq-eqb}
 use Rattle.base.specs.Views.{view}
 use Rattle.base.specs.Keys.{Risen}
+use Rattle.base.specs.Sort.{sorted_keys}
+use Rattle.base.proofs.KeyLaws.{keys_rise, keys_from, keys_to}
 use Rattle.base.proofs.Bools.{clash}
 use Rattle.base.proofs.Lists.{same_three}
 use Rattle.board.specs.Board.{Board, field}
@@ -147,6 +149,18 @@ module _ (number : ℕ → ℕ) (given risen : List ℕ) (m : ℕ) (few : m ≤ 
       let high = r.rising p (suc p) (omega arith) h in
       let same : get_or risen p 0 / NUMBERS ≡ get_or risen (suc p) 0 / NUMBERS = omega (arith, b.2, c.1, c.0) in
       clash starts (ap not (eq-eqb (get_or risen p 0 / NUMBERS) (get_or risen (suc p) 0 / NUMBERS) same))
+
+-- All keys, sorted.
+pub all_risen : (keys risen : List ℕ) (m : ℕ) → length keys ≡ m → risen ≡ sorted_keys keys → Risen keys risen m
+all_risen keys risen m long e = subst (λ (l : List ℕ). Risen keys l m) (sym e) (subst (Risen keys (sorted_keys keys)) long all)
+  where
+    all : Risen keys (sorted_keys keys) (length keys)
+    all =
+        record {
+          rising = λ i j b c. elim (dec_lt i j) [ yes k ↦ keys_rise keys i j k c | no f ↦ let same : i ≡ j = omega arith in rw same (omega arith) ];
+          from = keys_from keys;
+          to = keys_to keys;
+        }
 
 -- The packed keys of taps, sorted, bring the taps in runs.
 pub runs_sorted : (wires taps : List (List ℕ)) (given risen : List ℕ) (m : ℕ) → m ≤ length risen → m ≤ length taps → m ≤ NUMBERS → Wired wires taps m → Risen given risen m

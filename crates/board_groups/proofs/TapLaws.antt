@@ -2,13 +2,13 @@
 use Prim.Native.Nat.{ℕ, zero, suc, ◌+◌, ◌≤◌, ◌<◌}
 use native.Mathlib.Omega.{arith}
 use native.Mathlib.Numerals.{add-one}
+use native.Mathlib.Decide.{ℕ_discrete}
 use mathlib.Core.Path.{◌≡◌, refl, sym, ap, ◌∙◌, subst}
 use mathlib.Core.Bool.{Bool, true, false, not, ◌&&◌, ◌||◌}
 use mathlib.Core.List.{List, [], ◌∷◌}
 use lib.Dec.{eqb}
 use lib.ListN.{length, get_or, set}
 use lib.Seq.{get_or-set_same, get_or-set_other}
-use Rattle.sheet.specs.Table.{MISSING}
 use Rattle.base.proofs.Bools.{never, and_right}
 use Rattle.base.specs.Lists.{Found, none, at, any, fold, upto}
 use Rattle.board.specs.Board.{Board, field, given, has_row, page_of, source_node, target_node, class_of, kind_of, class_inline, class_storage, kind_chip, kind_input, kind_coerce}
@@ -16,11 +16,14 @@ use Rattle.board.specs.Refusals.{body_of, inner_of}
 use Rattle.board.specs.Rows.{row_of}
 use Rattle.board.specs.Groups.{Tap, anchor_of, top_chip, is_bussable, wire_open, anchors_open, crosses_at, is_bus_worthy, targets_exec, group_for, tap_for, add_wire, taps_of}
 use Rattle.base.specs.Views.{view}
+use Rattle.std.specs.Prelude.{Option, None}
+use Rattle.std.specs.Bool.{then_some}
+use Rattle.board.specs.Index.{found_of}
 use Rattle.board.specs.Tables.{held, flag, tap_in, tap_target, NodeFacts, WireFacts}
-use Rattle.board_groups.specs.Shares.{Shared, Appended}
+use Rattle.board_groups.specs.Shares.{Wired, new_tap, Shared, Appended}
 use Rattle.board_groups.proofs.Ends.{found_below, held_there}
 use Rattle.board_groups.proofs.ShareLaws.{group_told}
-use Rattle.board_groups.proofs.Facts.{same_nodes, same_wires_lem, column_kept, column_more}
+use Rattle.board_groups.proofs.Facts.{Agree, same_nodes, same_wires_lem, column_kept, column_more}
 
 module _ (b : Board) where
   pub anchor_below : (id i : ℕ) → anchor_of b id ≡ at i → i < length b.nodes
@@ -147,26 +150,28 @@ module _ (b : Board) (w : ℕ) (nodes : List (List ℕ)) (is : b.nodes ≡ nodes
   there : (id i : ℕ) → i ≡ held (anchor_of b id) → i < length nodes → anchor_of b id ≡ at i
   there id i e h = held_there (anchor_of b id) (length nodes) i (omega arith) (sym e) h
 
-  pub answer_closed : v ≡ 0 → MISSING ≡ held (tap_target b w)
-  answer_closed h = sym (ap held (target_closed b w (flag_shut (wire_open b w) v opens h)))
+  pub answer_closed : v ≡ 0 → None ≡ found_of (tap_target b w)
+  answer_closed h = sym (ap found_of (target_closed b w (flag_shut (wire_open b w) v opens h)))
 
   module _ (n : v ≡ 0 → ⊥) where
-    pub answer_sourceless : length nodes ≤ s → MISSING ≡ held (tap_target b w)
-    answer_sourceless h = sym (ap held (target_sourceless b w (flag_open (wire_open b w) v opens n) (gone (source_node b w) s source h)))
+    pub answer_sourceless : length nodes ≤ s → None ≡ found_of (tap_target b w)
+    answer_sourceless h = sym (ap found_of (target_sourceless b w (flag_open (wire_open b w) v opens n) (gone (source_node b w) s source h)))
 
     module _ (hs : s < length nodes) where
-      pub answer_targetless : length nodes ≤ t → MISSING ≡ held (tap_target b w)
+      pub answer_targetless : length nodes ≤ t → None ≡ found_of (tap_target b w)
       answer_targetless h =
-          sym (ap held (target_targetless b w (flag_open (wire_open b w) v opens n) s (there (source_node b w) s source hs) (gone (target_node b w) t target h)))
+          sym (ap found_of (target_targetless b w (flag_open (wire_open b w) v opens n) s (there (source_node b w) s source hs) (gone (target_node b w) t target h)))
 
       module _ (ht : t < length nodes) (r : Bool) (tests : r ≡ anchors_open b w s t) where
-        pub answer_open : r ≡ true → t ≡ held (tap_target b w)
-        answer_open h =
-            sym (ap held (target_open b w (flag_open (wire_open b w) v opens n) s (there (source_node b w) s source hs) t (there (target_node b w) t target ht) (sym tests ∙ h)))
+        pub answer_tested : (o : Option ℕ) → o ≡ then_some r t → o ≡ found_of (tap_target b w)
+        answer_tested o is = is ∙ go r tests
+          where
+            open' : wire_open b w ≡ true
+            open' = flag_open (wire_open b w) v opens n
 
-        pub answer_shut : r ≡ false → MISSING ≡ held (tap_target b w)
-        answer_shut h =
-            sym (ap held (target_shut b w (flag_open (wire_open b w) v opens n) s (there (source_node b w) s source hs) t (there (target_node b w) t target ht) (sym tests ∙ h)))
+            go : (r : Bool) → r ≡ anchors_open b w s t → then_some r t ≡ found_of (tap_target b w)
+            go true q = sym (ap found_of (target_open b w open' s (there (source_node b w) s source hs) t (there (target_node b w) t target ht) (sym q)))
+            go false q = sym (ap found_of (target_shut b w open' s (there (source_node b w) s source hs) t (there (target_node b w) t target ht) (sym q)))
 
 -- A view of a table that was stored to.
 module _ {A : Type 0} (read : List ℕ → A) (s : List (List ℕ)) (v : List ℕ) where
@@ -224,23 +229,27 @@ module _ (b : Board) (facts : List (List ℕ)) (w s t f : ℕ) (room : w < lengt
           opens = column_more facts w _ room 4 (λ k. flag (wire_open b k)) (g ∙ ap flag opens) known.opens;
         }
 
--- A wire's row with its target beside its ends, as `mark_wires` writes it.
-abbrev pub target_row : List (List ℕ) → ℕ → ℕ → List ℕ
-target_row facts w v = field facts w 0 ∷ field facts w 1 ∷ field facts w 2 ∷ field facts w 3 ∷ field facts w 4 ∷ v ∷ 0 ∷ 0 ∷ []
-
 -- What is known once the first n wires have their targets.
 pub record TargetsUpto (b : Board) (facts : List (List ℕ)) (n : ℕ) : Type 0 where
   pub nodes : NodeFacts b facts
   pub wires : WireFacts b facts
   pub targets : (k : ℕ) → k < n → field facts k 5 ≡ held (tap_target b k)
 
-pub targets_more : (b : Board) (facts : List (List ℕ)) (w v : ℕ) → w < length facts → v ≡ held (tap_target b w) → TargetsUpto b facts w → TargetsUpto b (set facts w (target_row facts w v)) (w + 1)
-targets_more b facts w v room new known =
+-- A wire's target beside its ends, as `mark_wires` writes it.
+pub targets_more : (b : Board) (facts : List (List ℕ)) (w v : ℕ) → w < length facts → 5 < length (get_or facts w []) → v ≡ held (tap_target b w)
+    → TargetsUpto b facts w → TargetsUpto b (set facts w (set (get_or facts w []) 5 v)) (w + 1)
+targets_more b facts w v room wide new known =
     record {
-      nodes = same_nodes b facts (set facts w (target_row facts w v)) (column_kept facts w _ room 0 refl) (column_kept facts w _ room 1 refl) known.nodes;
-      wires = same_wires_lem b facts (set facts w (target_row facts w v)) (column_kept facts w _ room 2 refl) (column_kept facts w _ room 3 refl) (column_kept facts w _ room 4 refl) known.wires;
-      targets = column_more facts w _ room 5 (λ k. held (tap_target b k)) new known.targets;
+      nodes = same_nodes b facts (set facts w row) (kept 0 (λ z. omega arith)) (kept 1 (λ z. omega arith)) known.nodes;
+      wires = same_wires_lem b facts (set facts w row) (kept 2 (λ z. omega arith)) (kept 3 (λ z. omega arith)) (kept 4 (λ z. omega arith)) known.wires;
+      targets = column_more facts w row room 5 (λ k. held (tap_target b k)) (get_or-set_same (get_or facts w []) 5 v 0 wide ∙ new) known.targets;
     }
+  where
+    row : List ℕ
+    row = set (get_or facts w []) 5 v
+
+    kept : (c : ℕ) → (c ≡ 5 → ⊥) → Agree c facts (set facts w row)
+    kept c o = column_kept facts w row room c (get_or-set_other (get_or facts w []) 5 c v 0 o)
 
 -- The tests on a wire's anchors are on their rows, the wire's and the X records.
 pub anchors_same : (b : Board) (w : ℕ) (nodes execs : List (List ℕ)) (wire : List ℕ) → b.nodes ≡ nodes → b.execs ≡ execs → get_or b.wires w [] ≡ wire → (s t : ℕ)
@@ -272,21 +281,18 @@ module _ (b : Board) (w t : ℕ) (nodes : List (List ℕ)) (is : b.nodes ≡ nod
   pub target_there : length nodes ≤ 4096 → t < length nodes → tap_target b w ≡ at t
   target_there few h = held_there (tap_target b w) (length nodes) t (omega arith) (sym e) h
 
--- A tap more, as `add_tap` writes it: once the taps have their groups, they are those of one wire more.
-abbrev pub new_row : List (List ℕ) → List (List ℕ) → List (List ℕ) → ℕ → ℕ → List ℕ
-new_row nodes wires facts w t = field nodes t 10 ∷ w ∷ field facts t 0 ∷ field nodes t 9 ∷ field nodes t 8 ∷ field wires w 3 ∷ field wires w 4 ∷ w ∷ []
-
+-- A tap more: once the taps have their groups, they are those of one wire more.
 module _ (b : Board) (nodes wires facts taps : List (List ℕ)) (m w t : ℕ) (n : b.nodes ≡ nodes) (e : b.wires ≡ wires) (known : NodeFacts b facts) (target : t ≡ held (tap_target b w)) (ts : List Tap)
     (old : Appended b taps m ts) where
   pub none_appended : length nodes ≤ t → Appended b taps m (add_wire b ts w)
   none_appended h new s = old new s ∙ sym (add_none b w ts (target_gone b w t nodes n target h))
 
-  pub one_appended : length nodes ≤ 4096 → t < length nodes → m < length taps → Appended b (set taps m (new_row nodes wires facts w t)) (m + 1) (add_wire b ts w)
+  pub one_appended : length nodes ≤ 4096 → t < length nodes → m < length taps → Appended b (set taps m (new_tap nodes facts w (get_or wires w []) t)) (m + 1) (add_wire b ts w)
   one_appended few inside room new s =
       ap (view tap_in new) (add-one m) ∙ (λ z. tap z ∷ below z) ∙ sym (add_some b w ts t there)
     where
       row : List ℕ
-      row = new_row nodes wires facts w t
+      row = new_tap nodes facts w (get_or wires w []) t
 
       there : tap_target b w ≡ at t
       there = target_there b w t nodes n target few inside
@@ -325,6 +331,14 @@ module _ (b : Board) (nodes wires facts taps : List (List ℕ)) (m w t : ℕ) (n
 
       tap : tap_in (get_or new m []) ≡ tap_for b ts w t
       tap = seen ∙ tap_for_lem b nodes wires facts ts w t (field new m 1) n e known there group
+
+-- A tap more is of a wire that is there.
+pub wired_more : (wires taps : List (List ℕ)) (m : ℕ) (row : List ℕ) → m < length taps → get_or row 7 0 < length wires → Wired wires taps m → Wired wires (set taps m row) (m + 1)
+wired_more wires taps m row room inside old k h =
+    elim (ℕ_discrete k m) [
+      | yes e ↦ let here : field (set taps m row) k 7 ≡ get_or row 7 0 = (λ z. field (set taps m row) (e z) 7) ∙ ap (λ (r : List ℕ). get_or r 7 0) (get_or-set_same taps m row [] room) in omega arith
+      | no f ↦ let else' : field (set taps m row) k 7 ≡ field taps k 7 = ap (λ (r : List ℕ). get_or r 7 0) (get_or-set_other taps m k row [] f) in let o = old k (omega (arith, f)) in omega arith
+    ]
 
 -- The taps of all wires.
 pub appended_done : (b : Board) (wires taps : List (List ℕ)) (m w : ℕ) → b.wires ≡ wires → w ≡ length wires → Appended b taps m (fold (add_wire b) [] (upto w)) → Appended b taps m (taps_of b)

@@ -1,5 +1,5 @@
 -- How the code that collects taps, groups and demands holds them on its way. No rule stands here.
-use Rattle.std.specs.Prelude.{ℕ, ◌+◌, ◌-◌, ◌*◌, ◌≤◌, ◌<◌, ◌≡◌, true, false, ◌&&◌, List, [], ◌∷◌, eqb, length, get_or, Option, Some, None}
+use Rattle.std.specs.Prelude.{ℕ, ◌+◌, ◌-◌, ◌*◌, ◌≤◌, ◌<◌, ◌≡◌, true, false, ◌&&◌, List, [], ◌∷◌, eqb, length, get_or, set, Option, Some, None}
 use Rattle.sheet.specs.Table.{MISSING, library_most}
 use Rattle.base.specs.Sort.{lex_less}
 use Rattle.base.specs.Keys.{Rising}
@@ -8,11 +8,11 @@ use Rattle.board_groups.specs.declared.rows.Run.{Run}
 use Rattle.base.specs.Lists.{Found, none, at}
 use Rattle.board.specs.Board.{Board, field, has_row, page_of, down_of, inner_chip}
 use Rattle.board.specs.Refusals.{body_of}
-use Rattle.board.specs.Index.{Ids}
+use Rattle.board.specs.Index.{Ids, found_of}
 use Rattle.board.specs.Rows.{brick_cell}
 use Rattle.board.specs.Groups.{Tap, top_chip}
 use Rattle.board.specs.Demands.{needs_lane}
-use Rattle.board.specs.Tables.{held, group_row}
+use Rattle.board.specs.Tables.{group_row}
 
 -- Above the x end of every brick: the rank of an x end counts down from it.
 abbrev pub END_MOST : ℕ
@@ -33,15 +33,22 @@ pub record Ranked (b : Board) (keys : List (List ℕ)) : Type 0 where
   pub rising : (j k : ℕ) → j < k → k < length keys → lex_less (get_or keys k []) (get_or keys j []) ≡ false
   pub ends : (i : ℕ) → i < length b.nodes → has_row b i ≡ true → (brick_cell b i).x1 ≤ END_MOST
 
+-- The row of a page that starts with the key.
+abbrev pub run_from : List ℕ → ℕ → Run
+run_from key row = record { page = get_or key 0 0; down = get_or key 1 0; row = row; top = get_or key 4 0 }
+
 -- The row that a key stands in, after that of the key before it.
-unfoldable pub run_after : Run → List ℕ → Run
-run_after run key =
+unfoldable pub next_run : Run → List ℕ → Run
+next_run run key =
     elim (eqb (get_or key 0 0) run.page) [
-      | false ↦ record { page = get_or key 0 0; down = get_or key 1 0; row = 0; top = get_or key 4 0 }
-      | true ↦
-          elim (eqb (get_or key 1 0) run.down)
-          [ false ↦ record { page = get_or key 0 0; down = get_or key 1 0; row = run.row + 1; top = get_or key 4 0 } | true ↦ run ]
+      | false ↦ run_from key 0
+      | true ↦ elim (eqb (get_or key 1 0) run.down) [ false ↦ run_from key (run.row + 1) | true ↦ run ]
     ]
+
+-- The same where no key may be before it.
+abbrev pub run_after : Option Run → List ℕ → Run
+run_after None key = run_from key 0
+run_after (Some run) key = next_run run key
 
 -- The ids of the body nodes and of the nodes inside chips, indexed.
 pub record Indexes (nodes inner bodyIds innerIds : List (List ℕ)) : Type 0 where
@@ -54,9 +61,9 @@ pub record Indexes (nodes inner bodyIds innerIds : List (List ℕ)) : Type 0 whe
 abbrev pub inner_anchor : Board → ℕ → Found
 inner_anchor b f = body_of b (top_chip b (length b.chips) (inner_chip b f))
 
--- A table of the anchors of inner records: each entry is one, or none where it was not asked for.
-abbrev pub SomeAnchors : Board → List (Option ℕ) → Type 0
-SomeAnchors b anchors = (f anchor : ℕ) → f < length b.inner → get_or anchors f None ≡ Some anchor → anchor ≡ held (inner_anchor b f)
+-- A table of the anchors of inner records: each entry is what was found, or none where it was not asked for.
+abbrev pub SomeAnchors : Board → List (Option (Option ℕ)) → Type 0
+SomeAnchors b anchors = (f : ℕ) (anchor : Option ℕ) → f < length b.inner → get_or anchors f None ≡ Some anchor → anchor ≡ found_of (inner_anchor b f)
 
 -- One more than the greatest number of 32 bits.
 abbrev pub WORD : ℕ
@@ -76,15 +83,15 @@ pub record ExecKeys (execs : List (List ℕ)) (keys : List ℕ) : Type 0 where
 -- A group's row with another lane.
 abbrev pub relaned : Found → List ℕ → List ℕ
 relaned none r = r
-relaned (at l) r = get_or r 0 0 ∷ get_or r 1 0 ∷ get_or r 2 0 ∷ get_or r 3 0 ∷ l ∷ get_or r 5 0 ∷ get_or r 6 0 ∷ 0 ∷ []
+relaned (at l) r = set r 4 l
 
 -- The groups before any lane is given.
 abbrev pub GroupSums : Board → List Tap → List (List ℕ) → Type 0
 GroupSums b ts table = (g : ℕ) → g < length b.wires → get_or table g [] ≡ group_row b ts g MISSING
 
 -- The page of a group's first tap where the group needs a lane.
-unfoldable pub head_page : Board → List Tap → Tap → ℕ
-head_page b ts t = elim (eqb t.group t.wire && needs_lane b ts t.group) [ true ↦ t.page | false ↦ MISSING ]
+unfoldable pub head_page : Board → List Tap → Tap → Found
+head_page b ts t = elim (eqb t.group t.wire && needs_lane b ts t.group) [ true ↦ at t.page | false ↦ none ]
 
 -- The groups' rows as lane packing takes them.
 pub record Packable (taps : List (List ℕ)) (m : ℕ) (groups : List (List ℕ)) : Type 0 where

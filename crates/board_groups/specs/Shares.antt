@@ -9,14 +9,24 @@ use Rattle.board.specs.Tables.{tap_in}
 abbrev pub Wired : List (List ℕ) → List (List ℕ) → ℕ → Type 0
 Wired wires taps m = (k : ℕ) → k < m → field taps k 7 < length wires
 
+-- The tap of wire w at target anchor t, before it has its group: its own wire stands there.
+abbrev pub new_tap : (nodes facts : List (List ℕ)) → ℕ → (wire : List ℕ) → ℕ → List ℕ
+new_tap nodes facts w wire t = field nodes t 10 ∷ w ∷ field facts t 0 ∷ field nodes t 9 ∷ field nodes t 8 ∷ get_or wire 3 0 ∷ get_or wire 4 0 ∷ w ∷ []
+
 -- What taps of one group have in common: the page, and the source node and port of their wires.
+abbrev pub tap_key : List (List ℕ) → List ℕ → List ℕ
+tap_key wires tap = get_or tap 0 0 ∷ field wires (get_or tap 7 0) 1 ∷ field wires (get_or tap 7 0) 2 ∷ []
+
 abbrev pub key_of : List (List ℕ) → List (List ℕ) → ℕ → List ℕ
-key_of wires taps k = field taps k 0 ∷ field wires (field taps k 7) 1 ∷ field wires (field taps k 7) 2 ∷ []
+key_of wires taps k = tap_key wires (get_or taps k [])
+
+abbrev pub same_tap_key : List (List ℕ) → List ℕ → List ℕ → Bool
+same_tap_key wires a b =
+    eqb (get_or a 0 0) (get_or b 0 0) && eqb (field wires (get_or a 7 0) 1) (field wires (get_or b 7 0) 1)
+    && eqb (field wires (get_or a 7 0) 2) (field wires (get_or b 7 0) 2)
 
 abbrev pub same_key : List (List ℕ) → List (List ℕ) → ℕ → ℕ → Bool
-same_key wires taps j k =
-    eqb (field taps j 0) (field taps k 0) && eqb (field wires (field taps j 7) 1) (field wires (field taps k 7) 1)
-    && eqb (field wires (field taps j 7) 2) (field wires (field taps k 7) 2)
+same_key wires taps j k = same_tap_key wires (get_or taps j []) (get_or taps k [])
 
 -- A key in one number below 2^42. Keys that are in an accepted board's ranges differ where they are packed, too; of others this need not be so.
 abbrev pub packed : List ℕ → ℕ

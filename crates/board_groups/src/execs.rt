@@ -4,30 +4,44 @@ ghost use Rattle.base.specs.Lists.{any, upto};
 ghost use Rattle.board.specs.Board.{field};
 ghost use Rattle.board_groups.specs.Collecting.{WORD, exec_key, ExecKeys};
 
-use base::keys::raise_keys;
+use base::ids::NodeId;
+use base::keys::sort_keys;
 use base::rows::Record;
 
+// The X records, with their keys in rising order.
+#[derive(Clone, Copy)]
+pub struct Execs<'a> {
+    pub records: &'a [Record],
+    pub keys: &'a [u64],
+    ghost room: { length keys.now ≡ length records.now },
+    ghost sorted: { ∥ ExecKeys records.now keys.now ∥₁ },
+}
+
+// How many ports there may be: a port stands behind its node.
+const PORTS: u64 = 1 << 32;
+
 // A node and a port in one key.
-fn exec_key(node: u32, port: u32) -> u64
-    ensures { result ≡ exec_key node port }
+fn exec_key(node: NodeId, port: u32) -> u64
+    ensures { result ≡ exec_key node.0 port }
 {
-    u64::from(node) * 4_294_967_296 + u64::from(port)
+    u64::from(node.0) * PORTS + u64::from(port)
 }
 
 // The key of an X record. Its port is less than a word, so that the key names no other node and port.
-fn key_of(exec: [u32; 16]) -> u64
+fn key_of_exec(exec: Record) -> u64
     ensures { (result ≡ exec_key (get_or exec 1 0) (get_or exec 2 0)) × (get_or exec 2 0 < WORD) }
 {
-    exec_key(exec[1], exec[2])
+    exec_key(NodeId(exec[1]), exec[2])
 }
 
 // The keys of the X records, in order.
-fn fill_keys(execs: &[Record], keys: &mut [u64])
+fn fill_exec_keys(execs: &[Record], keys: &mut [u64])
     requires { length execs.now ≤ length keys.old }
     ensures { (e : ℕ) → e < length execs.now → (get_or keys.new e 0 ≡ exec_key (field execs.now e 1) (field execs.now e 2)) × (field execs.now e 2 < WORD) }
 {
+    // Stays (unproved): a loop over `keys.iter_mut().zip(..)` did not show what the keys end as.
     for (e, exec) in execs.iter().enumerate() {
-        keys[e] = key_of(*exec);
+        keys[e] = key_of_exec(*exec);
     }
 }
 
@@ -36,16 +50,15 @@ pub fn sort_execs(execs: &[Record], keys: &mut [u64], spare: &mut [u64])
     requires { (length execs.now ≤ length keys.old) × (length execs.now ≤ length spare.old) }
     ensures { ExecKeys execs.now keys.new }
 {
-    fill_keys(execs, keys);
-    raise_keys(keys, execs.len(), spare);
+    fill_exec_keys(execs, keys);
+    sort_keys(&mut keys[..execs.len()], spare);
 }
 
-// Whether an X names the node and the port.
-pub fn targets_exec(execs: &[Record], keys: &[u64], node: u32, port: u32) -> bool
-    requires { ExecKeys execs.now keys.now }
-    ensures { result ≡ any (λ e. eqb (field execs.now e 1) node && eqb (field execs.now e 2) port) (upto (length execs.now)) }
-{
-    keys[..execs.len()]
-        .binary_search(&exec_key(node, port))
-        .is_ok()
+impl Execs<'_> {
+    // Whether an X names the node and the port.
+    pub fn targets(self, node: NodeId, port: u32) -> bool
+        ensures { result ≡ any (λ e. eqb (field self.entry.records.now e 1) node.0 && eqb (field self.entry.records.now e 2) port) (upto (length self.entry.records.now)) }
+    {
+        self.keys.binary_search(&exec_key(node, port)).is_ok()
+    }
 }

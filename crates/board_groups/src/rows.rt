@@ -1,14 +1,15 @@
 // C4, C5: the rows of a page, numbered by their downs, and each row's top. Nodes are sorted by page, down and falling x end, so that a row is a run
 // of keys and its first key has its top.
-ghost use Rattle.std.specs.Prelude.{◌≡◌, true, false, ◌||◌, List, [], ℕ, ◌+◌, ◌*◌, ◌≤◌, ◌<◌, eqb, length, get_or};
+ghost use Rattle.std.specs.Prelude.{◌≡◌, true, false, ◌||◌, List, [], ℕ, ◌+◌, ◌*◌, ◌≤◌, ◌<◌, eqb, length, get_or, IfSome};
 ghost use Rattle.sheet.specs.Table.{library_most};
 ghost use Rattle.board.specs.Board.{Board, field};
 ghost use Rattle.board.specs.Accepted.{AcceptedNodes};
 ghost use Rattle.board.specs.Tables.{nodes_alone, NodeFacts};
-ghost use Rattle.board_groups.specs.Collecting.{row_key, Ranked, run_after};
+ghost use Rattle.board_groups.specs.Collecting.{row_key, Ranked, run_from, run_after};
 
 use base::numbers::MISSING;
 use base::rows::{Record, WorkRow};
+use base::sort::sort_rows;
 
 const END_MOST: u32 = 4_000_000;
 
@@ -23,13 +24,11 @@ fn half_along(rotation: u32, half_x: u32, half_y: u32) -> u32
     }
 }
 
-// The row by which a node is sorted. A node without a row comes behind all others.
-fn row_key(nodes: &[Record], i: usize) -> [u32; 8]
-    requires i_in_bounds { i < length nodes.now }
-    requires accepted_nodes { AcceptedNodes nodes.now }
-    ensures { result ≡ row_key (nodes_alone nodes.now) i }
+// The row by which the i-th node is sorted. A node without a row comes behind all others.
+fn row_key(node: Record, i: usize) -> WorkRow
+    requires accepted { (nodes : List (List ℕ)) × AcceptedNodes nodes × (i < length nodes) × (get_or nodes i [] ≡ node) }
+    ensures { (nodes : List (List ℕ)) → get_or nodes i [] ≡ node → result ≡ row_key (nodes_alone nodes) i }
 {
-    let node = nodes[i];
     let page = node[10];
     if page == MISSING {
         return [MISSING, 0, 0, i as u32, 0, 0, 0, 0];
@@ -39,13 +38,14 @@ fn row_key(nodes: &[Record], i: usize) -> [u32; 8]
     [page, node[11], END_MOST - end, i as u32, end, 0, 0, 0]
 }
 
-fn fill_keys(nodes: &[Record], keys: &mut [WorkRow])
+fn fill_row_keys(nodes: &[Record], keys: &mut [WorkRow])
     requires nodes_in_bounds { length nodes.now ≤ length keys.old }
     requires accepted_nodes { AcceptedNodes nodes.now }
     ensures { (i : ℕ) → i < length nodes.now → get_or keys.new i [] ≡ row_key (nodes_alone nodes.now) i }
 {
-    for i in 0..nodes.len() {
-        keys[i] = row_key(nodes, i);
+    // Stays (unproved): a loop over `keys.iter_mut().zip(..)` did not show what the keys end as.
+    for (i, node) in nodes.iter().enumerate() {
+        keys[i] = row_key(*node, i);
     }
 }
 
@@ -58,26 +58,31 @@ pub struct Run {
     pub top: u32,
 }
 
-// The row that a key stands in, after that of the key before it.
-fn run_after(run: Run, key: [u32; 8]) -> Run
-    requires { run.row < library_most.nodes }
-    ensures value { result ≡ run_after run key }
-    ensures row_bound { result.row ≤ run.row + 1 }
+// The row of a page that starts with the key.
+fn run_from(key: WorkRow, row: u32) -> Run
+    ensures { result ≡ run_from key row }
 {
+    Run {
+        page: key[0],
+        down: key[1],
+        row,
+        top: key[4],
+    }
+}
+
+// The row that a key stands in, after that of the key before it, if there is one.
+fn run_after(before: Option<Run>, key: WorkRow) -> Run
+    requires { IfSome before (λ run. run.row < library_most.nodes) }
+    ensures value { result ≡ run_after before key }
+    ensures row_bound { (n : ℕ) → IfSome before (λ run. run.row ≤ n) → result.row ≤ n + 1 }
+{
+    let Some(run) = before else {
+        return run_from(key, 0);
+    };
     if key[0] != run.page {
-        Run {
-            page: key[0],
-            down: key[1],
-            row: 0,
-            top: key[4],
-        }
+        run_from(key, 0)
     } else if key[1] != run.down {
-        Run {
-            page: key[0],
-            down: key[1],
-            row: run.row + 1,
-            top: key[4],
-        }
+        run_from(key, run.row + 1)
     } else {
         run
     }
@@ -89,15 +94,11 @@ fn assign_rows(keys: &[WorkRow], facts: &mut [WorkRow])
     requires by_index { (k : ℕ) → k < length keys.now → field keys.now k 3 < length facts.old }
     ensures { (b : Board) → Ranked b keys.now → NodeFacts b facts.new }
 {
-    let mut run = Run {
-        page: MISSING,
-        down: 0,
-        row: 0,
-        top: 0,
-    };
+    let mut before = None;
     for key in keys {
-        run = run_after(run, *key);
+        let run = run_after(before, *key);
         facts[key[3] as usize] = [run.row, run.top, 0, 0, 0, 0, 0, 0];
+        before = Some(run);
     }
 }
 
@@ -112,8 +113,8 @@ pub fn number_rows(
     requires nodes_in_bounds { (length nodes.now ≤ length keys.old) × (length nodes.now ≤ length spare.old) × (length nodes.now ≤ length facts.old) }
     ensures { (b : Board) → b.nodes ≡ nodes.now → NodeFacts b facts.new }
 {
-    let n = nodes.len();
-    fill_keys(nodes, keys);
-    base::sort::sort_rows(&mut keys[..n], spare);
-    assign_rows(&keys[..n], facts);
+    let keys = &mut keys[..nodes.len()];
+    fill_row_keys(nodes, keys);
+    sort_rows(keys, spare);
+    assign_rows(keys, facts);
 }

@@ -1,6 +1,8 @@
 -- Which groups need a lane, a page's demands, and the lanes written back.
 use Prim.Native.Nat.{ℕ, zero, suc, ◌+◌, ◌-◌, ◌≤◌, ◌<◌}
 use native.Mathlib.Omega.{arith}
+use native.Mathlib.Decide.{dec_lt}
+use Rattle.std.proofs.lemmas.List.{get_or-drop, length-drop, length-take, length_push, get_or_push, get_or-take, take-append-drop, take-append-le}
 use native.Mathlib.Numerals.{add-one}
 use mathlib.Core.Path.{◌≡◌, refl, sym, ap, ◌∙◌, subst}
 use mathlib.Core.Logic.{◌⊎◌, inl, inr, ⊎_elim}
@@ -12,12 +14,14 @@ use mathlib.Core.List.Memᴰ.{tail as there}
 use mathlib.Core.List.{List, [], ◌∷◌, ◌++◌, map, reverse, reverse_aux, reverse-cons, map-append, Memᴰ as Mem}
 use lib.Dec.{eqb, ltb}
 use lib.ListN.{length, get_or, set, take, drop}
-use lib.Seq.{get_or-set_same, get_or-set_other, take-suc, drop-cons, take_at, length-take-le}
+use lib.Seq.{get_or-set_same, get_or-set_other, take-suc, take-append_seam, drop-cons, take_at, take-length, length-take-le}
 use borrow.Author.Tests.{eq-eqb, ne_eqb, eqb-true, eqb-false, lt-ltb, le-ltb}
 use Rattle.sheet.specs.Table.{MISSING}
 use Rattle.lanes.specs.Lanes.{Demand, no_demand, Packed, full, laned, packed, lane_most}
 use Rattle.lanes.specs.Apart.{Rising}
-use Rattle.std.specs.Prelude.{Result, Ok, Err}
+use Rattle.std.specs.Prelude.{Result, Ok, Err, Option, None}
+use Rattle.std.specs.Bool.{then_some}
+use Rattle.board.specs.Index.{found_of}
 use Rattle.lanes.specs.declared.pack.LanesFull.{LanesFull}
 use Rattle.lanes.specs.LaneCall.{faulty, Sound}
 use Rattle.lanes.specs.Keys.{demand_of, lane_column, with_lane, each_with, rows_after, result_of, PackedRows}
@@ -72,19 +76,22 @@ module _ (b : Board) (ts : List Tap) (g r0 r1 r3 : ℕ) (first : r0 ≡ first_ro
   needs_worthy w h k e = rw (le-ltb (first_row b ts g) (last_row b ts g) (omega arith), flag_zero (crosses b ts g) r3 crossing k, needs_lane) e
 
 module _ (b : Board) (ts : List Tap) (t : Tap) where
-  pub head_later : (t.group ≡ t.wire → ⊥) → MISSING ≡ head_page b ts t
+  pub head_later : (t.group ≡ t.wire → ⊥) → None ≡ found_of (head_page b ts t)
   unfolding head_page
   head_later h = rw (ne_eqb t.group t.wire h, head_page) refl
 
-  pub head_needs : t.group ≡ t.wire → needs_lane b ts t.group ≡ true → t.page ≡ head_page b ts t
+  pub head_needs : t.group ≡ t.wire → (n : Bool) → n ≡ needs_lane b ts t.group → (o : Option ℕ) → o ≡ then_some n t.page → o ≡ found_of (head_page b ts t)
   unfolding head_page
-  head_needs e h = rw (eq-eqb t.group t.wire e, h, head_page) refl
+  head_needs e n h o is = is ∙ go n ∙ (λ z. found_of (elim (first z && h z) [ true ↦ at t.page | false ↦ none ]))
+    where
+      first : true ≡ eqb t.group t.wire
+      first = sym (eq-eqb t.group t.wire e)
 
-  pub head_spare : t.group ≡ t.wire → needs_lane b ts t.group ≡ false → MISSING ≡ head_page b ts t
-  unfolding head_page
-  head_spare e h = rw (eq-eqb t.group t.wire e, h, head_page) refl
+      go : (n : Bool) → then_some n t.page ≡ found_of (elim n as (λ z. Found) [ true ↦ at t.page | false ↦ none ])
+      go true = refl
+      go false = refl
 
-  head_asks : (p : ℕ) → p < MISSING → eqb (head_page b ts t) p ≡ (eqb t.group t.wire && eqb t.page p && needs_lane b ts t.group)
+  head_asks : (p : ℕ) → p < MISSING → eqb (held (head_page b ts t)) p ≡ (eqb t.group t.wire && eqb t.page p && needs_lane b ts t.group)
   unfolding head_page
   head_asks p h = go (eqb t.group t.wire) (needs_lane b ts t.group)
     where
@@ -96,14 +103,14 @@ module _ (b : Board) (ts : List Tap) (t : Tap) where
       with' true = refl
       with' false = refl
 
-      go : (s u : Bool) → eqb (elim (s && u) [ true ↦ t.page | false ↦ MISSING ]) p ≡ (s && eqb t.page p && u)
+      go : (s u : Bool) → eqb (held (elim (s && u) [ true ↦ at t.page | false ↦ none ])) p ≡ (s && eqb t.page p && u)
       go true true = with' (eqb t.page p)
       go true false = away (eqb t.page p)
       go false u = ne_eqb MISSING p (λ e. omega arith)
 
 -- The groups that ask for a lane on a page are those of the definition.
 module _ (b : Board) (ts : List Tap) (taps : List (List ℕ)) (marks : List ℕ) (m p : ℕ) (low : p < MISSING)
-    (heads : (k : ℕ) → k < m → get_or marks k 0 ≡ head_page b ts (tap_in (get_or taps k []))) where
+    (heads : (k : ℕ) → k < m → get_or marks k 0 ≡ held (head_page b ts (tap_in (get_or taps k [])))) where
   pub asking_is : (n : ℕ) → n ≤ m → asking taps marks p n ≡ map (λ t. t.group) (keep (λ t. eqb t.group t.wire && eqb t.page p && needs_lane b ts t.group) (view tap_in taps n))
   asking_is zero h = refl
   asking_is (suc n) h = go (eqb (get_or marks n 0) p) _ (ap (λ (v : ℕ). eqb v p) (heads n (omega arith)) ∙ head_asks b ts (tap_in (get_or taps n [])) p low) (asking_is n (omega arith))
@@ -181,9 +188,14 @@ module _ (taps groups : List (List ℕ)) (marks : List ℕ) (m p : ℕ) (packabl
   page_group g n = let r = asker taps marks p m (reverse_from (asking taps marks p m) n) in let h = packable.group r.0 r.1 in let e = r.2 in omega arith
 
 -- Lanes written from the last demand to the first: of two demands of one group the first counts.
+set_twice : (r : List ℕ) (i x y : ℕ) → set (set r i x) i y ≡ set r i y
+set_twice [] i x y = refl
+set_twice (v ∷ r) zero x y = refl
+set_twice (v ∷ r) (suc i) x y = ap (λ (l : List ℕ). v ∷ l) (set_twice r i x y)
+
 relaned_twice : (l : ℕ) (f : Found) (r : List ℕ) → relaned (at l) (relaned f r) ≡ relaned (at l) r
 relaned_twice l none r = refl
-relaned_twice l (at k) r = refl
+relaned_twice l (at k) r = set_twice r 4 k l
 
 abbrev pub LanesFrom : List (List ℕ) → List (List ℕ) → ℕ → List (List ℕ) → Type 0
 LanesFrom demands before j after =
@@ -213,6 +225,36 @@ module _ (demands before after : List (List ℕ)) (j : ℕ) (inside : j < length
           ∙ relaned_twice (field demands j 4) (lane_in (map order_column past) (map lane_column past) (field demands j 3)) (get_or before (field demands j 3) []))
       go false e = get_or-set_other after (field demands j 3) g (relaned (at (field demands j 4)) (get_or after (field demands j 3) [])) [] (λ q. eqb-false (field demands j 3) g e (sym q)) ∙ earlier g h
 
+-- The walk over the demands from the last to the first: those left are the first ones, and those behind them have their lanes.
+abbrev pub LanesLeft : (demands before rest after : List (List ℕ)) → Type 0
+LanesLeft demands before rest after = (rest ≡ take (length rest) demands) × LanesFrom demands before (length rest) after
+
+module _ (demands before after new : List (List ℕ)) (d : List ℕ) (same : length after ≡ length before) (all : take (length (new ++ (d ∷ []))) demands ≡ new ++ (d ∷ [])) where
+  abbrev n : ℕ
+  n = length new
+
+  more : length (new ++ (d ∷ [])) ≡ n + 1
+  more = length_push new d
+
+  pub left_inside : n < length demands
+  left_inside = let l = ap length all in let m = length-take (length (new ++ (d ∷ []))) demands in omega (arith, l, m, more)
+
+  pub left_last : get_or demands n [] ≡ d
+  left_last = sym (get_or-take (length (new ++ (d ∷ []))) demands n [] (omega (arith, more))) ∙ ap (λ (l : List (List ℕ)). get_or l n []) all ∙ get_or_push new d [] n refl
+
+  left_new : new ≡ take n demands
+  left_new =
+      sym (take-append_seam new (d ∷ [])) ∙ ap (take n) (sym all) ∙ sym (take-append-le n (take (length (new ++ (d ∷ []))) demands) (drop (length (new ++ (d ∷ []))) demands) (omega (arith, ap length all, more)))
+      ∙ ap (take n) (take-append-drop (length (new ++ (d ∷ []))) demands)
+
+  pub lanes_less : get_or d 3 0 < length before → LanesFrom demands before (length (new ++ (d ∷ []))) after
+      → LanesLeft demands before new (set after (get_or d 3 0) (set (get_or after (get_or d 3 0) []) 4 (get_or d 4 0)))
+  lanes_less room old = (
+    left_new,
+    subst (λ (r : List ℕ). LanesFrom demands before n (set after (get_or r 3 0) (set (get_or after (get_or r 3 0) []) 4 (get_or r 4 0)))) left_last
+        (lanes_more demands before after n left_inside (subst (λ (r : List ℕ). get_or r 3 0 < length before) (sym left_last) room) same (subst (λ (k : ℕ). LanesFrom demands before k after) more old)),
+  )
+
 -- What `wire_crosses` answers of a wire that became a tap.
 module _ (b : Board) (w t : ℕ) (nodes : List (List ℕ)) (is : b.nodes ≡ nodes) (wire : List ℕ) (v : get_or b.wires w [] ≡ wire) (s u : ℕ)
     (source : s ≡ held (anchor_of b (source_node b w))) (target : u ≡ held (anchor_of b (target_node b w))) (e : tap_target b w ≡ at t) where
@@ -236,6 +278,18 @@ module _ (b : Board) (w t : ℕ) (nodes : List (List ℕ)) (is : b.nodes ≡ nod
         → y ≡ (crosses_at b (source_anchor b w) (source_node b w) || crosses_at b (target_anchor b w) (target_node b w))
     crosses_into y enters h =
         enters ∙ at_target ∙ ap (λ (z : Bool). z || crosses_at b (target_anchor b w) (target_node b w)) (sym h ∙ leaves ∙ at_source)
+
+-- A slice from a place to the end is all that stands behind.
+pub all_behind : (marks : List ℕ) (j : ℕ) → take (length marks - j) (drop j marks) ≡ drop j marks
+all_behind marks j = ap (λ (n : ℕ). take n (drop j marks)) (sym (length-drop j marks)) ∙ take-length (drop j marks)
+
+-- Marks that are passed over: those of a slice's end are those behind, and one run goes on where the other ends.
+pub none_behind : (marks : List ℕ) (p j n : ℕ) → NoneAsks (drop j marks) p 0 n → NoneAsks marks p j (j + n)
+none_behind marks p j n far i a b e =
+    far (i - j) (omega arith) (omega arith) (get_or-drop j marks (i - j) 0 ∙ (let same : j + (i - j) ≡ i = omega arith in ap (λ (k : ℕ). get_or marks k 0) same) ∙ e)
+
+pub none_on : (marks : List ℕ) (p k j n : ℕ) → NoneAsks marks p k j → NoneAsks marks p j n → NoneAsks marks p k n
+none_on marks p k j n left right i a b e = elim (dec_lt i j) [ yes l ↦ left i a l e | no f ↦ right i (omega arith) b e ]
 
 -- One more tap's demand.
 pub demands_more : (taps groups : List (List ℕ)) (marks : List ℕ) (p k n : ℕ) (before : List (List ℕ)) (row : List ℕ) → PageDemands taps marks k groups p before n → n < length before → get_or marks k 0 ≡ p

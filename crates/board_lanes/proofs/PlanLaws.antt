@@ -11,7 +11,7 @@ use mathlib.Core.List.Memᴰ.{tail as there}
 use mathlib.Core.List.{List, [], ◌∷◌, ◌++◌, map, reverse, Memᴰ as Mem}
 use lib.Dec.{eqb}
 use lib.ListN.{length, get_or, set, take, length-append, get_or-append, get_or-eq_default}
-use lib.Seq.{get_or_at, length-take-le, take-length}
+use lib.Seq.{get_or-set_other, get_or_at, take-length}
 use borrow.Author.Tests.{eqb-true}
 use Rattle.sheet.specs.Table.{MISSING}
 use Rattle.base.specs.Sort.{sorted}
@@ -29,7 +29,7 @@ use Rattle.board_groups.specs.Collecting.{relaned, GroupSums, Packable}
 use Rattle.board_lanes.specs.PagePlan.{group_demand, asking, GutterPacked, Surveyed, Collected}
 use Rattle.base.proofs.Members.{keep_from, map_from}
 use Rattle.base.proofs.Views.{view-take, view_mem, length-view}
-use Rattle.board_groups.proofs.Facts.{column_kept, column_more, same_nodes, same_wires_lem}
+use Rattle.board_groups.proofs.Facts.{Agree, column_kept, column_more, same_nodes, same_wires_lem}
 use Rattle.board_lanes.proofs.GroupLaws.{Known, known, known_row, row_first, row_last, row_consumers, first_last, last_most, length_group}
 use Rattle.board_lanes.proofs.PageLaws.{asking_is, asker, map_same, reverse_from}
 
@@ -235,21 +235,19 @@ module _ (b : Board) where
   unfolding plan_lanes
   all_planned groups facts p done e = (done.lanes, ap (plan_upto b (taps_of b)) (sym e) ∙ done.plan, done.groups_hold, done.pages_hold)
 
--- A page's count beside the facts of nodes and wires, as `plan_pages` writes it.
-abbrev pub count_row : List (List ℕ) → ℕ → ℕ → List ℕ
-count_row facts p count = field facts p 0 ∷ field facts p 1 ∷ field facts p 2 ∷ field facts p 3 ∷ field facts p 4 ∷ field facts p 5 ∷ count ∷ 0 ∷ []
-
+-- A page's count stands beside the facts of nodes and wires, as `plan_pages` writes it.
 pub count_keeps : (b : Board) (facts : List (List ℕ)) (p count : ℕ) → p < length facts → NodeFacts b facts × WireFacts b facts
-    → NodeFacts b (set facts p (count_row facts p count)) × WireFacts b (set facts p (count_row facts p count))
-count_keeps b facts p count room known = (
-  same_nodes b facts (set facts p (count_row facts p count)) (column_kept facts p _ room 0 refl) (column_kept facts p _ room 1 refl) known.0,
-  same_wires_lem b facts (set facts p (count_row facts p count)) (column_kept facts p _ room 2 refl) (column_kept facts p _ room 3 refl) (column_kept facts p _ room 4 refl) known.1,
-)
+    → NodeFacts b (set facts p (set (get_or facts p []) 6 count)) × WireFacts b (set facts p (set (get_or facts p []) 6 count))
+count_keeps b facts p count room known =
+    (same_nodes b facts _ (kept 0 (λ z. omega arith)) (kept 1 (λ z. omega arith)) known.0, same_wires_lem b facts _ (kept 2 (λ z. omega arith)) (kept 3 (λ z. omega arith)) (kept 4 (λ z. omega arith)) known.1)
+  where
+    kept : (c : ℕ) → (c ≡ 6 → ⊥) → Agree c facts (set facts p (set (get_or facts p []) 6 count))
+    kept c o = column_kept facts p (set (get_or facts p []) 6 count) room c (get_or-set_other (get_or facts p []) 6 c count 0 o)
 
 -- What packing takes of the groups' rows stays as it was.
 relaned_column : (f : Found) (r : List ℕ) → (get_or (relaned f r) 0 0 ≡ get_or r 0 0) × (get_or (relaned f r) 1 0 ≡ get_or r 1 0) × (get_or (relaned f r) 2 0 ≡ get_or r 2 0)
 relaned_column none r = (refl, refl, refl)
-relaned_column (at l) r = (refl, refl, refl)
+relaned_column (at l) r = (get_or-set_other r 4 0 l 0 (λ e. omega arith), get_or-set_other r 4 1 l 0 (λ e. omega arith), get_or-set_other r 4 2 l 0 (λ e. omega arith))
 
 gutter_rows : (min_y : ℕ) (taps : List (List ℕ)) (marks : List ℕ) (m p : ℕ) (before after : List (List ℕ)) (count : ℕ) → GutterPacked min_y taps marks m p before after (Ok count)
     → (g : ℕ) → g < length before → (f : Found) × (get_or after g [] ≡ relaned f (get_or before g []))
@@ -280,9 +278,6 @@ packable_kept min_y taps marks m p before after count packs same old =
 pub view_front : {A : Type 0} (read : List ℕ → A) (s : List (List ℕ)) (n : ℕ) → n ≤ length s → view read (take n s) (length (take n s)) ≡ view read s n
 view_front read s n h =
     view-take read (take n s) (length (take n s)) (omega arith) ∙ ap (λ (l : List (List ℕ)). reverse (map read l)) (take-length (take n s)) ∙ sym (view-take read s n h)
-
-pub front_length : {A : Type 0} (n : ℕ) (l : List A) (k : ℕ) → length l ≡ k → n ≤ k → length (take n l) ≡ n
-front_length n l k e h = length-take-le n l (omega arith)
 
 -- The taps of a board as planning takes them.
 module _ (b : Board) (pages nodes wires facts taps : List (List ℕ)) (m : ℕ) (given' : Collected b pages nodes wires facts taps m) where
@@ -332,3 +327,9 @@ module _ (b : Board) (pages nodes wires facts taps : List (List ℕ)) (m : ℕ) 
           let l = length_group b (taps_of b) (field taps k 1) in
           let n = ap length (sym given'.taps_are) ∙ length-view tap_in taps m in
           omega arith
+
+-- What `collect_bus_groups` leaves, its taps cut to those that count.
+pub collected_front : (b : Board) (facts taps : List (List ℕ)) (m : ℕ) → m ≤ length taps → NodeFacts b facts × WireFacts b facts × (view tap_in taps m ≡ taps_of b)
+    → Collected b b.pages b.nodes b.wires facts (take m taps) (length (take m taps))
+collected_front b facts taps m room r =
+    record { pages_are = refl; nodes_are = refl; wires_are = refl; nodes_known = r.0; wires_known = r.1; taps_are = view_front tap_in taps m room ∙ r.2 }

@@ -1,5 +1,5 @@
 -- How the code plans a page, from the taps, the page that each asks for a lane on, and the groups' rows. No rule stands here.
-use Rattle.std.specs.Prelude.{ℕ, ◌+◌, ◌≤◌, ◌<◌, ◌≡◌, true, false, List, [], ◌∷◌, map, reverse, eqb, length, get_or, suc, Result, Ok, Err}
+use Rattle.std.specs.Prelude.{ℕ, ◌≤◌, ◌<◌, ◌≡◌, true, false, List, [], map, reverse, eqb, length, get_or, suc, Result, Ok, Err}
 use Rattle.base.specs.declared.refusal.Reason.TheVariants.{NoLane}
 use Rattle.base.specs.declared.refusal.Refusal.{Refusal}
 use Rattle.base.specs.Refusal.{refusal}
@@ -12,7 +12,7 @@ use Rattle.board.specs.Board.{Board, field, given}
 use Rattle.board.specs.Groups.{taps_of}
 use Rattle.board.specs.Demands.{lane_in, PageLanes, crowded, planned, plan_lanes}
 use Rattle.base.specs.Views.{view}
-use Rattle.board.specs.Tables.{tap_in, NodeFacts, WireFacts, GroupFacts, PageFacts}
+use Rattle.board.specs.Tables.{held, tap_in, NodeFacts, WireFacts, GroupFacts, PageFacts}
 use Rattle.board_groups.specs.Collecting.{relaned, head_page, GroupSums}
 
 -- What planning leaves: the refusal at the first page that is crowded, or the lanes of all groups and pages.
@@ -60,11 +60,15 @@ pub record GutterPacked (min_y : ℕ) (taps : List (List ℕ)) (marks : List ℕ
   pub within : given min_y ≡ true → PagePacked taps marks m p before after r
   pub few : (count : ℕ) → r ≡ Ok count → count ≤ lane_most
 
+-- Room to pack the demands of so many taps.
+abbrev pub PackingRoom : (taps demands keys spare : List (List ℕ)) → Type 0
+PackingRoom taps demands keys spare = (length taps ≤ length demands) × (length taps ≤ length keys) × (length taps ≤ length spare)
+
 -- Taps, sums of groups and marks that are a board's.
 pub record Surveyed (b : Board) (taps : List (List ℕ)) (m : ℕ) (groups : List (List ℕ)) (marks : List ℕ) : Type 0 where
   pub taps_are : view tap_in taps m ≡ taps_of b
   pub sums : GroupSums b (taps_of b) groups
-  pub heads : (k : ℕ) → k < m → get_or marks k 0 ≡ head_page b (taps_of b) (tap_in (get_or taps k []))
+  pub heads : (k : ℕ) → k < m → get_or marks k 0 ≡ held (head_page b (taps_of b) (tap_in (get_or taps k [])))
 
 -- What `collect_bus_groups` leaves of a board.
 pub record Collected (b : Board) (pages nodes wires facts taps : List (List ℕ)) (m : ℕ) : Type 0 where
@@ -86,10 +90,14 @@ pub record Room (pages nodes execs wires : List (List ℕ)) (facts taps groups d
   pub demand_room : (length wires ≤ length demands) × (length wires ≤ length keys) × (length wires ≤ length spare)
   pub page_room : length pages ≤ length facts
 
--- What planning a board answers: the refusal at a crowded page, or how many taps there are, each of a group that has its lane if it needs one.
+-- The first m rows are the board's taps.
+abbrev pub TapsThere : Board → List (List ℕ) → ℕ → Type 0
+TapsThere b taps m = (m ≤ length b.wires) × (view tap_in taps m ≡ taps_of b)
+
+-- What planning a board answers: the refusal at a crowded page, whose board has its taps all the same, or how many taps there are, each of a group that has its lane if it needs one.
 abbrev pub TapsHeld : Board → (facts taps groups : List (List ℕ)) → Result ℕ Refusal → Type 0
-TapsHeld b facts taps groups (Err r) = IsCrowded b r
-TapsHeld b facts taps groups (Ok m) = (m ≤ length b.wires) × (view tap_in taps m ≡ taps_of b) × LanesHeld b groups facts
+TapsHeld b facts taps groups (Err r) = ((m : ℕ) × TapsThere b taps m) × IsCrowded b r
+TapsHeld b facts taps groups (Ok m) = TapsThere b taps m × LanesHeld b groups facts
 
 -- A planned board: the facts of its nodes and wires, its taps, and its lanes.
 pub record BoardPlanned (b : Board) (facts taps groups : List (List ℕ)) (r : Result ℕ Refusal) : Type 0 where

@@ -1,12 +1,14 @@
 -- Room for a plan: what the test of the lent lengths says.
-use Prim.Native.Nat.{ℕ, ◌+◌, ◌*◌, ◌≤◌, ◌<◌, min}
+use Prim.Native.Nat.{ℕ, ◌+◌, ◌*◌, ◌≤◌, min}
 use native.Mathlib.Omega.{arith}
-use mathlib.Core.Path.{◌≡◌, refl}
-use mathlib.Core.Bool.{true, false}
+use mathlib.Core.Path.{◌≡◌, refl, ◌∙◌}
+use mathlib.Core.Bool.{true}
 use mathlib.Core.List.{List, [], ◌∷◌}
 use lib.Dec.{leb}
-use lib.ListN.{length, get_or}
-use borrow.Author.Tests.{le-leb, lt-leb, leb-true}
+use lib.ListN.{length}
+use borrow.Author.Tests.{leb-true}
+use Rattle.std.specs.List.{fold, reduce}
+use Rattle.std.specs.Option.{unwrap_or}
 use Rattle.board.specs.Board.{Board}
 use Rattle.board.specs.Planning.{records}
 use Rattle.base.proofs.Bools.{and_left, and_right}
@@ -40,46 +42,18 @@ fits_all lent b e =
       work = leb-true _ lent.work six;
     }
 
--- The test's answers, one after the other.
-module _ (lent : Lent) (w p r : ℕ) where
-  pub few_rerouters_lem : lent.rerouters < 5 * w → false ≡ has_room lent w p r
-  unfolding has_room
-  few_rerouters_lem h = rw (lt-leb (5 * w) lent.rerouters h) refl
-
-  module _ (one : 5 * w ≤ lent.rerouters) where
-    pub few_bus_wires : lent.bus_wires < 6 * w → false ≡ has_room lent w p r
-    unfolding has_room
-    few_bus_wires h = rw (le-leb (5 * w) lent.rerouters one, lt-leb (6 * w) lent.bus_wires h) refl
-
-    module _ (two : 6 * w ≤ lent.bus_wires) where
-      pub few_ports_lem : lent.ports < w → false ≡ has_room lent w p r
-      unfolding has_room
-      few_ports_lem h = rw (le-leb (5 * w) lent.rerouters one, le-leb (6 * w) lent.bus_wires two, lt-leb w lent.ports h) refl
-
-      module _ (three : w ≤ lent.ports) where
-        pub few_answers : lent.answers < p → false ≡ has_room lent w p r
-        unfolding has_room
-        few_answers h = rw (le-leb (5 * w) lent.rerouters one, le-leb (6 * w) lent.bus_wires two, le-leb w lent.ports three, lt-leb p lent.answers h) refl
-
-        module _ (four : p ≤ lent.answers) where
-          pub few_bytes : lent.out < LINE_MOST * (p + 12 * w + 1) → false ≡ has_room lent w p r
-          unfolding has_room
-          few_bytes h = rw (le-leb (5 * w) lent.rerouters one, le-leb (6 * w) lent.bus_wires two, le-leb w lent.ports three, le-leb p lent.answers four, lt-leb (LINE_MOST * (p + 12 * w + 1)) lent.out h) refl
-
-          pub enough_but_work : LINE_MOST * (p + 12 * w + 1) ≤ lent.out → leb r lent.work ≡ has_room lent w p r
-          unfolding has_room
-          enough_but_work h = rw (le-leb (5 * w) lent.rerouters one, le-leb (6 * w) lent.bus_wires two, le-leb w lent.ports three, le-leb p lent.answers four, le-leb (LINE_MOST * (p + 12 * w + 1)) lent.out h) refl
-
--- The shortest of seven slices.
-pub shortest_seven : (l : List ℕ) → length l ≡ 7
-    → min (get_or l 0 0) (min (get_or l 1 0) (min (get_or l 2 0) (min (get_or l 3 0) (min (get_or l 4 0) (min (get_or l 5 0) (get_or l 6 0)))))) ≡ shortest l
+-- The shortest of a list is what a fold from its first finds.
+shortest_first : (x y : ℕ) (l : List ℕ) → shortest (min x y ∷ l) ≡ min x (shortest (y ∷ l))
 unfolding shortest
-shortest_seven [] h = absurd (omega arith)
-shortest_seven (a ∷ []) h = absurd (omega arith)
-shortest_seven (a ∷ b ∷ []) h = absurd (omega arith)
-shortest_seven (a ∷ b ∷ c ∷ []) h = absurd (omega arith)
-shortest_seven (a ∷ b ∷ c ∷ d ∷ []) h = absurd (omega arith)
-shortest_seven (a ∷ b ∷ c ∷ d ∷ e ∷ []) h = absurd (omega arith)
-shortest_seven (a ∷ b ∷ c ∷ d ∷ e ∷ f ∷ []) h = absurd (omega arith)
-shortest_seven (a ∷ b ∷ c ∷ d ∷ e ∷ f ∷ g ∷ []) h = refl
-shortest_seven (a ∷ b ∷ c ∷ d ∷ e ∷ f ∷ g ∷ k ∷ l) h = absurd (omega arith)
+shortest_first x y [] = refl
+shortest_first x y (z ∷ l) = omega arith
+
+shortest_folded : (x : ℕ) (l : List ℕ) → fold min x l ≡ shortest (x ∷ l)
+unfolding shortest
+shortest_folded x [] = refl
+shortest_folded x (y ∷ l) = shortest_folded (min x y) l ∙ shortest_first x y l
+
+pub shortest_reduced : (l : List ℕ) → unwrap_or (reduce min l) 0 ≡ shortest l
+unfolding shortest
+shortest_reduced [] = refl
+shortest_reduced (x ∷ l) = shortest_folded x l

@@ -1,4 +1,3 @@
-pub mod Slices
 pub mod Fitting
 pub mod Planned
 pub mod PageRows

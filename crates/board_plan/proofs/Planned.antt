@@ -17,7 +17,8 @@ use Rattle.board.specs.Walk.{counts_in}
 use Rattle.board_lanes.specs.PagePlan.{TapsHeld, BoardPlanned}
 use Rattle.base.proofs.Bools.{never}
 use Rattle.board.proofs.LanesFit.{rising}
-use Rattle.board_plan.specs.TextPlan.{SectionsIn, SectionsCut, LanesPlanned}
+use Rattle.board.specs.Sections.{SectionsIn, SectionsCut}
+use Rattle.board_plan.specs.TextPlan.{LanesPlanned}
 
 -- Every page has its count of lanes, and no more than the most.
 Counted : ℕ → List PageLanes → Type 0
@@ -69,9 +70,9 @@ module _ {b : Board} {pages nodes chips inner execs wires : List (List ℕ)} (k 
     lanes_planned {rows} {c} s same = go r own.plan_held
       where
         go : (q : Result ℕ Refusal) → TapsHeld b facts taps groups q → LanesPlanned b (plan_lanes b) rows facts taps groups (record { counts = c; taps = q })
-        go (Err e) (p, is, place) =
+        go (Err e) (there, (p, is, place)) =
             rw is ((λ i. record { counts = same i; taps = Err (place i) }), record { sections = s; nodes_known = own.nodes_known; wires_known = own.wires_known })
-        go (Ok m) (few, taps_are, (ps, is, groups_known, pages_known)) =
+        go (Ok m) ((few, taps_are), (ps, is, groups_known, pages_known)) =
             rw is (
               m,
               (λ i. record { counts = same i; taps = Ok m }),

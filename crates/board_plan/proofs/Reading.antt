@@ -24,10 +24,11 @@ use Rattle.board.specs.Walk.{WithinLibrary, counts_in, board_checked, IndexedIf,
 use Rattle.base.proofs.Bools.{never}
 use Rattle.board.proofs.Planning.{planning_refused, planning_fine}
 use Rattle.board_plan.specs.declared.Lent.{Lent}
-use Rattle.board_plan.specs.TextPlan.{fits_counts, fits_lent, lent_for, fitting, WorkLent, SectionsIn, BoardRead, BoardChecked}
+use Rattle.board_plan.specs.TextPlan.{fits_counts, fits_lent, lent_for, fitting, WorkLent, BoardRead, BoardChecked}
+use Rattle.board.specs.Sections.{SectionsIn}
 use Rattle.board.specs.Accepted.{Accepted}
 use Rattle.board.proofs.Accepting.{from_sheet, sheet_accepted}
-use Rattle.board_plan.proofs.Slices.{sections_in, rows_count}
+use Rattle.board.proofs.Slices.{sections_in, rows_count}
 use Rattle.board_plan.proofs.Fitting.{fits_all}
 
 -- The counts of an accepted board are at most the library's.

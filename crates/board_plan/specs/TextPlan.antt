@@ -1,5 +1,5 @@
 -- What is lent, and what planning a sheet's text leaves in the tables.
-use Rattle.std.specs.Prelude.{ℕ, suc, ◌+◌, ◌*◌, ◌/◌, ◌≤◌, min, ◌≡◌, Bool, true, false, ◌&&◌, List, [], ◌∷◌, leb, length, get_or, take, drop, Result, Ok, Err}
+use Rattle.std.specs.Prelude.{ℕ, suc, ◌+◌, ◌*◌, ◌/◌, ◌≤◌, min, ◌≡◌, Bool, true, false, ◌&&◌, List, [], ◌∷◌, leb, length, get_or, Result, Ok, Err}
 use Rattle.base.specs.declared.refusal.Reason.TheVariants.{NoRoom, NoLane}
 use Rattle.base.specs.declared.refusal.Refusal.{Refusal}
 use Rattle.base.specs.Refusal.{refusal}
@@ -15,6 +15,7 @@ use Rattle.board.specs.Tables.{tap_in, NodeFacts, WireFacts, GroupFacts, PageFac
 use Rattle.board_groups.specs.Collecting.{Indexes}
 use Rattle.board.specs.Walk.{counts_in}
 use Rattle.board.specs.Accepted.{Accepted}
+use Rattle.board.specs.Sections.{SectionsIn}
 use Rattle.board_lanes.specs.PagePlan.{Room}
 use Rattle.board_plan.specs.declared.Lent.{Lent}
 use Rattle.board_plan.specs.declared.Asked.{Asked}
@@ -70,25 +71,6 @@ pub record WorkLent (work records : ℕ) (facts taps groups demands keys spare :
   pub demands_lent : work ≤ length demands
   pub keys_lent : work ≤ length keys
   pub spare_lent : work ≤ length spare
-
--- A board's sections stand one after the other in rows.
-pub record SectionsIn (b : Board) (rows : List (List ℕ)) : Type 0 where
-  pub total : records b ≤ length rows
-  pub pages : take (length b.pages) rows ≡ b.pages
-  pub nodes : take (length b.nodes) (drop (length b.pages) rows) ≡ b.nodes
-  pub chips : take (length b.chips) (drop (length b.pages + length b.nodes) rows) ≡ b.chips
-  pub inner : take (length b.inner) (drop (length b.pages + length b.nodes + length b.chips) rows) ≡ b.inner
-  pub execs : take (length b.execs) (drop (length b.pages + length b.nodes + length b.chips + length b.inner) rows) ≡ b.execs
-  pub wires : take (length b.wires) (drop (length b.pages + length b.nodes + length b.chips + length b.inner + length b.execs) rows) ≡ b.wires
-
--- These are the sections of a board.
-pub record SectionsCut (b : Board) (pages nodes chips inner execs wires : List (List ℕ)) : Type 0 where
-  pub pages_cut : pages ≡ b.pages
-  pub nodes_cut : nodes ≡ b.nodes
-  pub chips_cut : chips ≡ b.chips
-  pub inner_cut : inner ≡ b.inner
-  pub execs_cut : execs ≡ b.execs
-  pub wires_cut : wires ≡ b.wires
 
 -- A board that is read into rows, with its ids indexed, and room for its plan in the tables.
 pub record BoardRead (b : Board) (rows : List (List ℕ)) (counts : Counts) (bodyIds innerIds facts taps groups demands keys spare : List (List ℕ)) : Type 0 where

@@ -14,18 +14,17 @@ ghost use Rattle.board.specs.Walk.{WithinLibrary};
 ghost use Rattle.board_plan.specs.TextPlan.{fits_lent, shortest, work_rows, asked_for, has_room, fits_counts, WorkLent, BoardRead, BoardChecked, lent_for, fitting, LanesPlanned, TextPlanned};
 ghost use Rattle.board_plan.specs.PagesPlan.{plan_call, PagesPlanned};
 
-pub mod sections;
-
 use base::numbers::{BUS_BAND_GUTTER, LANE_PITCH};
 use base::refusal::{Reason, Refusal};
 use base::rows::{IdRow, PageRow, Record, WorkRow};
 use board::refusals::check_board;
+use board::sections::cut_sections;
 use board_lanes::demands::plan_board;
-use sections::cut_sections;
 use sheet::{Counts, library_most};
 
 // The lengths of what is lent: rerouters, bus wires, suppressed ports, page answers, the rows of the shortest slice of work space, and bytes for the plan sheet's
 // text. A call that is not lent one of them says as much as the largest board asks for.
+// Stays (no plainer): that is a number and no Option, so that each length is compared alike, and what is not lent is never short.
 #[derive(Clone, Copy)]
 pub struct Lent {
     pub rerouters: usize,
@@ -51,16 +50,25 @@ pub struct TextPlan {
     pub taps: Result<usize, Refusal>,
 }
 
+// S15: so many rerouters and bus wires are lent for a wire, and so many bytes for each of the plan sheet's lines, of which a wire has so many at most.
+pub const REROUTERS_PER_WIRE: usize = 5;
+
+pub const BUS_WIRES_PER_WIRE: usize = 6;
+
+pub const LINES_PER_WIRE: usize = 12;
+
+pub const LINE_MOST: usize = 128;
+
 // What the largest board asks for.
-pub const REROUTERS_MOST: usize = 40_960;
-
-pub const BUS_WIRES_MOST: usize = 49_152;
-
 pub const PORTS_MOST: usize = 8_192;
+
+pub const REROUTERS_MOST: usize = REROUTERS_PER_WIRE * PORTS_MOST;
+
+pub const BUS_WIRES_MOST: usize = BUS_WIRES_PER_WIRE * PORTS_MOST;
 
 pub const ANSWERS_MOST: usize = 64;
 
-pub const OUT_MOST: usize = 12_591_232;
+pub const OUT_MOST: usize = LINE_MOST * (ANSWERS_MOST + LINES_PER_WIRE * PORTS_MOST + 1);
 
 // S16: so many rows of marks are lent for a record.
 pub const MARK_ROWS: usize = 5;
@@ -69,13 +77,36 @@ pub const MARK_ROWS: usize = 5;
 pub fn shortest_of(lengths: [usize; 7]) -> usize
     ensures { result ≡ shortest lengths }
 {
-    let last = lengths[5].min(lengths[6]);
-    let middle = lengths[3].min(lengths[4].min(last));
-    lengths[0].min(lengths[1].min(lengths[2].min(middle)))
+    lengths.iter().copied().min().unwrap_or(0)
+}
+
+// The records for which there is room in each slice of work space.
+pub fn work_lengths(
+    records: &[Record],
+    facts: &[WorkRow],
+    taps: &[WorkRow],
+    groups: &[WorkRow],
+    demands: &[WorkRow],
+    keys: &[WorkRow],
+    marks: &[WorkRow],
+) -> [usize; 7]
+    ensures { result ≡ work_rows records.now facts.now taps.now groups.now demands.now keys.now marks.now }
+{
+    [
+        records.len(),
+        facts.len(),
+        taps.len(),
+        groups.len(),
+        demands.len(),
+        keys.len(),
+        marks.len() / MARK_ROWS,
+    ]
 }
 
 // What a call asks that writes no text: by the lengths of its rerouters, bus wires, suppressed ports and page answers, and the records for which there is room in
 // each slice of work space. A call without one of the four buffers says the most.
+// Stays (no plainer): the buffers are an array, so that each call says all four: of a `Lent` that is filled up from the most, a field that a call forgets would
+// pass as never short.
 pub fn ask(buffers: [usize; 4], work: [usize; 7]) -> Asked
     ensures { result ≡ asked_for buffers work }
 {
@@ -93,53 +124,32 @@ pub fn ask(buffers: [usize; 4], work: [usize; 7]) -> Asked
     }
 }
 
-// How many records there are.
-fn total(
-    pages: usize,
-    nodes: usize,
-    chips: usize,
-    inner: usize,
-    execs: usize,
-    wires: usize,
-) -> usize
-    requires { (pages ≤ library_most.pages) × (nodes ≤ library_most.nodes) × (chips ≤ library_most.chips) × (inner ≤ library_most.inner) × (execs ≤ library_most.execs) × (wires ≤ library_most.wires) }
-    ensures { result ≡ pages + nodes + chips + inner + execs + wires }
-{
-    pages + nodes + chips + inner + execs + wires
-}
-
 // S15, S16: whether enough is lent for so many wires, pages and records.
+#[tactic(auto, unfolding(crate::specs::TextPlan::has_room))]
 fn has_room(lent: Lent, wires: usize, pages: usize, records: usize) -> bool
     requires { (wires ≤ library_most.wires) × (pages ≤ library_most.pages) }
     ensures { result ≡ has_room lent wires pages records }
 {
-    if lent.rerouters < 5 * wires {
-        return false;
-    }
-    if lent.bus_wires < 6 * wires {
-        return false;
-    }
-    if lent.ports < wires {
-        return false;
-    }
-    if lent.answers < pages {
-        return false;
-    }
-    if lent.out < 128 * (pages + 12 * wires + 1) {
-        return false;
-    }
-    records <= lent.work
+    REROUTERS_PER_WIRE * wires <= lent.rerouters
+        && BUS_WIRES_PER_WIRE * wires <= lent.bus_wires
+        && wires <= lent.ports
+        && pages <= lent.answers
+        && LINE_MOST * (pages + LINES_PER_WIRE * wires + 1) <= lent.out
+        && records <= lent.work
 }
 
+// The same for so many records of each section.
+#[tactic(auto, unfolding(crate::specs::TextPlan::fits_counts))]
 fn fits(lent: Lent, c: Counts) -> bool
     requires { (c.pages ≤ library_most.pages) × (c.nodes ≤ library_most.nodes) × (c.chips ≤ library_most.chips) × (c.inner ≤ library_most.inner) × (c.execs ≤ library_most.execs) × (c.wires ≤ library_most.wires) }
     ensures { result ≡ fits_counts lent c }
 {
-    let records = total(c.pages, c.nodes, c.chips, c.inner, c.execs, c.wires);
+    let records = c.pages + c.nodes + c.chips + c.inner + c.execs + c.wires;
     has_room(lent, c.wires, c.pages, records)
 }
 
 // The lanes of a board whose records stand in rows, one section after the other.
+// Stays (no plainer): the two indexes are no `Named` of `board_groups` yet, which holds the sections, too: here they are cut, once the board fits.
 fn plan_rows(
     records: &[Record],
     counts: Counts,
@@ -162,12 +172,7 @@ fn plan_rows(
     TextPlan {
         counts,
         taps: plan_board(
-            s.pages,
-            s.nodes,
-            s.chips,
-            s.inner,
-            s.execs,
-            s.wires,
+            s,
             body_index,
             inner_index,
             facts,
@@ -200,10 +205,7 @@ fn plan_fitting(
         → TextPlanned (lent_for (fits_lent lent) (Refusals.board b)) records.now facts.new taps.new groups.new result }
 {
     if !fits(lent, counts) {
-        return Err(Refusal {
-            reason: Reason::NoRoom,
-            place: 0,
-        });
+        return Err(Reason::NoRoom.at(0));
     }
     Ok(plan_rows(
         records,
@@ -221,6 +223,7 @@ fn plan_fitting(
 
 // Refusals 1 to 7 of a sheet in their order, or its board in the tables, with the first crowded page or the lanes of all. `asked.lent.work` rows at
 // least stand in every slice.
+// Stays (C interface): from here on each slice of work space that C lends is a parameter by itself.
 pub fn plan_text(
     text: &[u8],
     asked: Asked,
@@ -258,14 +261,14 @@ fn band(lanes: u32) -> u32
 }
 
 // The page answers: lanes and band of each page.
-pub fn write_pages(facts: &[WorkRow], n: usize, answers: &mut [PageRow])
-    requires n_in_bounds { (n ≤ length facts.now) × (n ≤ length answers.old) }
-    requires by_index { (p : ℕ) → p < n → field facts.now p 6 ≤ lane_most }
-    ensures { (ps : List PageLanes) → length ps ≡ n → PageFacts ps facts.now → answers.new ≡ map page_row ps ++ drop n answers.old }
+pub fn write_pages(facts: &[WorkRow], answers: &mut [PageRow])
+    requires facts_long { length answers.old ≤ length facts.now }
+    requires by_index { (p : ℕ) → p < length answers.old → field facts.now p 6 ≤ lane_most }
+    ensures { (ps : List PageLanes) → length ps ≡ length answers.old → PageFacts ps facts.now → answers.new ≡ map page_row ps }
 {
-    for p in 0..n {
+    for (p, answer) in answers.iter_mut().enumerate() {
         let lanes = facts[p][6];
-        answers[p] = [lanes, band(lanes)];
+        *answer = [lanes, band(lanes)];
     }
 }
 
@@ -284,23 +287,16 @@ pub fn plan_bus(
     ensures { PagesPlanned (plan_call text.now (length answers.old) (work_rows records.old facts.old taps.old groups.old demands.old keys.old marks.old))
         answers.old answers.new result }
 {
+    let work = work_lengths(records, facts, taps, groups, demands, keys, marks);
     let asked = ask(
         [REROUTERS_MOST, BUS_WIRES_MOST, PORTS_MOST, answers.len()],
-        [
-            records.len(),
-            facts.len(),
-            taps.len(),
-            groups.len(),
-            demands.len(),
-            keys.len(),
-            marks.len() / MARK_ROWS,
-        ],
+        work,
     );
     let planned = plan_text(
         text, asked, records, facts, taps, groups, demands, keys, marks,
     )?;
     planned.taps?;
     let pages = planned.counts.pages;
-    write_pages(facts, pages, answers);
+    write_pages(facts, &mut answers[..pages]);
     Ok(pages)
 }

@@ -5,7 +5,7 @@ use mathlib.Core.List.{List, [], ◌∷◌}
 use Prim.Native.Nat.{ℕ, suc, ◌+◌, ◌≤◌, ◌<◌}
 use native.Mathlib.Numerals.{add-one}
 use native.Mathlib.Omega.{arith}
-use lib.ListN.{length, get_or, drop, drop_of_length-le}
+use lib.ListN.{length, get_or, drop}
 use lib.Seq.{drop-cons}
 use mathlib.Core.List.{map}
 use borrow.Author.Tests.{ltb-true, ltb-false}
@@ -34,17 +34,6 @@ module _ {A : Type 0} (p : A → Bool) where
     pub passed_more : (d : A) → i < length xs → p (get_or xs i d) ≡ false → Passed xs (i + 1)
     passed_more d h f =
         let e : first_that p (drop i xs) ≡ suc (first_that p (drop (i + 1) xs)) = rw (add-one i, drop-cons xs i d h) (first_past (get_or xs i d) (drop (suc i) xs) f) in
-        omega arith
-
-    pub passed_found : (d : A) → i < length xs → p (get_or xs i d) ≡ true → first_that p xs ≡ i
-    passed_found d h t =
-        let e : first_that p (drop i xs) ≡ 0 = rw (drop-cons xs i d h) (first_here (get_or xs i d) (drop (suc i) xs) t) in
-        omega arith
-
-    pub passed_all : length xs ≤ i → first_that p xs ≡ i
-    unfolding first_that
-    passed_all h =
-        let e : first_that p (drop i xs) ≡ 0 = rw (drop_of_length-le xs h) in
         omega arith
 
   pub first_within : (xs : List A) → first_that p xs ≤ length xs

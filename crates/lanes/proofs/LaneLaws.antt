@@ -1,18 +1,20 @@
 -- Laws of the lane table: a lane is found, and gets its tenant.
 use mathlib.Core.Path.{◌≡◌, refl, sym, ap, subst, ◌∙◌}
 use mathlib.Core.Bool.{Bool, true, false}
-use mathlib.Core.List.{List, [], ◌∷◌, ◌++◌}
+use mathlib.Core.List.{List, [], ◌∷◌, ◌++◌, map}
 use Prim.Native.Nat.{ℕ, zero, suc, ◌+◌, ◌-◌, ◌≤◌, ◌<◌, max}
 use native.Mathlib.Numerals.{add-one}
 use native.Mathlib.Omega.{arith}
 use lib.ListN.{length, get_or, take, drop, set, length-drop}
-use lib.Seq.{take-set-lt, take-suc-set, length-take-le}
+use lib.Seq.{take_all, take-set-lt, take-suc-set, length-take-le}
 use Rattle.std.proofs.lemmas.List.{get_or-take, get_or-drop}
 use Rattle.lanes.specs.Table.{NoneBefore}
 use lib.Dec.{ltb}
-use borrow.Author.Tests.{lt-ltb, le-ltb, ltb-true, ltb-false}
-use Rattle.lanes.specs.Lanes.{lane_for, with_tenant}
-use Rattle.lanes.proofs.FindLaws.{Passed, passed_more, passed_found, passed_all}
+use borrow.Author.Tests.{le-ltb, ltb-true, ltb-false}
+use Rattle.lanes.specs.Lanes.{first_that, lane_for, with_tenant}
+use Rattle.std.specs.Prelude.{Some, None}
+use Rattle.std.specs.List.{position}
+use Rattle.lanes.proofs.FindLaws.{Passed, passed_more, position_some, position_none, first_within}
 
 -- in an open lane the last row is replaced, and a new lane comes behind the open ones
 pub tenant_set : (l last : ℕ) (ends : List ℕ) → l < length ends → with_tenant l last ends ≡ set ends l last
@@ -47,13 +49,14 @@ module _ (ends : List ℕ) (count l last : ℕ) where
           rw opened (table_new e (omega arith))
 
 -- the search for a lane over the open ones
+map-id : {A : Type 0} → (xs : List A) → map (λ x. x) xs ≡ xs
+map-id [] = refl
+map-id {A} (x ∷ xs) = ap {B = List A} (λ ys. x ∷ ys) (map-id xs)
+
 abbrev pub ends_before : ℕ → ℕ → Bool
 ends_before first end = ltb end first
 
 module _ (ends : List ℕ) (first l : ℕ) (so_far : Passed (ends_before first) ends l) where
-  pub lane_passed : l < length ends → first ≤ get_or ends l 0 → Passed (ends_before first) ends (l + 1)
-  lane_passed h k = passed_more (ends_before first) ends l so_far 0 h (le-ltb _ _ k)
-
   -- several at once
   pub lanes_passed : (n : ℕ) → l + n ≤ length ends → ((j : ℕ) → j < n → first ≤ get_or ends (l + j) 0) → Passed (ends_before first) ends (l + n)
   lanes_passed zero h none = let e : l + 0 ≡ l = omega arith in rw e so_far
@@ -75,10 +78,20 @@ module _ (ends : List ℕ) (first l : ℕ) (so_far : Passed (ends_before first) 
       at : (j : ℕ) → j < 8 → get_or (take (l + 8 - l) (drop l ends)) j 0 ≡ get_or ends (l + j) 0
       at j k = get_or-take (l + 8 - l) (drop l ends) j 0 (omega arith) ∙ get_or-drop l ends j 0
 
-  pub lane_found : l < length ends → get_or ends l 0 < first → l ≡ lane_for first ends
-  unfolding lane_for
-  lane_found h k = sym (passed_found (ends_before first) ends l so_far 0 h (lt-ltb _ _ k))
+  -- the library's search goes on behind the lanes passed
+  rest_all : take (length ends - l) (drop l ends) ≡ drop l ends
+  rest_all = take_all (length ends - l) (drop l ends) (omega (arith, length-drop l ends))
 
-  pub lane_none : length ends ≤ l → l ≡ lane_for first ends
+  pub lane_found : (i : ℕ) → position (ends_before first) (take (length ends - l) (drop l ends)) ≡ Some i → l + i ≡ lane_for first ends
   unfolding lane_for
-  lane_none h = sym (passed_all (ends_before first) ends l so_far h)
+  lane_found i e =
+      let here = (position_some (ends_before first) (λ end. end) (take (length ends - l) (drop l ends)) i e).0 in
+      let same = ap (first_that (ends_before first)) (map-id (take (length ends - l) (drop l ends)) ∙ rest_all) in
+      omega (arith, so_far, here, same)
+
+  pub lane_none : l ≤ length ends → position (ends_before first) (take (length ends - l) (drop l ends)) ≡ None → length ends ≡ lane_for first ends
+  unfolding lane_for
+  lane_none h e =
+      let past = position_none (ends_before first) (λ end. end) (take (length ends - l) (drop l ends)) e in
+      let same = ap (first_that (ends_before first)) (map-id (take (length ends - l) (drop l ends)) ∙ rest_all) in
+      omega (arith, h, so_far, past, same, ap length rest_all, first_within (ends_before first) (drop l ends), length-drop l ends)

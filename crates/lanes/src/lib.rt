@@ -14,12 +14,12 @@ ghost use Rattle.lanes.specs.LaneCall.{faulty, report_of, Answered};
 ghost use Rattle.lanes.specs.Keys.{demand_in, demand_of};
 ghost use Rattle.lanes.specs.declared.LaneError.{LaneError};
 
-use pack::{BusDemand, COUNT_MOST, LanesFull, ROW_MOST, demand_in, pack_demands, put_lanes};
+use pack::{BusDemand, COUNT_MOST, LanesFull, ROW_MOST, pack_demands, put_lanes};
 
 // The most demands of one call.
 pub const DEMAND_MOST: usize = 8192;
 
-// Why the lane call turns a list away: its number, and the demand at fault where there is one.
+// Why the lane call turns a list away, with the index of the demand at fault where there is one.
 #[derive(Clone, Copy, Debug, PartialEq, Eq)]
 pub enum LaneError {
     Incomplete(usize),
@@ -38,6 +38,7 @@ impl From<LanesFull> for LaneError {
 }
 
 // The answer as numbers: the refusal's, 0 for none, its place, and the count of lanes.
+// Stays (C interface): C callers read it so.
 #[repr(C)]
 #[derive(Clone, Copy)]
 pub struct LaneReport {
@@ -46,6 +47,7 @@ pub struct LaneReport {
     pub count: usize,
 }
 
+// Stays (no plainer): the numbers are those of E15, which mean other conditions than the same numbers of E1 to E8, so they are no `Reason`.
 impl From<Result<usize, LaneError>> for LaneReport {
     ghost from_gives = { λ answer report. report ≡ report_of answer };
 
@@ -82,7 +84,9 @@ fn is_faulty(d: BusDemand) -> bool
 fn first_fault(demands: &[[u32; 4]]) -> Option<usize>
     ensures { result ≡ position (λ row. faulty (demand_of row)) demands.now }
 {
-    demands.iter().position(|row| is_faulty(demand_in(row)))
+    demands
+        .iter()
+        .position(|row| is_faulty(BusDemand::from(*row)))
 }
 
 // The lane call. The list has four numbers a demand: first row, last row, consumers, order. Each demand's lane goes to the

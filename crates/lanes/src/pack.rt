@@ -29,17 +29,19 @@ pub(crate) struct BusDemand {
     pub order: u32,
 }
 
-// The demand in the first four numbers of a row.
-#[tactic(auto, unfolding(crate::specs::Keys::demand_of))]
-pub(crate) fn demand_in<const N: usize>(row: &[u32; N]) -> BusDemand
-    requires { 4 ≤ N }
-    ensures { demand_in result ≡ demand_of row.now }
-{
-    BusDemand {
-        first: row[0],
-        last: row[1],
-        consumers: row[2],
-        order: row[3],
+// The demand that four numbers are.
+impl From<[u32; 4]> for BusDemand {
+    ghost from_gives = { λ numbers d. demand_in d ≡ demand_of numbers };
+
+    #[tactic(auto, unfolding(crate::specs::Keys::demand_of))]
+    fn from(numbers: [u32; 4]) -> BusDemand {
+        let [first, last, consumers, order] = numbers;
+        BusDemand {
+            first,
+            last,
+            consumers,
+            order,
+        }
     }
 }
 
@@ -61,14 +63,16 @@ fn key_row(d: BusDemand, index: u32) -> WorkRow
     ]
 }
 
-// Writes each demand's key row.
+// Writes each demand's key row: a demand is the first four numbers of its row.
+// Stays (no plainer): a key row has its demand's number in it, so each turn counts, and the key goes to the place of that number.
 fn write_keys<const N: usize>(demands: &[[u32; N]], keys: &mut [WorkRow])
     requires four { 4 ≤ N }
     requires keys_len { (length keys.old ≡ length demands.now) × (length keys.old ≤ demand_most) × Sound (map demand_of demands.now) }
     ensures { keys.new ≡ map key_of (entries 0 (map demand_of demands.now)) }
 {
-    for (i, demand) in demands.iter().enumerate() {
-        keys[i] = key_row(demand_in(demand), i as u32);
+    for (i, row) in demands.iter().enumerate() {
+        let demand = BusDemand::from([row[0], row[1], row[2], row[3]]);
+        keys[i] = key_row(demand, i as u32);
     }
 }
 
@@ -84,8 +88,9 @@ fn seat_keys(keys: &mut [WorkRow]) -> Result<usize, LanesFull>
     for key in keys.iter_mut() {
         let index = key[3] as usize;
         let taken = table.take_lane(key[4] as u16, key[5] as u16);
-        table = taken.table;
         key[7] = taken.seat.ok_or(LanesFull { index })?;
+        // Behind the `?`, since a step that may still end here copies the table once more.
+        table = taken.table;
     }
     Ok(table.count)
 }

@@ -1,13 +1,17 @@
 // The lane table of a page.
-ghost use Rattle.std.specs.Prelude.{◌≡◌, false, ◌≤◌, length};
+ghost use Rattle.std.specs.Prelude.{◌≡◌, false, ◌≤◌, length, ltb};
+ghost use Rattle.std.specs.List.{position};
 ghost use Rattle.lanes.specs.Lanes.{lane_most, lane_for};
 ghost use Rattle.lanes.specs.Table.{NoneBefore, TookLane};
 
 // The most lanes that a page has.
 pub const LANE_MOST: usize = 512;
 
-// The last row of each open lane's latest tenant, and how many lanes are open. Rows go to 4,095, so an entry has 16 bits: each step
-// hands the table on.
+// The lanes that are asked at once.
+const AT_ONCE: usize = 8;
+
+// The last row of each open lane's latest tenant, and how many lanes are open. Rows go to 4,095, so an entry has 16 bits: by the form that document 01 names, each
+// step takes the table and hands it back, which copies it.
 #[derive(Drop)]
 pub(crate) struct LaneTable {
     pub ends: [u16; LANE_MOST],
@@ -21,7 +25,8 @@ pub(crate) struct Taken {
     pub seat: Option<u32>,
 }
 
-// Whether one of the lanes ends before `first`. It asks of all of them, so that the compiler compares several at once.
+// Whether one of the lanes ends before `first`.
+// Stays (slower): it asks of all of them, so that the compiler compares several at once, where `any` stops at the first.
 fn any_before(ends: &[u16], first: u16) -> bool
     ensures { result ≡ false → NoneBefore first ends.now }
 {
@@ -32,21 +37,29 @@ fn any_before(ends: &[u16], first: u16) -> bool
     some
 }
 
-// The lowest of the open lanes whose latest tenant ends before `first`, or their count. Eight lanes are passed at a time.
+// The first lane that ends before `first`.
+fn first_before(ends: &[u16], first: u16) -> Option<usize>
+    ensures { result ≡ position (λ end. ltb end first) ends.now }
+{
+    ends.iter().position(|end| *end < first)
+}
+
+// The lowest of the open lanes whose latest tenant ends before `first`, or their count. Lanes are passed eight at a time.
+// Stays (slower): `position` over all of them asks of one lane at a time.
+// Stays (no plainer): `board_lanes` passes its marks likewise, by another test of another number; one function over a closure would have to say in its contract
+// that the closure answers alike at every call.
 fn lowest_lane(ends: &[u16], first: u16) -> usize
     ensures { result ≡ lane_for first ends.now }
 {
     let count = ends.len();
     let mut passed: usize = 0;
-    while passed + 8 <= count && !any_before(&ends[passed..passed + 8], first) {
-        passed += 8;
+    while passed + AT_ONCE <= count && !any_before(&ends[passed..passed + AT_ONCE], first) {
+        passed += AT_ONCE;
     }
-    for l in passed..count {
-        if ends[l] < first {
-            return l;
-        }
+    match first_before(&ends[passed..], first) {
+        Some(l) => passed + l,
+        None => count,
     }
-    count
 }
 
 impl LaneTable {

@@ -37,7 +37,7 @@ fn run_worked<P: Print>(rt: &P, lanes: &mut [u32]) -> io::Result<()> {
     run(rt, &[4, 4, 1, 0, 0, 2, 1, 1, 3, 3, 1, 2, 3, 4, 1, 3], lanes)
 }
 
-// A refusal of each number. The answers are left as they were.
+// Refusals 1, 2, 3 and 7. The answers are left as they were.
 fn run_refused<P: Print>(rt: &P, lanes: &mut [u32]) -> io::Result<()> {
     run(rt, &[0, 2, 1, 0, 2, 4, 1], lanes)?;
     let many = [0u32; 32772];

@@ -1,4 +1,5 @@
 pub mod InNumbers
+pub mod Verdict
 pub mod SheetCalls
 pub mod BusCalls
 pub mod MiniCall

@@ -9,7 +9,8 @@ ghost use Rattle.panzhyqur.specs.InNumbers.{InNumbers};
 use base::rows::{BusWireRow, PageRow, PortRow, Record, RerouterRow, WorkRow};
 use program_answer::calls::answer;
 
-// How many bytes were written, 0 for none: every plan sheet and every E line has some.
+// How many bytes were written. Every plan sheet and every E line has some.
+// Stays (C interface): C has no `Option`, so 0 stands for none; and it lends each buffer and each slice of work space by itself, so each is a parameter of its own.
 #[unsafe(no_mangle)]
 pub extern "C" fn pz_answer(
     text: &[u8],

@@ -6,47 +6,40 @@ ghost use Rattle.panzhyqur.specs.BusCalls.{plan_numbers};
 ghost use Rattle.panzhyqur.specs.InNumbers.{InNumbers};
 ghost use Rattle.routes_calls.specs.Route.{plan_fits, route_call, PlanCalled};
 
+use crate::verdict::Verdict;
 use base::refusal::Refusal;
 use base::rows::{BusWireRow, PageRow, PortRow, Record, RerouterRow, WorkRow};
 use routes_calls::route::route;
 use routes_gutter::bus::lay_bus;
 use routes_gutter::laying::BusLaid;
 
-// A refusal and its place, 0 for none; and how many rerouters, bus wires and suppressed ports stand in the buffers, and how many groups were laid.
+// A refusal, or the bus that stands in the buffers and how many groups it was laid for.
+// Stays (C interface): one struct for each answer, since what crosses to C has no type parameters.
 #[repr(C)]
 #[derive(Clone, Copy)]
 pub struct PlanNumbers {
-    pub refusal: usize,
-    pub place: usize,
-    pub rerouters: usize,
-    pub bus_wires: usize,
-    pub ports: usize,
-    pub groups: usize,
+    pub verdict: Verdict,
+    pub laid: BusLaid,
 }
 
-fn in_numbers(plan: Result<BusLaid, Refusal>) -> PlanNumbers
-    ensures { result ≡ plan_numbers plan }
-{
-    match plan {
-        Err(e) => PlanNumbers {
-            refusal: e.reason.number(),
-            place: e.place,
-            rerouters: 0,
-            bus_wires: 0,
-            ports: 0,
-            groups: 0,
-        },
-        Ok(laid) => PlanNumbers {
-            refusal: 0,
-            place: 0,
-            rerouters: laid.bus.rerouters,
-            bus_wires: laid.bus.bus_wires,
-            ports: laid.bus.ports,
-            groups: laid.groups,
-        },
+impl From<Result<BusLaid, Refusal>> for PlanNumbers {
+    ghost from_gives = { λ plan numbers. numbers ≡ plan_numbers plan };
+
+    fn from(plan: Result<BusLaid, Refusal>) -> PlanNumbers {
+        match plan {
+            Err(e) => PlanNumbers {
+                verdict: Verdict::from(e),
+                laid: BusLaid::default(),
+            },
+            Ok(laid) => PlanNumbers {
+                verdict: Verdict::default(),
+                laid,
+            },
+        }
     }
 }
 
+// Stays (C interface): C lends each buffer and each slice of work space by itself, so each is a parameter of its own.
 #[unsafe(no_mangle)]
 pub extern "C" fn pz_lay_bus(
     text: &[u8],
@@ -64,7 +57,7 @@ pub extern "C" fn pz_lay_bus(
     ensures { InNumbers plan_numbers (BusCalled (lay_call text.now (bus_fits (length rerouters.old) (length bus_wires.old) (length ports.old) (work_rows records.old facts.old taps.old groups.old demands.old keys.old marks.old)))
         rerouters.old bus_wires.old ports.old rerouters.new bus_wires.new ports.new) result }
 {
-    in_numbers(lay_bus(
+    PlanNumbers::from(lay_bus(
         text, rerouters, bus_wires, ports, records, facts, taps, groups, demands, keys, marks,
     ))
 }
@@ -87,7 +80,7 @@ pub extern "C" fn pz_route(
     ensures { InNumbers plan_numbers (PlanCalled (route_call text.now (plan_fits (length rerouters.old) (length bus_wires.old) (length ports.old) (length answers.old) (work_rows records.old facts.old taps.old groups.old demands.old keys.old marks.old)))
         rerouters.old bus_wires.old ports.old answers.old rerouters.new bus_wires.new ports.new answers.new) result }
 {
-    in_numbers(route(
+    PlanNumbers::from(route(
         text, rerouters, bus_wires, ports, answers, records, facts, taps, groups, demands, keys,
         marks,
     ))

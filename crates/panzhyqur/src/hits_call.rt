@@ -5,52 +5,38 @@ ghost use Rattle.routes_hits.specs.Finding.{hits_fit, hits_call, HitsCalled};
 ghost use Rattle.panzhyqur.specs.HitsCall.{hits_numbers};
 ghost use Rattle.panzhyqur.specs.InNumbers.{InNumbers};
 
+use crate::verdict::Verdict;
 use base::refusal::Refusal;
 use base::rows::{BusWireRow, PageRow, PortRow, Record, RerouterRow, WorkRow};
 use routes_hits::boxes::PageBox;
 use routes_hits::find::{HitsFound, find_hits};
 
-// A refusal and its place, 0 for none; how many rerouters and bus wires are hit; and how many rerouters, bus wires and suppressed ports stand in the buffers, and how many groups were laid.
+// A refusal, or how many rerouters and bus wires are hit, the bus that stands in the buffers and how many groups it was laid for.
 #[repr(C)]
 #[derive(Clone, Copy)]
 pub struct HitsNumbers {
-    pub refusal: usize,
-    pub place: usize,
-    pub hit_rerouters: usize,
-    pub hit_wires: usize,
-    pub rerouters: usize,
-    pub bus_wires: usize,
-    pub ports: usize,
-    pub groups: usize,
+    pub verdict: Verdict,
+    pub found: HitsFound,
 }
 
-fn hits_in_numbers(found: Result<HitsFound, Refusal>) -> HitsNumbers
-    ensures { result ≡ hits_numbers found }
-{
-    match found {
-        Err(e) => HitsNumbers {
-            refusal: e.reason.number(),
-            place: e.place,
-            hit_rerouters: 0,
-            hit_wires: 0,
-            rerouters: 0,
-            bus_wires: 0,
-            ports: 0,
-            groups: 0,
-        },
-        Ok(found) => HitsNumbers {
-            refusal: 0,
-            place: 0,
-            hit_rerouters: found.hits.rerouters,
-            hit_wires: found.hits.wires,
-            rerouters: found.laid.bus.rerouters,
-            bus_wires: found.laid.bus.bus_wires,
-            ports: found.laid.bus.ports,
-            groups: found.laid.groups,
-        },
+impl From<Result<HitsFound, Refusal>> for HitsNumbers {
+    ghost from_gives = { λ answer numbers. numbers ≡ hits_numbers answer };
+
+    fn from(answer: Result<HitsFound, Refusal>) -> HitsNumbers {
+        match answer {
+            Err(e) => HitsNumbers {
+                verdict: Verdict::from(e),
+                found: HitsFound::default(),
+            },
+            Ok(found) => HitsNumbers {
+                verdict: Verdict::default(),
+                found,
+            },
+        }
     }
 }
 
+// Stays (C interface): C lends each buffer and each slice of work space by itself, so each is a parameter of its own.
 #[unsafe(no_mangle)]
 pub extern "C" fn pz_find_hits(
     text: &[u8],
@@ -72,7 +58,7 @@ pub extern "C" fn pz_find_hits(
         (work_rows records.old facts.old taps.old groups.old demands.old keys.old marks.old)))
         hits.old rerouters.old bus_wires.old ports.old answers.old hits.new rerouters.new bus_wires.new ports.new answers.new) result }
 {
-    hits_in_numbers(find_hits(
+    HitsNumbers::from(find_hits(
         text, q, hits, rerouters, bus_wires, ports, answers, records, facts, taps, groups, demands,
         keys, marks,
     ))

@@ -1,4 +1,4 @@
-// The calls for C and Rust, exported: each answer as a struct of numbers.
+// The calls for C and Rust, exported: each answer in numbers.
 #![tactic(auto)]
 
 pub mod answer_call;
@@ -8,3 +8,4 @@ pub mod lane_call;
 pub mod mini_call;
 pub mod plan_call;
 pub mod sheet_calls;
+pub mod verdict;

@@ -6,44 +6,39 @@ ghost use Rattle.routes_calls.specs.Mini.{mini_call};
 ghost use Rattle.panzhyqur.specs.MiniCall.{mini_numbers};
 ghost use Rattle.panzhyqur.specs.InNumbers.{InNumbers};
 
+use crate::verdict::Verdict;
 use base::refusal::Refusal;
 use base::rows::{BusWireRow, PortRow, Record, RerouterRow, WorkRow};
 use routes::bus::BusCounts;
 use routes_calls::mini::lay_mini_bus;
 use routes_gutter::laying::BusLaid;
 
-// A refusal and its place, 0 for none; and how many rerouters, bus wires and suppressed ports stand in the buffers.
+// A refusal, or the bus that stands in the buffers.
 #[repr(C)]
 #[derive(Clone, Copy)]
 pub struct MiniNumbers {
-    pub refusal: usize,
-    pub place: usize,
-    pub rerouters: usize,
-    pub bus_wires: usize,
-    pub ports: usize,
+    pub verdict: Verdict,
+    pub counts: BusCounts,
 }
 
-fn counts_in_numbers(plan: Result<BusLaid, Refusal>) -> MiniNumbers
-    ensures { result ≡ mini_numbers plan }
-{
-    match plan {
-        Err(e) => MiniNumbers {
-            refusal: e.reason.number(),
-            place: e.place,
-            rerouters: 0,
-            bus_wires: 0,
-            ports: 0,
-        },
-        Ok(laid) => MiniNumbers {
-            refusal: 0,
-            place: 0,
-            rerouters: laid.bus.rerouters,
-            bus_wires: laid.bus.bus_wires,
-            ports: laid.bus.ports,
-        },
+impl From<Result<BusLaid, Refusal>> for MiniNumbers {
+    ghost from_gives = { λ plan numbers. numbers ≡ mini_numbers plan };
+
+    fn from(plan: Result<BusLaid, Refusal>) -> MiniNumbers {
+        match plan {
+            Err(e) => MiniNumbers {
+                verdict: Verdict::from(e),
+                counts: BusCounts::default(),
+            },
+            Ok(laid) => MiniNumbers {
+                verdict: Verdict::default(),
+                counts: laid.bus,
+            },
+        }
     }
 }
 
+// Stays (C interface): C lends each buffer and each slice of work space by itself, so each is a parameter of its own.
 #[unsafe(no_mangle)]
 pub extern "C" fn pz_lay_mini_bus(
     text: &[u8],
@@ -63,7 +58,7 @@ pub extern "C" fn pz_lay_mini_bus(
         rerouters.old bus_wires.old ports.old held)
         rerouters.old bus_wires.old ports.old rerouters.new bus_wires.new ports.new) result }
 {
-    counts_in_numbers(lay_mini_bus(
+    MiniNumbers::from(lay_mini_bus(
         text, held, rerouters, bus_wires, ports, records, facts, taps, groups, demands, keys, marks,
     ))
 }

@@ -7,36 +7,37 @@ ghost use Rattle.board_plan.specs.PagesPlan.{plan_call, PagesPlanned};
 ghost use Rattle.panzhyqur.specs.PlanCall.{pages_numbers};
 ghost use Rattle.panzhyqur.specs.InNumbers.{InNumbers};
 
+use crate::verdict::Verdict;
 use base::refusal::Refusal;
 use base::rows::{PageRow, Record, WorkRow};
 use board_plan::plan_bus;
 
-// A refusal and its place, 0 for none; and how many pages have their answer.
+// A refusal, or how many pages have their answer.
 #[repr(C)]
 #[derive(Clone, Copy)]
 pub struct PagesNumbers {
-    pub refusal: usize,
-    pub place: usize,
+    pub verdict: Verdict,
     pub pages: usize,
 }
 
-fn pages_in_numbers(plan: Result<usize, Refusal>) -> PagesNumbers
-    ensures { result ≡ pages_numbers plan }
-{
-    match plan {
-        Err(e) => PagesNumbers {
-            refusal: e.reason.number(),
-            place: e.place,
-            pages: 0,
-        },
-        Ok(pages) => PagesNumbers {
-            refusal: 0,
-            place: 0,
-            pages,
-        },
+impl From<Result<usize, Refusal>> for PagesNumbers {
+    ghost from_gives = { λ plan numbers. numbers ≡ pages_numbers plan };
+
+    fn from(plan: Result<usize, Refusal>) -> PagesNumbers {
+        match plan {
+            Err(e) => PagesNumbers {
+                verdict: Verdict::from(e),
+                pages: 0,
+            },
+            Ok(pages) => PagesNumbers {
+                verdict: Verdict::default(),
+                pages,
+            },
+        }
     }
 }
 
+// Stays (C interface): C lends each buffer and each slice of work space by itself, so each is a parameter of its own.
 #[unsafe(no_mangle)]
 pub extern "C" fn pz_plan_bus(
     text: &[u8],
@@ -52,7 +53,7 @@ pub extern "C" fn pz_plan_bus(
     ensures { InNumbers pages_numbers (PagesPlanned (plan_call text.now (length answers.old) (work_rows records.old facts.old taps.old groups.old demands.old keys.old marks.old))
         answers.old answers.new) result }
 {
-    pages_in_numbers(plan_bus(
+    PagesNumbers::from(plan_bus(
         text, answers, records, facts, taps, groups, demands, keys, marks,
     ))
 }

@@ -4,48 +4,33 @@ ghost use Rattle.sheet.specs.Reading.{reading};
 ghost use Rattle.sheet.specs.Answer.{checked_of, read_of, rows_after};
 ghost use Rattle.panzhyqur.specs.SheetCalls.{sheet_numbers};
 
+use crate::verdict::Verdict;
 use base::refusal::Refusal;
 use base::rows::Record;
 use sheet::{Counts, check_sheet, read_sheet};
 
-// A refusal and its line, 0 for none; and how many records of each section.
+// A refusal, its place a line, or how many records of each section.
 #[repr(C)]
 #[derive(Clone, Copy)]
 pub struct SheetNumbers {
-    pub refusal: usize,
-    pub line: usize,
-    pub pages: usize,
-    pub nodes: usize,
-    pub chips: usize,
-    pub inner: usize,
-    pub execs: usize,
-    pub wires: usize,
+    pub verdict: Verdict,
+    pub counts: Counts,
 }
 
-fn in_numbers(answer: Result<Counts, Refusal>) -> SheetNumbers
-    ensures { result ≡ sheet_numbers answer }
-{
-    match answer {
-        Err(e) => SheetNumbers {
-            refusal: e.reason.number(),
-            line: e.place,
-            pages: 0,
-            nodes: 0,
-            chips: 0,
-            inner: 0,
-            execs: 0,
-            wires: 0,
-        },
-        Ok(c) => SheetNumbers {
-            refusal: 0,
-            line: 0,
-            pages: c.pages,
-            nodes: c.nodes,
-            chips: c.chips,
-            inner: c.inner,
-            execs: c.execs,
-            wires: c.wires,
-        },
+impl From<Result<Counts, Refusal>> for SheetNumbers {
+    ghost from_gives = { λ answer numbers. numbers ≡ sheet_numbers answer };
+
+    fn from(answer: Result<Counts, Refusal>) -> SheetNumbers {
+        match answer {
+            Err(e) => SheetNumbers {
+                verdict: Verdict::from(e),
+                counts: Counts::default(),
+            },
+            Ok(counts) => SheetNumbers {
+                verdict: Verdict::default(),
+                counts,
+            },
+        }
     }
 }
 
@@ -53,12 +38,12 @@ fn in_numbers(answer: Result<Counts, Refusal>) -> SheetNumbers
 pub extern "C" fn pz_check_sheet(text: &[u8], most: Counts) -> SheetNumbers
     ensures { result ≡ sheet_numbers (checked_of (reading most text.now)) }
 {
-    in_numbers(check_sheet(text, most))
+    SheetNumbers::from(check_sheet(text, most))
 }
 
 #[unsafe(no_mangle)]
 pub extern "C" fn pz_read_sheet(text: &[u8], most: Counts, rows: &mut [Record]) -> SheetNumbers
     ensures { (result ≡ sheet_numbers (read_of (length rows.old) (reading most text.now))) × (rows.new ≡ rows_after rows.old (reading most text.now)) }
 {
-    in_numbers(read_sheet(text, most, rows))
+    SheetNumbers::from(read_sheet(text, most, rows))
 }

@@ -8,8 +8,6 @@ use lib.Dec.{leb}
 use lib.ListN.{length, take, drop, length-append, length-map}
 use borrow.Author.Tests.{le-leb, lt-leb}
 use Rattle.std.proofs.Common.{Option, Some, None, Result, Ok, Err, take_at}
-use Rattle.base.specs.declared.refusal.Reason.{Reason}
-use Rattle.base.specs.declared.refusal.Reason.TheVariants.{Unread, TooMany, OutOfRange, IdTaken, NotThere, Unplaced, NoRoom, NoLane, BadBox}
 use Rattle.base.specs.declared.refusal.Refusal.{Refusal}
 use Rattle.base.specs.Refusal.{number_of}
 use Rattle.sheet.specs.declared.Counts.{Counts}
@@ -36,6 +34,7 @@ use Rattle.routes_gutter.specs.Bus.{BusStands}
 use Rattle.routes_calls.specs.Finish.{PlanTexted}
 use Rattle.routes.specs.declared.bus.BusCounts.{BusCounts}
 use Rattle.routes_calls.specs.declared.route.PlanLaid.{PlanLaid}
+use Rattle.program_answer.specs.Telling.{PlanThere}
 use Rattle.program_answer.specs.Answering.{TOLD_MOST, is_told, answer_of, text_after, Told, Answered, answer_call}
 
 -- An answer that is told or not.
@@ -54,18 +53,6 @@ told_all call before after n e w =
       answer = ap Some (let place = w.place in let same : n ≡ length (sheet_of call) = omega arith in same) ∙ sym (ap (λ (t : Bool). answer_of t (sheet_of call)) e);
       text_is = written_front before (sheet_of call) after w.buffer ∙ sym (ap (λ (t : Bool). text_after t (sheet_of call) before) e);
     }
-
--- A refusal's number has one digit.
-pub number_few : (r : Reason) → number_of r ≤ 9
-number_few Unread = omega arith
-number_few TooMany = omega arith
-number_few OutOfRange = omega arith
-number_few IdTaken = omega arith
-number_few NotThere = omega arith
-number_few Unplaced = omega arith
-number_few NoRoom = omega arith
-number_few NoLane = omega arith
-number_few BadBox = omega arith
 
 -- The tests of `tell_refusal`, one after the other.
 module _ (e : Refusal) (before : List ℕ) where
@@ -95,7 +82,7 @@ module _ (old old_wires oldPorts oldAnswers rerouters bus_wires ports answers : 
   plan_refusal (refused d) r e (is, a, b, c, f) err = cc
   plan_refusal (lanes_for b ps) r e (held, is, s, w) err = never cc
 
-  pub plan_told_by : (p : Planning) (r : Result PlanLaid Refusal) (q : PlanLaid) → PlanTexted p old old_wires oldPorts oldAnswers rerouters bus_wires ports answers r → r ≡ Ok q
+  plan_told_by : (p : Planning) (r : Result PlanLaid Refusal) (q : PlanLaid) → PlanTexted p old old_wires oldPorts oldAnswers rerouters bus_wires ports answers r → r ≡ Ok q
       → PlanTold p old old_wires oldPorts oldAnswers rerouters bus_wires ports answers q.counts q.laid.bus q.laid.groups
   plan_told_by (refused d) r q (e, a, b, f, k) is = never cc
   plan_told_by (lanes_for b ps) r q (held, e, s, w) is =
@@ -132,7 +119,7 @@ answered_refused most text lent old old_wires oldPorts oldAnswers rerouters bus_
 module _ (most : Counts) (text : List ℕ) (lent : Lent) (low : WithinLibrary most) (old old_wires oldPorts oldAnswers rerouters bus_wires ports answers : List (List ℕ)) (c : Counts) (held : BusCounts) (g : ℕ)
     (t : PlanTold (planning most (fits_lent lent) text) old old_wires oldPorts oldAnswers rerouters bus_wires ports answers c held g) where
   -- A line for each page, rerouter, bus wire and port, and one for the totals.
-  pub plan_room : (held.rerouters ≤ lent.rerouters) × (held.bus_wires ≤ lent.bus_wires) × (128 * (c.pages + held.rerouters + held.bus_wires + held.ports + 1) ≤ lent.out)
+  plan_room : (held.rerouters ≤ lent.rerouters) × (held.bus_wires ≤ lent.bus_wires) × (128 * (c.pages + held.rerouters + held.bus_wires + held.ports + 1) ≤ lent.out)
   plan_room =
       let b = t.on_board in
       let ps = t.lanes in
@@ -147,7 +134,7 @@ module _ (most : Counts) (text : List ℕ) (lent : Lent) (low : WithinLibrary mo
       (omega arith, omega arith, omega arith)
 
   -- There are as many rows of each kind as are told.
-  pub plan_there : lent.rerouters ≤ length rerouters → lent.bus_wires ≤ length bus_wires
+  plan_there : lent.rerouters ≤ length rerouters → lent.bus_wires ≤ length bus_wires
       → (c.pages ≤ length answers) × (held.rerouters ≤ length rerouters) × (held.bus_wires ≤ length bus_wires) × (held.ports ≤ length ports)
   plan_there lr lw =
       let b = t.on_board in
@@ -164,7 +151,7 @@ module _ (most : Counts) (text : List ℕ) (lent : Lent) (low : WithinLibrary mo
       )
 
   -- Those rows are the plan.
-  pub plan_held : lent.rerouters ≤ length rerouters → lent.bus_wires ≤ length bus_wires
+  plan_held : lent.rerouters ≤ length rerouters → lent.bus_wires ≤ length bus_wires
       → PlanHeld t.on_board t.lanes (take c.pages answers) (take held.rerouters rerouters) (take held.bus_wires bus_wires) (take held.ports ports) c.wires g
   plan_held lr lw =
       let b = t.on_board in
@@ -186,7 +173,7 @@ module _ (most : Counts) (text : List ℕ) (lent : Lent) (low : WithinLibrary mo
       }
 
   -- The plan sheet is told.
-  pub answered_plan : (q : Result PlanLaid Refusal) → PlanTexted (planning most (fits_lent lent) text) old old_wires oldPorts oldAnswers rerouters bus_wires ports answers q
+  answered_plan : (q : Result PlanLaid Refusal) → PlanTexted (planning most (fits_lent lent) text) old old_wires oldPorts oldAnswers rerouters bus_wires ports answers q
       → (before after : List ℕ) (r : ℕ) → lent.out ≡ length before → Wrote before 0 (plan_sheet t.on_board t.lanes (finished t.on_board t.lanes) (laid_groups t.on_board t.lanes)) after r
       → Answered (answer_call most text lent) before old old_wires oldPorts oldAnswers after rerouters bus_wires ports answers (Some r)
   unfolding answer_call routed sheet_of
@@ -200,11 +187,30 @@ module _ (most : Counts) (text : List ℕ) (lent : Lent) (low : WithinLibrary mo
       answered_by old old_wires oldPorts oldAnswers rerouters bus_wires ports answers (planning most (fits_lent lent) text) q h before after (Some r)
       (subst (λ (p : Planning). Told (routed_by finished p) before after (Some r)) (sym t.is) told)
 
--- The rows of a plan that `route_within` tells are there.
-module _ (most : Counts) (text : List ℕ) (lent : Lent) (low : WithinLibrary most) (old old_wires oldPorts oldAnswers rerouters bus_wires ports answers : List (List ℕ)) (r : Result PlanLaid Refusal) (q : PlanLaid) where
-  pub rows_there : PlanTexted (planning most (fits_lent lent) text) old old_wires oldPorts oldAnswers rerouters bus_wires ports answers r → r ≡ Ok q
-      → lent.rerouters ≤ length rerouters → lent.bus_wires ≤ length bus_wires
-      → (q.counts.pages ≤ length answers) × (q.laid.bus.rerouters ≤ length rerouters) × (q.laid.bus.bus_wires ≤ length bus_wires) × (q.laid.bus.ports ≤ length ports)
-  rows_there texted is =
-      plan_there most text lent low old old_wires oldPorts oldAnswers rerouters bus_wires ports answers q.counts q.laid.bus q.laid.groups
-      (plan_told_by old old_wires oldPorts oldAnswers rerouters bus_wires ports answers (planning most (fits_lent lent) text) r q texted is)
+-- The plan that `route_within` tells stands in the buffers, and its text is the answer.
+module _ (most : Counts) (text : List ℕ) (lent : Lent) (low : WithinLibrary most) (old old_wires oldPorts oldAnswers rerouters bus_wires ports answers : List (List ℕ)) (r : Result PlanLaid Refusal) (q : PlanLaid)
+    (texted : PlanTexted (planning most (fits_lent lent) text) old old_wires oldPorts oldAnswers rerouters bus_wires ports answers r) (is : r ≡ Ok q) where
+  told : PlanTold (planning most (fits_lent lent) text) old old_wires oldPorts oldAnswers rerouters bus_wires ports answers q.counts q.laid.bus q.laid.groups
+  told = plan_told_by old old_wires oldPorts oldAnswers rerouters bus_wires ports answers (planning most (fits_lent lent) text) r q texted is
+
+  rows_there : lent.rerouters ≤ length rerouters → lent.bus_wires ≤ length bus_wires → PlanThere told.on_board told.lanes q answers rerouters bus_wires ports lent.out
+  rows_there lr lw =
+      let there = plan_there most text lent low old old_wires oldPorts oldAnswers rerouters bus_wires ports answers q.counts q.laid.bus q.laid.groups told lr lw in
+      record {
+        page_rows = there.0;
+        rerouter_rows = there.1;
+        wire_rows = there.2;
+        port_rows = there.3;
+        text_room = (plan_room most text lent low old old_wires oldPorts oldAnswers rerouters bus_wires ports answers q.counts q.laid.bus q.laid.groups told).2;
+        held = plan_held most text lent low old old_wires oldPorts oldAnswers rerouters bus_wires ports answers q.counts q.laid.bus q.laid.groups told lr lw;
+      }
+
+  pub plan_stands : lent.rerouters ≤ length rerouters → lent.bus_wires ≤ length bus_wires → (b : Board) × (ps : List PageLanes) × PlanThere b ps q answers rerouters bus_wires ports lent.out
+  plan_stands lr lw = (told.on_board, told.lanes, rows_there lr lw)
+
+  pub plan_answered : lent.rerouters ≤ length rerouters → lent.bus_wires ≤ length bus_wires → (before after : List ℕ) (n : ℕ) → lent.out ≡ length before
+      → ((b : Board) (ps : List PageLanes) → PlanThere b ps q answers rerouters bus_wires ports lent.out → Wrote before 0 (plan_sheet b ps (finished b ps) (laid_groups b ps)) after n)
+      → Answered (answer_call most text lent) before old old_wires oldPorts oldAnswers after rerouters bus_wires ports answers (Some n)
+  plan_answered lr lw before after n same tells =
+      answered_plan most text lent low old old_wires oldPorts oldAnswers rerouters bus_wires ports answers q.counts q.laid.bus q.laid.groups told r texted before after n same
+      (tells told.on_board told.lanes (rows_there lr lw))

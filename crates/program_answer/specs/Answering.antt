@@ -9,7 +9,7 @@ use Rattle.board_plan.specs.TextPlan.{fits_lent, shortest, LINE_MOST}
 use Rattle.routes.specs.Route.{Routed, turned_away, plan, routed, sheet_of}
 use Rattle.routes_gutter.specs.Calls.{rerouters_after, bus_wires_after, ports_after, answers_after}
 
--- S16: an E line's place has 32 bits. So has its number, which is at most 9.
+-- S16: the greatest place that an E line holds. Its number is at most 9.
 abbrev pub TOLD_MOST : ℕ
 TOLD_MOST = 4294967294
 

@@ -5,17 +5,27 @@ ghost use Rattle.board_plan.specs.TextPlan.{work_rows};
 ghost use Rattle.program_answer.specs.Answering.{Told, Answered, answer_lent, answer_call, program_call, program_lent};
 
 use crate::{answer_within, tell_refusal};
-use base::refusal::{Reason, Refusal};
+use base::refusal::Reason;
 use base::rows::{BusWireRow, PageRow, PortRow, Record, RerouterRow, WorkRow};
+use board_plan::{BUS_WIRES_PER_WIRE, LINE_MOST, LINES_PER_WIRE, MARK_ROWS, REROUTERS_PER_WIRE};
 use sheet::{library_most, program_most};
 
 // The most bytes of input that the program takes.
 pub const INPUT_MOST: usize = 65_536;
 
-// Bytes of text for the largest plan of a board that the program takes: 128 a line, 8 pages, 12 lines for each of 56 wires, and the last line.
-pub const PLAN_MOST: usize = 87_168;
+// S12: the most wires, pages and records of a board that the program takes.
+// Stays (no plainer): the length of an array is a constant, and a constant cannot call `program_most`.
+const WIRES: usize = 56;
+
+const PAGES: usize = 8;
+
+const RECORDS: usize = 168;
+
+// Bytes of text for the largest plan of such a board: a line for each page, twelve for each wire, and the last line.
+pub const PLAN_MOST: usize = LINE_MOST * (PAGES + LINES_PER_WIRE * WIRES + 1);
 
 // The answer to a sheet at the library's limits.
+// Stays (C interface): C lends each buffer and each slice of work space by itself; one struct of them all would tell what it left by nested pairs.
 pub fn answer(
     text: &[u8],
     out: &mut [u8],
@@ -72,13 +82,7 @@ pub fn answer_for_program(
         out.old rerouters.old bus_wires.old ports.old answers.old out.new rerouters.new bus_wires.new ports.new answers.new result }
 {
     if INPUT_MOST < text.len() {
-        return tell_refusal(
-            out,
-            Refusal {
-                reason: Reason::TooMany,
-                place: 0,
-            },
-        );
+        return tell_refusal(out, Reason::TooMany.at(0));
     }
     answer_within(
         text,
@@ -102,17 +106,19 @@ pub fn answer_for_program(
 pub fn respond(text: &[u8], out: &mut [u8]) -> Option<usize>
     ensures { Told (program_call text.now (program_lent (length out.old))) out.old out.new result }
 {
-    let mut rerouters = [[0u32; 11]; 280];
-    let mut bus_wires = [[0u32; 6]; 336];
-    let mut ports = [[0u32; 2]; 56];
-    let mut answers = [[0u32; 2]; 8];
-    let mut records = [[0u32; 16]; 168];
-    let mut facts = [[0u32; 8]; 168];
-    let mut taps = [[0u32; 8]; 168];
-    let mut groups = [[0u32; 8]; 168];
-    let mut demands = [[0u32; 8]; 168];
-    let mut keys = [[0u32; 8]; 168];
-    let mut marks = [[0u32; 8]; 840];
+    let mut rerouters: [RerouterRow; REROUTERS_PER_WIRE * WIRES] = [[0; 11]; REROUTERS_PER_WIRE
+        * WIRES];
+    let mut bus_wires: [BusWireRow; BUS_WIRES_PER_WIRE * WIRES] = [[0; 6]; BUS_WIRES_PER_WIRE
+        * WIRES];
+    let mut ports: [PortRow; WIRES] = [[0; 2]; WIRES];
+    let mut answers: [PageRow; PAGES] = [[0; 2]; PAGES];
+    let mut records: [Record; RECORDS] = [[0; 16]; RECORDS];
+    let mut facts: [WorkRow; RECORDS] = [[0; 8]; RECORDS];
+    let mut taps: [WorkRow; RECORDS] = [[0; 8]; RECORDS];
+    let mut groups: [WorkRow; RECORDS] = [[0; 8]; RECORDS];
+    let mut demands: [WorkRow; RECORDS] = [[0; 8]; RECORDS];
+    let mut keys: [WorkRow; RECORDS] = [[0; 8]; RECORDS];
+    let mut marks: [WorkRow; MARK_ROWS * RECORDS] = [[0; 8]; MARK_ROWS * RECORDS];
     answer_for_program(
         text,
         out,

@@ -8,6 +8,7 @@ use std::io;
 use std::io::Read;
 
 // Reads until the buffer is full or the input ends: how many bytes stand in it. The first read that fails ends it.
+// Stays (no plainer): a read gives as many bytes as it likes, and the place goes on by so many; `read_exact` turns an input away that ends before the buffer is full.
 pub fn read_full<R: Read>(input: &mut R, buffer: &mut [u8]) -> io::Result<usize>
     ensures bound { IfOk result (λ n. n ≤ length buffer.new) }
     ensures bytes { IfOk result (λ n. Consumes (R.remaining input.old) (R.remaining input.new) (take n buffer.new)) }

@@ -19,7 +19,7 @@ const CUT: u8 = b'!';
 const FILE_MOST: usize = 1_048_576;
 
 // How many cases there are, how many of them agree, and where the first that does not begins.
-#[derive(Clone, Copy)]
+#[derive(Clone, Copy, Default)]
 struct Tally {
     cases: usize,
     agreed: usize,
@@ -52,19 +52,20 @@ fn is_marker(text: &[u8], at: usize) -> bool
     text[at..].starts_with(b"%%")
 }
 
-// The first marker line from a line's start on, or the end of the text.
-fn find_marker(text: &[u8], from: usize) -> usize
+// The first marker line from a line's start on.
+// Stays (no plainer): the lines are walked by where they start, since a case is cut from the text by these places; the parts that `split` gives do not tell them.
+fn find_marker(text: &[u8], from: usize) -> Option<usize>
     requires { from ≤ length text.now }
-    ensures { (from ≤ result) × (result ≤ length text.now) }
+    ensures { IfSome result (λ i. (from ≤ i) × (i < length text.now)) }
 {
     let mut at = from;
     while at < text.len() {
         if is_marker(text, at) {
-            return at;
+            return Some(at);
         }
         at = next_line(text, at);
     }
-    at
+    None
 }
 
 // Where the sheet before a marker ends: one byte earlier where the marker's line ends in `!`.
@@ -72,44 +73,51 @@ fn sheet_end(text: &[u8], at: usize, marker: usize, after: usize) -> usize
     requires { (at ≤ marker) × (marker < after) × (after ≤ length text.now) }
     ensures { (at ≤ result) × (result ≤ marker) }
 {
-    if marker == at {
-        return marker;
+    if at < marker && text[after - 2] == CUT {
+        marker - 1
+    } else {
+        marker
     }
-    if text[after - 2] == CUT {
-        return marker - 1;
-    }
-    marker
 }
 
-// All cases of a file, one after the other. What stands behind the last marker is no case.
+// A sheet, the answer to it, and where the next case begins.
+#[derive(Clone, Copy)]
+struct Case<'a> {
+    sheet: &'a [u8],
+    answer: &'a [u8],
+    next: usize,
+}
+
+// The case that begins here. What stands behind the last marker is none.
+fn case_at<'a>(text: &'a [u8], at: usize) -> Option<Case<'a>>
+    requires { at ≤ length text.now }
+    ensures { IfSome result (λ case. (at < case.next) × (case.next ≤ length text.now)) }
+{
+    let marker = find_marker(text, at)?;
+    let after = next_line(text, marker);
+    let answer_end = find_marker(text, after)?;
+    Some(Case {
+        sheet: &text[at..sheet_end(text, at, marker, after)],
+        answer: &text[after..answer_end],
+        next: next_line(text, answer_end),
+    })
+}
+
+// All cases of a file, one after the other.
 fn replay(text: &[u8]) -> Tally
     ensures counts { (result.agreed ≤ result.cases) × (result.cases ≤ length text.now) }
     ensures first { IfSome result.first (λ i. i < length text.now) }
 {
-    let mut tally = Tally {
-        cases: 0,
-        agreed: 0,
-        first: None,
-    };
+    let mut tally = Tally::default();
     let mut at: usize = 0;
-    while at < text.len() {
-        let marker = find_marker(text, at);
-        if text.len() <= marker {
-            return tally;
-        }
-        let after = next_line(text, marker);
-        let answer_end = find_marker(text, after);
-        if text.len() <= answer_end {
-            return tally;
-        }
-        let end = sheet_end(text, at, marker, after);
+    while let Some(case) = case_at(text, at) {
         tally.cases += 1;
-        if agrees(&text[at..end], &text[after..answer_end]) {
+        if agrees(case.sheet, case.answer) {
             tally.agreed += 1;
         } else {
             tally.first = tally.first.or(Some(at));
         }
-        at = next_line(text, answer_end);
+        at = case.next;
     }
     tally
 }

@@ -1,8 +1,8 @@
 -- The buffers hold a bus: one rerouter and one bus wire more.
 use Rattle.std.proofs.Common.{◌≡◌, ℕ, suc, ◌+◌, List, [], ◌∷◌, length, set, sym, refl, ap, ◌∙◌, add-one}
+use Rattle.std.specs.Option.{unwrap_or}
 use Rattle.sheet.specs.Table.{MISSING}
-use Rattle.board.specs.Board.{target_node, target_port}
-use Rattle.routes.specs.Bus.{port, rerouter, onward, delivery, fed_by}
+use Rattle.routes.specs.Bus.{rerouter, onward, fed_by}
 use Rattle.routes.specs.Buffers.{outward, rerouter_row, wire_row}
 use Rattle.routes.specs.Tables.{written_over}
 use Rattle.routes.specs.declared.bus.End.{End}
@@ -10,22 +10,19 @@ use Rattle.routes.specs.declared.bus.End.TheVariants.{Port, Rerouter as AtRerout
 use Rattle.routes.specs.declared.bus.Feed.{Feed}
 use Rattle.routes.specs.declared.bus.Rerouter.{Rerouter}
 use Rattle.routes.specs.declared.bus.BusCount.{BusCount}
-use Rattle.routes.specs.Holding.{end_node, end_port, end_of, feed_of, rerouter_of, Placing, Delivering}
+use Rattle.routes.specs.Holding.{end_node, end_port, end_of, feed_of, turns_of, role_of, part_of, rerouter_of, Placing}
 
 onward_row : (e : End) (n : ℕ) → wire_row (record { source = end_of e; target = rerouter n; carries = onward }) ≡ end_node e ∷ end_port e ∷ n ∷ MISSING ∷ MISSING ∷ MISSING ∷ []
 onward_row (Port m p) n = refl
 onward_row (AtRerouter k) n = refl
 
-delivery_row : (e : End) (n p w d : ℕ) → wire_row (record { source = end_of e; target = port n p; carries = delivery w d }) ≡ end_node e ∷ end_port e ∷ n ∷ p ∷ w ∷ d ∷ []
-delivery_row (Port m q) n p w d = refl
-delivery_row (AtRerouter k) n p w d = refl
-
 -- `push_bus_node` wrote the rerouter's row and the bus wire's, whose numbers its calls gave.
-module _ (rerouters wires : List (List ℕ)) (count : BusCount) (feed : Feed) (k : Rerouter) (x y z en ep : ℕ)
-    (ex : x ≡ outward k.x) (ey : y ≡ outward k.y) (ez : z ≡ outward k.z) (een : en ≡ end_node feed.end) (eep : ep ≡ end_port feed.end) where
+module _ (rerouters wires : List (List ℕ)) (count : BusCount) (feed : Feed) (k : Rerouter) (x y z turns role part lane beside en ep : ℕ)
+    (ex : x ≡ outward k.x) (ey : y ≡ outward k.y) (ez : z ≡ outward k.z) (et : turns ≡ turns_of k.rotation) (er : role ≡ role_of k.role) (ep' : part ≡ part_of k.part)
+    (el : lane ≡ unwrap_or k.lane MISSING) (ew : beside ≡ unwrap_or k.row MISSING) (een : en ≡ end_node feed.end) (eep : ep ≡ end_port feed.end) where
   pub placing : Placing rerouters wires count feed k
       (record { count = record { rerouters = count.rerouters + 1; wires = count.wires + 1 }; feed = record { end = AtRerouter (record { 0 = count.rerouters }); depth = feed.depth + 1 } })
-      (set rerouters count.rerouters (x ∷ y ∷ z ∷ k.rotation ∷ k.role ∷ k.part ∷ k.colour.0 ∷ k.page ∷ k.lane ∷ k.row ∷ (feed.depth + 1) ∷ []))
+      (set rerouters count.rerouters (x ∷ y ∷ z ∷ turns ∷ role ∷ part ∷ k.colour.0 ∷ k.page ∷ lane ∷ beside ∷ (feed.depth + 1) ∷ []))
       (set wires count.wires (en ∷ ep ∷ count.rerouters ∷ MISSING ∷ MISSING ∷ MISSING ∷ []))
   placing =
       record {
@@ -43,24 +40,6 @@ module _ (rerouters wires : List (List ℕ)) (count : BusCount) (feed : Feed) (k
             };
       }
     where
-      row : set rerouters count.rerouters (x ∷ y ∷ z ∷ k.rotation ∷ k.role ∷ k.part ∷ k.colour.0 ∷ k.page ∷ k.lane ∷ k.row ∷ (feed.depth + 1) ∷ [])
+      row : set rerouters count.rerouters (x ∷ y ∷ z ∷ turns ∷ role ∷ part ∷ k.colour.0 ∷ k.page ∷ lane ∷ beside ∷ (feed.depth + 1) ∷ [])
           ≡ set rerouters count.rerouters (rerouter_row (fed_by (feed_of feed) (rerouter_of k)))
-      row = λ i. set rerouters count.rerouters (ex i ∷ ey i ∷ ez i ∷ k.rotation ∷ k.role ∷ k.part ∷ k.colour.0 ∷ k.page ∷ k.lane ∷ k.row ∷ add-one feed.depth i ∷ [])
-
--- `push_delivery` wrote the bus wire's row.
-pub delivering : (wires : List (List ℕ)) (count : BusCount) (feed : Feed) (n p w en ep : ℕ) → en ≡ end_node feed.end → ep ≡ end_port feed.end
-    → Delivering wires count feed n p w (record { rerouters = count.rerouters; wires = count.wires + 1 })
-    (set wires count.wires (en ∷ ep ∷ n ∷ p ∷ w ∷ feed.depth ∷ []))
-delivering wires count feed n p w en ep een eep =
-    record {
-      rerouter_count = refl;
-      wire_count = add-one count.wires;
-      held = λ b bus old old_wires rerouters en' ep' h.
-          record {
-            rerouter_rows = h.rerouter_rows;
-            wire_rows = (λ i. set (h.wire_rows i) (h.wire_count i) (een i ∷ eep i ∷ en' i ∷ ep' i ∷ w ∷ feed.depth ∷ []))
-                ∙ ap (set (written_over wire_row bus.wires old_wires) (length bus.wires)) (sym (delivery_row feed.end (target_node b w) (target_port b w) w feed.depth));
-            rerouter_count = h.rerouter_count;
-            wire_count = add-one count.wires ∙ ap suc h.wire_count;
-          };
-    }
+      row = λ i. set rerouters count.rerouters (ex i ∷ ey i ∷ ez i ∷ et i ∷ er i ∷ ep' i ∷ k.colour.0 ∷ k.page ∷ el i ∷ ew i ∷ add-one feed.depth i ∷ [])

@@ -1,7 +1,7 @@
 pub mod Distinct
 pub mod Made
 pub mod Turned
-pub mod Laid
+pub mod LaidTaps
 pub mod Claims
 pub mod Kept
 pub mod Walk

@@ -15,7 +15,7 @@ use Rattle.routes.specs.Route.{Room}
 use Rattle.routes.specs.Demand3.{names, times_delivered}
 use Rattle.routes.proofs.Made.{Made, nothing, placing, serving, totals}
 use Rattle.routes.proofs.Turned.{not-muted, turns_open, muted_stays, with_turn, turned, turn_wires, corners_made}
-use Rattle.routes.proofs.Laid.{laid_short}
+use Rattle.routes.proofs.LaidTaps.{laid_short}
 use Rattle.routes.proofs.Walk.{bus_kept}
 
 -- Counting wires by number.

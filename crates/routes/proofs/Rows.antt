@@ -1,14 +1,13 @@
 -- Rows of the buffers: what was written is read back, and what was read is written back.
-use Rattle.std.proofs.Common.{◌≡◌, ℕ, zero, suc, ◌<◌, ◌≤◌, Bool, true, false, ◌&&◌, eqb, List, [], ◌∷◌, ◌++◌, map, length, get_or, take, drop, set, sym, refl, ap, ◌∙◌, subst, arith, take-append-drop, drop-set-lt, ne_eqb, eqb-true}
+use Rattle.std.proofs.Common.{◌≡◌, ℕ, zero, suc, ◌<◌, ◌≤◌, Bool, true, false, ◌&&◌, eqb, List, [], ◌∷◌, ◌++◌, map, length, get_or, take, drop, set, sym, refl, ap, ◌∙◌, arith, take-append-drop, drop-set-lt, ne_eqb, eqb-true}
 use mathlib.Core.List.{Memᴰ}
 use lib.Seq.{set-get_or}
-use borrow.Author.Tests.{eqb-false}
 use Rattle.sheet.specs.Table.{MISSING}
 use Rattle.base.specs.Views.{view}
 use Rattle.base.proofs.Lists.{same_two}
 use Rattle.base.proofs.Views.{view_more, length-view}
 use Rattle.routes.specs.Bus.{Rerouter, BusWire, End, port, rerouter, Carries, onward, delivery, Port}
-use Rattle.routes.specs.Buffers.{outward, rerouter_row, end_row, carries_row, wire_row, port_row, inward, rerouter_in, end_in, carries_in, wire_in, port_in, Row, Rows}
+use Rattle.routes.specs.Buffers.{outward, rerouter_row, end_row, carries_row, wire_row, port_row, inward, rerouter_in, end_in, carries_in, wire_in, port_in, Row}
 use Rattle.routes.specs.Tables.{written_over}
 use Rattle.routes.proofs.Views.{rows_written}
 
@@ -175,14 +174,3 @@ pub written_own : {A : Type 0} (row : A → List ℕ) (read : List ℕ → A) (t
 written_own row read table zero h same = refl
 written_own row read table (suc n) h same =
     (λ i. set (written_own row read table n (omega arith) (λ j l. same j (omega arith)) i) (length-view read table n i) (same n (omega arith) i)) ∙ set-get_or table n []
-
--- Rows known one after the other.
-pub rows_none : (width : ℕ) (table : List (List ℕ)) → Rows width table 0
-rows_none width table = λ i h. absurd (omega arith)
-
-pub rows_more : (width : ℕ) (table : List (List ℕ)) (n : ℕ) → Rows width table n → Row width (get_or table n []) → Rows width table (suc n)
-rows_more width table n rows row = λ i h. go i h (eqb i n) refl
-  where
-    go : (i : ℕ) → i < suc n → (t : Bool) → eqb i n ≡ t → Row width (get_or table i [])
-    go i h true e = subst (λ (j : ℕ). Row width (get_or table j [])) (sym (eqb-true i n e)) row
-    go i h false e = let other = eqb-false i n e in rows i (omega (arith, other))

@@ -18,7 +18,7 @@ use Rattle.routes.specs.Rerouters.{Emission, column_free, rerouter_near, level_h
 use Rattle.routes.specs.Plan.{bus_of}
 use Rattle.routes.specs.Demand3.{at_port}
 use Rattle.routes.proofs.Made.{InLane, Served, within, place_grows, deliver_grows, Grown}
-use Rattle.routes.proofs.Laid.{LaidIn, laid_in, row_of_group, laid_tail, new_wire, new_group_lem, rows_seen, columns_seen, rows_new, rows_old, columns_new, columns_old, rows_bound, columns_bound}
+use Rattle.routes.proofs.LaidTaps.{LaidIn, laid_in, row_of_group, laid_tail, new_wire, new_group_lem, rows_seen, columns_seen, rows_new, rows_old, columns_new, columns_old, rows_bound, columns_bound}
 use Rattle.routes.proofs.Claims.{kept_in_lem, kept_later, own_unclaimed, shared_kept, stops_more, stops_same, stops_before_lem, claimed_before, stop_group}
 use Rattle.routes.proofs.Kept.{Live, Stands, live_feeds, live_grows, stands_grows, live_placed, stands_placed, Kept, kept_empty, kept_more, kept_stop, kept_skip, kept_serve, kept_beside, kept_chain, kept_tap, is_chain}
 

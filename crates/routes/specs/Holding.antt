@@ -1,16 +1,43 @@
 -- How the code holds the bus and a stop's level: the buffers' rows, counts by value, feeds. No rule stands here.
 use Rattle.std.specs.Prelude.{◌≡◌, ℕ, suc, ◌<◌, List, length, slice_set}
+use Rattle.std.specs.Option.{unwrap_or}
 use Rattle.sheet.specs.Table.{MISSING}
 use Rattle.board.specs.Board.{Board, target_node, target_port}
 use Rattle.routes.specs.Levels
 use Rattle.routes.specs.Levels.{dropped, shared, own}
 use Rattle.routes.specs.Bus
-use Rattle.routes.specs.Bus.{Bus, BusWire, port, rerouter, onward, delivery, unfed, fed_by, place, deliver}
+use Rattle.routes.specs.Bus.{
+  Bus,
+  BusWire,
+  port,
+  rerouter,
+  onward,
+  delivery,
+  unfed,
+  fed_by,
+  place,
+  deliver,
+  role_gutter,
+  role_line,
+  role_source,
+  part_source,
+  part_head,
+  part_link,
+  part_tap,
+  part_gate_side,
+  part_corner,
+}
 use Rattle.routes.specs.Buffers.{rerouter_row, wire_row}
 use Rattle.routes.specs.Tables.{written_over}
 use Rattle.routes.specs.declared.bus.End.{End}
 use Rattle.routes.specs.declared.bus.End.TheVariants.{Port, Rerouter as AtRerouter}
 use Rattle.routes.specs.declared.bus.Feed.{Feed}
+use Rattle.routes.specs.declared.bus.Rotation.{Rotation}
+use Rattle.routes.specs.declared.bus.Rotation.TheVariants.{Deg0, Deg90, Deg180, Deg270}
+use Rattle.routes.specs.declared.bus.Role.{Role}
+use Rattle.routes.specs.declared.bus.Role.TheVariants.{Gutter, Line, Source as SourceRole}
+use Rattle.routes.specs.declared.bus.Part.{Part}
+use Rattle.routes.specs.declared.bus.Part.TheVariants.{Source, Head, Link, Tap, GateSide, Corner}
 use Rattle.routes.specs.declared.bus.Rerouter.{Rerouter}
 use Rattle.routes.specs.declared.bus.BusCount.{BusCount}
 use Rattle.routes.specs.declared.bus.Placed.{Placed}
@@ -33,10 +60,42 @@ end_of (AtRerouter k) = rerouter k.0
 abbrev pub feed_of : Feed → Bus.Feed
 feed_of f = record { end = end_of f.end; depth = f.depth }
 
+-- S6: a rotation in quarter turns.
+abbrev pub turns_of : Rotation → ℕ
+turns_of Deg0 = 0
+turns_of Deg90 = 1
+turns_of Deg180 = 2
+turns_of Deg270 = 3
+
+abbrev pub role_of : Role → ℕ
+role_of Gutter = role_gutter
+role_of Line = role_line
+role_of SourceRole = role_source
+
+abbrev pub part_of : Part → ℕ
+part_of Source = part_source
+part_of Head = part_head
+part_of Link = part_link
+part_of Tap = part_tap
+part_of GateSide = part_gate_side
+part_of Corner = part_corner
+
+-- P7: a lane or a row that is not there is MISSING in a rerouter's row.
 abbrev pub rerouter_of : Rerouter → Bus.Rerouter
 rerouter_of k =
-    record
-    { x = k.x; y = k.y; z = k.z; rotation = k.rotation; role = k.role; part = k.part; colour = k.colour.0; page = k.page; lane = k.lane; row = k.row; depth = unfed }
+    record {
+      x = k.x;
+      y = k.y;
+      z = k.z;
+      rotation = turns_of k.rotation;
+      role = role_of k.role;
+      part = part_of k.part;
+      colour = k.colour.0;
+      page = k.page;
+      lane = unwrap_or k.lane MISSING;
+      row = unwrap_or k.row MISSING;
+      depth = unfed;
+    }
 
 abbrev pub stop_level_of : Level → Levels.Level
 stop_level_of Dropped = dropped

@@ -11,3 +11,4 @@ pub mod Demand3
 pub mod Examples
 pub mod Tables
 pub mod Holding
+pub mod News

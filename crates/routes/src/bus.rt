@@ -1,7 +1,7 @@
 // The bus: rerouters and bus wires, and the two operations that each of them comes from (`push_bus_node`).
 ghost use Rattle.std.specs.Prelude.{◌≡◌, ◌+◌, ◌<◌, [], ◌∷◌, length};
-ghost use Rattle.routes.specs.Buffers.{outward as outwardOf};
-ghost use Rattle.routes.specs.Holding.{end_node, end_port, RoomForRerouter, RoomForWire, Placing, Delivering};
+ghost use Rattle.routes.specs.Buffers.{inward as inwardOf, outward as outwardOf};
+ghost use Rattle.routes.specs.Holding.{end_node, end_port, turns_of, role_of, part_of, RoomForRerouter, RoomForWire, Placing, Delivering};
 
 use base::ids::{NodeId, RerouterId};
 use base::numbers::{MISSING, ORIGIN};
@@ -21,23 +21,52 @@ pub struct Feed {
     pub depth: u32,
 }
 
-// A rerouter before it is placed, its coordinates as held: what feeds it gives it its depth.
+// How far a rerouter is turned, with its number in the row.
+#[derive(Clone, Copy)]
+pub enum Rotation {
+    Deg0 = 0,
+    Deg90 = 1,
+    Deg180 = 2,
+    Deg270 = 3,
+}
+
+// P3: a rerouter's role, with its number in the row.
+#[derive(Clone, Copy)]
+pub enum Role {
+    Gutter = 0,
+    Line = 1,
+    Source = 2,
+}
+
+// P3: a rerouter's part, with its number in the row.
+#[derive(Clone, Copy)]
+pub enum Part {
+    Source = 1,
+    Head = 2,
+    Link = 3,
+    Tap = 4,
+    GateSide = 5,
+    Corner = 6,
+}
+
+// A rerouter before it is placed, its coordinates as held: what feeds it gives it its depth. It stands in a lane or beside a row.
 #[derive(Clone, Copy)]
 pub struct Rerouter {
     pub x: u32,
     pub y: u32,
     pub z: u32,
-    pub rotation: u32,
-    pub role: u32,
-    pub part: u32,
+    pub rotation: Rotation,
+    pub role: Role,
+    pub part: Part,
     pub colour: NodeId,
     pub page: u32,
-    pub lane: u32,
-    pub row: u32,
+    pub lane: Option<u32>,
+    pub row: Option<u32>,
 }
 
 // How many rows of the two buffers are written.
-#[derive(Clone, Copy)]
+// Stays (no plainer): nested in `BusCounts`, which C reads, each of its counts would be named through two structs.
+#[derive(Clone, Copy, Default)]
 pub struct BusCount {
     pub rerouters: usize,
     pub wires: usize,
@@ -45,7 +74,7 @@ pub struct BusCount {
 
 // How many rerouters, bus wires and suppressed ports a bus has in the buffers.
 #[repr(C)]
-#[derive(Clone, Copy)]
+#[derive(Clone, Copy, Default)]
 pub struct BusCounts {
     pub rerouters: usize,
     pub bus_wires: usize,
@@ -57,6 +86,38 @@ pub struct BusCounts {
 pub struct Placed {
     pub count: BusCount,
     pub feed: Feed,
+}
+
+// The numbers in a rerouter's row.
+impl From<Rotation> for u32 {
+    ghost from_gives = { λ rotation number. number ≡ turns_of rotation };
+
+    fn from(rotation: Rotation) -> u32 {
+        rotation as u32
+    }
+}
+
+impl From<Role> for u32 {
+    ghost from_gives = { λ role number. number ≡ role_of role };
+
+    fn from(role: Role) -> u32 {
+        role as u32
+    }
+}
+
+impl From<Part> for u32 {
+    ghost from_gives = { λ part number. number ≡ part_of part };
+
+    fn from(part: Part) -> u32 {
+        part as u32
+    }
+}
+
+// A coordinate of 32 bits as it is held.
+pub fn inward(c: u32) -> u32
+    ensures { result ≡ inwardOf c }
+{
+    c.wrapping_add(ORIGIN)
 }
 
 // A held coordinate as a number of 32 bits.
@@ -98,13 +159,13 @@ pub fn push_bus_node(
         outward(new.x),
         outward(new.y),
         outward(new.z),
-        new.rotation,
-        new.role,
-        new.part,
+        u32::from(new.rotation),
+        u32::from(new.role),
+        u32::from(new.part),
         new.colour.0,
         new.page,
-        new.lane,
-        new.row,
+        new.lane.unwrap_or(MISSING),
+        new.row.unwrap_or(MISSING),
         depth,
     ];
     bus_wires[w] = [node, port, number, MISSING, MISSING, MISSING];

@@ -1,7 +1,9 @@
 -- Laws of the items as they are filled in: a row of numbers is a brick's item or a candidate's, and stays so.
 use Prim.Native.Nat.{ℕ, ◌+◌, ◌*◌, ◌≤◌, ◌<◌}
 use native.Mathlib.Omega.{arith}
-use mathlib.Core.Path.{◌≡◌, ap, sym, subst, ◌∙◌}
+use mathlib.Core.Path.{◌≡◌, refl, ap, sym, subst, ◌∙◌}
+use Rattle.std.proofs.Common.{Some, None}
+use Rattle.std.specs.Bool.{then_some}
 use mathlib.Core.Bool.{Bool, true, false, not, ◌||◌}
 use mathlib.Core.List.{List, []}
 use lib.Dec.{eqb}
@@ -15,6 +17,8 @@ use Rattle.board.specs.Rows.{brick_cell, rerouter_cell}
 use Rattle.board.specs.Tables.{nodes_alone}
 use Rattle.routes_taps.specs.Asking.{Candidate, source_item, gate_side_item}
 use Rattle.routes_beside.specs.Beside.{rows_before, key_at, Bases, cell_in, ItemIs, BrickIs, Items, BrickInRange, AskedInRange, BricksAskable}
+use Rattle.base.proofs.Bools.{never}
+use Rattle.routes_beside.specs.declared.items.Spot.{Spot}
 use Rattle.routes_beside.proofs.Keys.{key_below}
 
 module _ (last : ℕ) (t : Bool) (c : Rows.Cell) (key : ℕ) (r : List ℕ) where
@@ -97,3 +101,18 @@ module _ (nodes : List (List ℕ)) (bases : List ℕ) (has : Bases nodes bases) 
       let p = range.page in
       let l = has.long in
       (omega arith, omega arith, range.x, range.y)
+
+-- A spot that is asked for, by a test.
+pub spot_there : (t : Bool) (s z : Spot) → Some z ≡ then_some t s → (t ≡ true) × (z ≡ s)
+spot_there true s z e = (refl, cc)
+spot_there false s z e = never cc
+
+pub spot_gone : (t : Bool) (s : Spot) → None ≡ then_some t s → t ≡ false
+spot_gone true s e = never cc
+spot_gone false s e = refl
+
+abbrev pub SpotFits : List ℕ → Spot → Type 0
+SpotFits bases s = (s.page < length bases) × (get_or bases s.page 0 + s.row ≤ 4096) × (s.x < 4294967290) × (s.y < 4294967290)
+
+pub spot_fits : (bases : List ℕ) (t : Bool) (s z : Spot) → Some z ≡ then_some t s → (t ≡ true → SpotFits bases s) → SpotFits bases z
+spot_fits bases t s z e room = let h = spot_there t s z e in subst (SpotFits bases) (sym h.1) (room h.0)

@@ -1,5 +1,6 @@
 // The items that are booked row by row: the bricks, and behind them two for each tap, its source and its gate-side rerouter.
-ghost use Rattle.std.specs.Prelude.{◌≡◌, [], ℕ, ◌+◌, ◌*◌, ◌<◌, ◌≤◌, eqb, length, get_or};
+ghost use Rattle.std.specs.Prelude.{◌≡◌, [], Bool, Some, ℕ, ◌+◌, ◌*◌, ◌<◌, ◌≤◌, eqb, length, get_or};
+ghost use Rattle.std.specs.Bool.{then_some};
 ghost use Rattle.board.specs.Rows.{rerouter_cell};
 ghost use Rattle.board.specs.Tables.{flag};
 ghost use Rattle.routes_taps.specs.Asking.{source_item};
@@ -8,6 +9,7 @@ ghost use Rattle.routes_beside.specs.Beside.{count_on, Bases, cell_in, ItemIs, B
 use base::numbers::MISSING;
 use base::rows::{Record, WorkRow};
 use base::runs::sum_up;
+use routes::laid::Laid;
 use routes_taps::taps::TAP_RESERVE;
 
 // One more node on a page, where it has one.
@@ -15,6 +17,7 @@ fn count_page(counts: &mut [u32; 64], page: u32)
     requires { (p : ℕ) → p < 64 → get_or counts.old p 0 < 4096 }
     ensures { (p : ℕ) → p < 64 → get_or counts.new p 0 ≡ flag (eqb page p) + get_or counts.old p 0 }
 {
+    // Stays (no plainer): a page's place behind an Option, by `get_mut`, would be opened to add one, which is no shorter than the test.
     let p = page as usize;
     if p < 64 {
         counts[p] += 1;
@@ -39,7 +42,7 @@ pub fn page_bases(nodes: &[Record]) -> [u32; 64]
     ensures { Bases nodes.now result }
 {
     let mut bases = count_pages(nodes);
-    sum_up(&mut bases, 64);
+    sum_up(&mut bases);
     bases
 }
 
@@ -55,6 +58,7 @@ pub fn item(bases: &[u32], page: u32, row: u32, x: u32, y: u32, half_x: u32, hal
 }
 
 // What is no item has the key that does not come.
+// Stays (no plainer): the order by keys takes rows, and leaves out those whose key is the number of keys.
 pub fn no_item(last: usize) -> WorkRow
     requires { last ≤ 4096 }
     ensures { get_or result 6 0 ≡ last }
@@ -84,17 +88,28 @@ fn brick_item(nodes: &[Record], facts: &[WorkRow], bases: &[u32], i: usize) -> W
     item(bases, page, row, x, y, half_x, half_y)
 }
 
-// C2: the item of a rerouter, if it is asked for.
-fn asked_item(asks: u32, page: u32, row: u32, x: u32, y: u32, bases: &[u32], last: usize) -> WorkRow
-    requires { (asks ≡ 1 → (page < length bases.now) × (get_or bases.now page 0 + row ≤ 4096) × (x < 4294967290) × (y < 4294967290)) × (last ≤ 4096) }
-    ensures { ItemIs last (eqb asks 1) (rerouter_cell x y) (get_or bases.now page 0 + row) result }
-{
-    if asks == 1 {
-        return item(bases, page, row, x, y, 1, 1);
-    }
-    no_item(last)
+// Where a rerouter is asked for: beside a row of a page.
+#[derive(Clone, Copy)]
+struct Spot {
+    page: u32,
+    row: u32,
+    x: u32,
+    y: u32,
 }
 
+// C2: the item of a rerouter, if it is asked for.
+fn asked_item(spot: Option<Spot>, bases: &[u32], last: usize) -> WorkRow
+    requires { ((s : Spot) → spot ≡ Some s → (s.page < length bases.now) × (get_or bases.now s.page 0 + s.row ≤ 4096) × (s.x < 4294967290) × (s.y < 4294967290)) × (last ≤ 4096) }
+    ensures { (t : Bool) (s : Spot) → spot ≡ then_some t s → ItemIs last t (rerouter_cell s.x s.y) (get_or bases.now s.page 0 + s.row) result }
+{
+    match spot {
+        Some(s) => item(bases, s.page, s.row, s.x, s.y, 1, 1),
+        None => no_item(last),
+    }
+}
+
+// The items of the bricks.
+// Stays (no plainer): an item is made of a node and its facts and written at the same place of a third table; three tables side by side would be nested pairs.
 pub fn fill_bricks(nodes: &[Record], facts: &[WorkRow], bases: &[u32], items: &mut [WorkRow])
     requires bricks_askable { BricksAskable nodes.now facts.now }
     requires bases { Bases nodes.now bases.now × (length nodes.now ≤ length items.old) }
@@ -121,26 +136,25 @@ fn fill_tap(
     let bricks = nodes.len();
     let at = bricks + 2 * k;
     let page = laid[k][0];
-    items[at] = asked_item(
-        asked[k][2],
+    let source = Spot {
         page,
-        asked[k][4],
-        asked[k][5],
-        asked[k][6],
-        bases,
-        bricks,
-    );
-    items[at + 1] = asked_item(
-        asked[k][3],
+        row: asked[k][4],
+        x: asked[k][5],
+        y: asked[k][6],
+    };
+    let gate_side = Spot {
         page,
-        laid[k][2],
-        asked[k][7],
-        laid[k][3] - TAP_RESERVE,
-        bases,
-        bricks,
-    );
+        row: laid[k][2],
+        x: asked[k][7],
+        y: laid[k][3] - TAP_RESERVE,
+    };
+    items[at] = asked_item((asked[k][2] == 1).then_some(source), bases, bricks);
+    items[at + 1] = asked_item((asked[k][3] == 1).then_some(gate_side), bases, bricks);
 }
 
+// The items of the taps.
+// Stays (no plainer): a tap's answers stand at its place in another table, and its two items behind as many as there are before it, so the taps go by their
+// places.
 fn fill_taps(
     nodes: &[Record],
     laid: &[WorkRow],
@@ -159,18 +173,12 @@ fn fill_taps(
 }
 
 // All items.
-pub fn fill_items(
-    nodes: &[Record],
-    facts: &[WorkRow],
-    laid: &[WorkRow],
-    asked: &[WorkRow],
-    items: &mut [WorkRow],
-)
-    requires bricks_askable { BricksAskable nodes.now facts.now }
-    requires taps_askable { TapsAskable nodes.now laid.now asked.now (length laid.now) × (length nodes.now + 2 * length laid.now ≤ length items.old) }
-    ensures { Items nodes.now facts.now laid.now asked.now (length laid.now) items.new }
+pub fn fill_items(nodes: &[Record], laid: Laid<'_>, asked: &[WorkRow], items: &mut [WorkRow])
+    requires bricks_askable { BricksAskable nodes.now laid.facts.now }
+    requires taps_askable { TapsAskable nodes.now laid.taps.now asked.now (length laid.taps.now) × (length nodes.now + 2 * length laid.taps.now ≤ length items.old) }
+    ensures { Items nodes.now laid.entry.facts.now laid.entry.taps.now asked.now (length laid.entry.taps.now) items.new }
 {
     let bases = page_bases(nodes);
-    fill_bricks(nodes, facts, &bases, items);
-    fill_taps(nodes, laid, asked, &bases, items);
+    fill_bricks(nodes, laid.facts, &bases, items);
+    fill_taps(nodes, laid.taps, asked, &bases, items);
 }

@@ -7,7 +7,6 @@ use mathlib.Core.List.{List}
 use lib.ListN.{length}
 use Rattle.std.proofs.Common.{Result, Ok, Err}
 use Rattle.base.specs.declared.refusal.Refusal.{Refusal}
-use Rattle.sheet.specs.declared.Counts.{Counts}
 use Rattle.board.specs.Board.{Board}
 use Rattle.board.specs.Demands.{PageLanes}
 use Rattle.base.proofs.Bools.{never, clash}
@@ -27,8 +26,8 @@ use Rattle.routes_gutter.specs.Bus.{BusStands}
 use Rattle.routes_calls.specs.Finish.{CornersReady}
 use Rattle.routes_calls.proofs.Finishing.{ports_length, laid_handed, laid_mutes, laid_room_lem, laid_given, ports_finished, wires_fit_lem, sort_room}
 
-module _ {b : Board} {ps : List PageLanes} {old old_wires oldPorts rows : List (List ℕ)} {counts : Counts} {facts rerouters bus_wires ports : List (List ℕ)} {held : BusCounts} {marks : List (List ℕ)}
-    (ready : CornersReady b ps old old_wires oldPorts rows counts facts rerouters bus_wires ports held marks) where
+module _ {b : Board} {ps : List PageLanes} {old old_wires oldPorts pages nodes wires facts rerouters bus_wires ports : List (List ℕ)} {held : BusCounts} {marks : List (List ℕ)}
+    (ready : CornersReady b ps old old_wires oldPorts pages nodes wires facts rerouters bus_wires ports held marks) where
   pub ready_mutes : Mutes b (bus_of b ps) ports held.ports
   ready_mutes =
       subst (λ (j : ℕ). Mutes b (bus_of b ps) ports j) (sym ready.stands.suppressed)
@@ -39,15 +38,15 @@ module _ {b : Board} {ps : List PageLanes} {old old_wires oldPorts rows : List (
       subst (λ (c : BusCount). Handed (bus_of b ps) old old_wires rerouters bus_wires c) (λ w. record { rerouters = sym ready.stands.rerouter_count w; wires = sym ready.stands.wires w })
       (laid_handed b ready.accepted ps ready.plan old old_wires rerouters bus_wires ready.rerouters_lent ready.stands.rerouters_are ready.stands.wires_are)
 
-  ready_room : has_room (length b.wires) held (turnable b (bus_of b ps)) ≡ true
+  ready_room : has_room (length wires) held (turnable b (bus_of b ps)) ≡ true
   ready_room =
-      rw (ready.stands.rerouter_count, ready.stands.wires, ready.stands.suppressed) (laid_room_lem b ready.accepted ps ready.plan)
+      rw (sym ready.known.sections.wires_are, ready.stands.rerouter_count, ready.stands.wires, ready.stands.suppressed) (laid_room_lem b ready.accepted ps ready.plan)
 
-  pub turned_short : {A : Type 0} (rerouters' busWires' : List (List ℕ)) (r : Result BusCount Refusal) (e : Refusal) → TurnedFrom b (bus_of b ps) old old_wires (length b.wires) held rerouters' busWires' r → r ≡ Err e → A
+  pub turned_short : {A : Type 0} (rerouters' busWires' : List (List ℕ)) (r : Result BusCount Refusal) (e : Refusal) → TurnedFrom b (bus_of b ps) old old_wires (length wires) held rerouters' busWires' r → r ≡ Err e → A
   turned_short rerouters' busWires' (Err d) e t is = clash ready_room t
   turned_short rerouters' busWires' (Ok count) e t is = never cc
 
-  pub turned_laid : (rerouters' busWires' : List (List ℕ)) (r : Result BusCount Refusal) (count : BusCount) → TurnedFrom b (bus_of b ps) old old_wires (length b.wires) held rerouters' busWires' r → r ≡ Ok count
+  pub turned_laid : (rerouters' busWires' : List (List ℕ)) (r : Result BusCount Refusal) (count : BusCount) → TurnedFrom b (bus_of b ps) old old_wires (length wires) held rerouters' busWires' r → r ≡ Ok count
       → BusHeld (corners b (bus_of b ps)) old old_wires rerouters' busWires' count
   turned_laid rerouters' busWires' (Err d) count t e = never cc
   turned_laid rerouters' busWires' (Ok c) count t e = let same : c ≡ count = cc in subst (λ (d : BusCount). BusHeld (corners b (bus_of b ps)) old old_wires rerouters' busWires' d) same t
@@ -68,14 +67,14 @@ module _ {b : Board} {ps : List PageLanes} {old old_wires oldPorts rows : List (
         let ol = ready.ports_lent in
         let long : length ports ≡ length oldPorts = ap length ready.stands.ports_are ∙ ports_length (bus_of b ps).ports oldPorts (omega arith) in
         rw (ready.stands.wires, turned.wire_count)
-        (settleable_corners b ready.accepted (bus_of b ps) busWires' old_wires turned.wire_rows fit ports held.ports ready.turning.lent.muted given (omega arith) (omega arith))
+        (settleable_corners b ready.accepted (bus_of b ps) busWires' old_wires turned.wire_rows fit ports held.ports ready.lent.muted given (omega arith) (omega arith))
 
     pub settle_done : (ports' : List (List ℕ)) (v : ℕ) → Settled busWires' held.bus_wires count.wires ports held.ports ports' v → BusStands (finished b ps) old old_wires oldPorts rerouters' busWires' ports' (record { rerouters = count.rerouters; bus_wires = count.wires; ports = v })
     unfolding finished
     settle_done ports' v done =
         let all : settled busWires' held.bus_wires count.wires ports held.ports ≡ (corners b (bus_of b ps)).ports =
         ap (λ (j : ℕ). settled busWires' j count.wires ports held.ports) ready.stands.wires ∙ ap (λ (j : ℕ). settled busWires' (length (bus_of b ps).wires) j ports held.ports) turned.wire_count
-        ∙ settled_corners b ready.accepted (bus_of b ps) busWires' old_wires turned.wire_rows fit ports held.ports ready.turning.lent.muted given in
+        ∙ settled_corners b ready.accepted (bus_of b ps) busWires' old_wires turned.wire_rows fit ports held.ports ready.lent.muted given in
         record {
           rerouters_are = turned.rerouter_rows;
           wires_are = turned.wire_rows;

@@ -18,12 +18,15 @@ use Rattle.board.specs.Demands.{PageLanes, Planned, crowded, planned, plan_lanes
 use Rattle.board.specs.Planning.{Planning, refused, planning, crowding, records, judged_for}
 use Rattle.board.specs.Refusals
 use Rattle.board.specs.Refusals.{Judged, board}
-use Rattle.board.specs.Walk.{WithinLibrary, counts_in}
+use Rattle.board.specs.Accepted.{Accepted}
+use Rattle.board.specs.Walk.{WithinLibrary}
 use Rattle.base.proofs.Bools.{and_left, and_right}
 use Rattle.base.proofs.Views.{length-view}
 use Rattle.board_plan.specs.declared.Asked.{Asked}
 use Rattle.board_plan.specs.declared.Lent.{Lent}
-use Rattle.board_plan.specs.TextPlan.{fits_lent, fitting, shortest, lent_of, asked_for, FactsHold}
+use Rattle.board_plan.specs.declared.TextPlan.{TextPlan}
+use Rattle.board_plan.specs.TextPlan.{fits_lent, fitting, shortest, lent_of, asked_for, TextPlanned}
+use Rattle.board_plan.proofs.Surveying.{BoardTold, survey_crowd, survey_lanes}
 use Rattle.board_plan.proofs.Fitting.{fits_all}
 use Rattle.board.proofs.Accepting.{sheet_accepted}
 use Rattle.board_plan.proofs.Reading.{fitting_from, planning_then}
@@ -35,6 +38,8 @@ use Rattle.routes.specs.Route.{Routed, turned_away, plan}
 use Rattle.routes.specs.declared.bus.BusCount.{BusCount}
 use Rattle.routes.proofs.Room.{corner_room}
 use Rattle.routes_corners.specs.Handed.{ports_in, bus_in}
+use Rattle.routes_corners.specs.CornerTables.{BoardOf}
+use Rattle.routes_corners.specs.Turning
 use Rattle.routes_corners.specs.Turning.{has_room, TurnedAs}
 use Rattle.routes_corners.proofs.TurnLaws.{room_found}
 use Rattle.routes_ports.specs.Ports.{ports_set}
@@ -48,9 +53,8 @@ use Rattle.routes_gutter.specs.Bus.{BusLent}
 use Rattle.routes.specs.Route.{fits_bus}
 use Rattle.routes_gutter.specs.Calls.{bus_fits, bus_answer, rerouters_after, bus_wires_after, ports_after, BusCalled}
 use Rattle.routes_calls.specs.Mini.{holds, bus_given, held_fits, mini_by, mini_on, mini_fits, mini_call, crowded_at, HeldReady}
-use Rattle.routes_calls.specs.Turn.{RowsKnown}
 use Rattle.routes_gutter.proofs.Planned.{bus_fit}
-use Rattle.routes_calls.proofs.Turning.{turn_ready}
+use Rattle.routes_calls.proofs.Turning.{board_known}
 
 -- The ports handed in, whatever row is put in first.
 pub ports_in_lem : (ports : List (List ℕ)) (u : ℕ) → u ≤ length ports → ports_set (ports_held ports u) ≡ ports_in ports u
@@ -139,34 +143,50 @@ module _ (rerouters bus_wires ports : List (List ℕ)) (held : BusCounts) (b : B
       go true f = called_away _ rerouters bus_wires ports rerouters bus_wires ports crowds (mini_lanes (sym f) (crowded p) l ∙ ap turned_away (sym at)) refl refl refl
       go false f = mini_unfit (sym f)
 
-  pub mini_short : Held → (r' w' : List (List ℕ)) (r : Result BusCount Refusal) (e : Refusal) → After r' w' r → r ≡ Err e
-      → BusCalled (mini_on rerouters bus_wires ports held b) rerouters bus_wires ports r' w' ports (Err e)
-  mini_short h r' w' r e t is =
-      let s = subst (After r' w') is t in
-      called_away _ rerouters bus_wires ports r' w' ports e (mini_fits_lem false (held_fits_lem h ∙ s.0) ∙ ap turned_away (sym s.1)) s.2 s.3 refl
-
   start_wires : length start.wires ≡ held.bus_wires
   unfolding bus_in
   start_wires = length-view wire_in bus_wires held.bus_wires
 
-  module _ (few : Held) {rows : List (List ℕ)} {counts : Counts} {facts marks : List (List ℕ)} (ready : HeldReady b rows counts facts rerouters bus_wires ports marks)
-      (r' w' : List (List ℕ)) (r : Result BusCount Refusal) (count : BusCount) (turned : After r' w' r) (is : r ≡ Ok count) where
+  module _ (few : Held) {pages nodes wires facts marks : List (List ℕ)} (ready : HeldReady b pages nodes wires facts rerouters bus_wires ports marks) where
     within : (held.rerouters ≤ length rerouters) × (held.bus_wires ≤ length bus_wires) × (held.ports ≤ length ports)
     within = held_within held (length rerouters) (length bus_wires) (length ports) few
 
+    pub held_lent : Turning.Lent (length nodes) (length wires) rerouters bus_wires ports marks held
+    held_lent =
+        let n = ap length ready.known.sections.nodes_are in
+        let w = ap length ready.known.sections.wires_are in
+        let rr = ready.rerouter_room in let wr = ready.wire_room in let mr = ready.mark_room in
+        record { rerouters_there = within.0; wires = within.1; muted = within.2; rerouter_room = omega arith; wire_room = omega arith; mark_room = omega arith }
+
+    module _ (r' w' : List (List ℕ)) (r : Result BusCount Refusal) (turned : TurnedAs b start (length wires) rerouters bus_wires held r' w' r) where
+      after : (q : Result BusCount Refusal) → r ≡ q → After r' w' q
+      after q is =
+          subst (λ (n : ℕ). TurnedAs b start n rerouters bus_wires held r' w' q) (sym (ap length ready.known.sections.wires_are))
+          (subst (TurnedAs b start (length wires) rerouters bus_wires held r' w') is turned)
+
+      pub mini_short : (e : Refusal) → r ≡ Err e → BusCalled (mini_on rerouters bus_wires ports held b) rerouters bus_wires ports r' w' ports (Err e)
+      mini_short e is =
+          let s = after (Err e) is in
+          called_away _ rerouters bus_wires ports r' w' ports e (mini_fits_lem false (held_fits_lem few ∙ s.0) ∙ ap turned_away (sym s.1)) s.2 s.3 refl
+
+  module _ (few : Held) {pages nodes wires facts marks : List (List ℕ)} (ready : HeldReady b pages nodes wires facts rerouters bus_wires ports marks)
+      (r' w' : List (List ℕ)) (r : Result BusCount Refusal) (count : BusCount) (turned : TurnedAs b start (length wires) rerouters bus_wires held r' w' r) (is : r ≡ Ok count) where
     laid : After r' w' (Ok count)
-    laid = subst (After r' w') is turned
+    laid = after few ready r' w' r turned (Ok count) is
+
+    there : held.ports ≤ length ports
+    there = (within few ready).2
 
     start_ports : ports_set (ports_held ports held.ports) ≡ start.ports
     unfolding bus_in
-    start_ports = ports_in_lem ports held.ports within.2
+    start_ports = ports_in_lem ports held.ports there
 
     room : length (corners b start).wires ≤ length bus_wires
     unfolding corners turnable
     room =
         let added = (corner_room b start (length b.wires) (omega arith)).wires in
         let lines = (room_found (length b.wires) held (turnable b start) laid.0).1 in
-        let long = (ready.ready held within.0 within.1 within.2).lent.wire_room in
+        let long = ready.wire_room in
         let many = start_wires in
         omega arith
 
@@ -176,12 +196,12 @@ module _ (rerouters bus_wires ports : List (List ℕ)) (held : BusCounts) (b : B
         let pr = ready.port_room in
         subst (λ (i : ℕ). Settleable w' i count.wires ports held.ports) start_wires
         (subst (λ (j : ℕ). Settleable w' (length start.wires) j ports held.ports) (sym laid.1.wire_count)
-        (settleable_corners b ready.accepted start w' bus_wires laid.1.wire_rows room ports held.ports within.2 start_ports (omega arith) (omega arith)))
+        (settleable_corners b ready.accepted start w' bus_wires laid.1.wire_rows room ports held.ports there start_ports (omega arith) (omega arith)))
 
     settled_is : settled w' held.bus_wires count.wires ports held.ports ≡ (corners b start).ports
     settled_is =
         (λ i. settled w' (sym start_wires i) (laid.1.wire_count i) ports held.ports)
-        ∙ settled_corners b ready.accepted start w' bus_wires laid.1.wire_rows room ports held.ports within.2 start_ports
+        ∙ settled_corners b ready.accepted start w' bus_wires laid.1.wire_rows room ports held.ports there start_ports
 
     pub mini_laid : (ps : List PageLanes) → plan_lanes b ≡ planned ps → (p' : List (List ℕ)) (u : ℕ) → Settled w' held.bus_wires count.wires ports held.ports p' u
         → BusCalled (mini_on rerouters bus_wires ports held b) rerouters bus_wires ports r' w' p' (Ok (record { bus = record { rerouters = count.rerouters; bus_wires = count.wires; ports = u }; groups = 0 }))
@@ -190,33 +210,34 @@ module _ (rerouters bus_wires ports : List (List ℕ)) (held : BusCounts) (b : B
         (s.rows ∙ ap (λ l. ports_over l ports) settled_is)
 
 -- A board that what is lent fits is ready for whatever is handed in.
-pub held_ready : (most : Counts) (text : List ℕ) (lent : Lent) → WithinLibrary most → (b : Board) → fitting most (fits_lent lent) text ≡ board b
-    → (rows facts : List (List ℕ)) → FactsHold b rows facts → (c : Counts) → c ≡ counts_in b → (rerouters bus_wires ports marks : List (List ℕ)) → BusLent lent marks rerouters bus_wires ports
-    → lent.work ≤ length facts → HeldReady b rows c facts rerouters bus_wires ports marks
-unfolding records
-held_ready most text lent low b is rows facts known c counted rerouters bus_wires ports marks bus fs =
-    let from = fitting_from most text (fits_lent lent) b is in
-    let accepted = sheet_accepted most text b low from.0 in
-    let fit = fits_all lent b from.1 in
-    let fw = fit.work in
-    let fp = fit.ports in
-    let pl = bus.ports_lent in
-    let ml = bus.marks_lent in
-    record {
-      ready = turn_ready lent b accepted from.1 rows facts known c counted fs rerouters bus_wires ports marks bus;
-      accepted = accepted;
-      port_room = omega arith;
-    }
+module _ (most : Counts) (text : List ℕ) (lent : Lent) (low : WithinLibrary most) (b : Board) (is : fitting most (fits_lent lent) text ≡ board b) where
+  pub fitting_accepted : Accepted b
+  fitting_accepted = sheet_accepted most text b low (fitting_from most text (fits_lent lent) b is).0
 
-pub rows_known : {b : Board} {rows : List (List ℕ)} {c : Counts} {facts rerouters bus_wires ports marks : List (List ℕ)} → HeldReady b rows c facts rerouters bus_wires ports marks → RowsKnown b rows c facts
-rows_known ready =
-    let r = ready.ready (record { rerouters = 0; bus_wires = 0; ports = 0 }) (omega arith) (omega arith) (omega arith) in
-    record {
-      known = record { sections = r.sections; nodes_known = r.nodes_known; wires_known = r.wires_known };
-      counted = r.counted;
-      accepted = r.accepted;
-      facts_long = r.fits.ends_long;
-    }
+  pub held_ready : {pages nodes wires facts : List (List ℕ)} → BoardOf b pages nodes wires facts → (rerouters bus_wires ports marks : List (List ℕ)) → BusLent lent marks rerouters bus_wires ports
+      → lent.work ≤ length facts → HeldReady b pages nodes wires facts rerouters bus_wires ports marks
+  unfolding records
+  held_ready cut rerouters bus_wires ports marks bus fs =
+      let fit = fits_all lent b (fitting_from most text (fits_lent lent) b is).1 in
+      let fw = fit.work in let fr = fit.rerouters in let fb = fit.bus_wires in let fp = fit.ports in
+      let rl = bus.rerouters_lent in let bl = bus.wires_lent in let pl = bus.ports_lent in let ml = bus.marks_lent in
+      record {
+        known = board_known fitting_accepted cut (omega arith) (omega arith);
+        accepted = fitting_accepted;
+        rerouter_room = omega arith;
+        wire_room = omega arith;
+        mark_room = omega arith;
+        port_room = omega arith;
+      }
+
+-- What planning tells of a board, crowded or laned.
+pub survey_board : (rows table taps groups : List (List ℕ)) (j : Judged) (r : Result TextPlan Refusal) (t : TextPlan) → TextPlanned j rows table taps groups r → r ≡ Ok t
+    → (q : Planned) × BoardTold rows table taps groups j t.counts q
+survey_board rows table taps groups j r t h is = go t.taps refl
+  where
+    go : (m : Result ℕ Refusal) → t.taps ≡ m → (q : Planned) × BoardTold rows table taps groups j t.counts q
+    go (Err e) e' = let k = survey_crowd rows table taps groups j r t e h is e' in (crowded k.0, k.2)
+    go (Ok m) e' = let k = survey_lanes rows table taps groups j r t m h is e' in (planned k.0, k.1)
 
 -- What is handed in is tried after what is lent.
 module _ (rerouters bus_wires ports : List (List ℕ)) (held : BusCounts) (most : Counts) (lentFits : Board → Bool) (text : List ℕ) where

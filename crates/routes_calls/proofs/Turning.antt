@@ -1,28 +1,22 @@
 -- From the tables that planning leaves to what the corner pass asks for.
 use Prim.Native.Nat.{ℕ, ◌+◌, ◌*◌, ◌≤◌}
 use native.Mathlib.Omega.{arith}
-use mathlib.Core.Path.{◌≡◌}
+use mathlib.Core.Path.{◌≡◌, sym, subst}
 use mathlib.Core.Bool.{true}
 use mathlib.Core.List.{List}
 use lib.ListN.{length}
-use Rattle.sheet.specs.declared.Counts.{Counts}
 use Rattle.sheet.specs.Table.{HALF_MOST}
 use Rattle.board.specs.Board.{Board, field, has_row}
 use Rattle.board.specs.Rows.{turned, size_x, brick_cell}
-use Rattle.board.specs.Planning.{records}
 use Rattle.board.specs.Accepted.{Accepted}
-use Rattle.board.specs.Tables.{NodeFacts, nodes_alone}
-use Rattle.board.specs.Walk.{counts_in}
+use Rattle.board.specs.Sections.{SectionsCut}
+use Rattle.board.specs.Tables.{NodeFacts, WireFacts, nodes_alone}
 use Rattle.base.proofs.Lists.{by_test}
-use Rattle.board_plan.specs.declared.Lent.{Lent}
-use Rattle.board_plan.specs.TextPlan.{fits_lent, FactsHold}
-use Rattle.board_plan.proofs.Fitting.{fits_all}
 use Rattle.board.proofs.Reach.{REACH_MOST, end_most}
-use Rattle.routes.specs.declared.bus.BusCounts.{BusCounts}
+use Rattle.routes_corners.specs.CornerTables.{BoardOf}
 use Rattle.routes_corners.specs.Turning.{InEdge, BoardFits}
-use Rattle.routes_gutter.specs.Bus.{BusLent}
 use Rattle.routes_gutter.proofs.Askable.{brick_in_range}
-use Rattle.routes_calls.specs.Turn.{TurnReady}
+use Rattle.routes_calls.specs.Turn.{BoardKnown}
 
 module _ (b : Board) (a : Accepted b) where
   -- S11: by the greatest half size no brick's cell is wider.
@@ -38,7 +32,7 @@ module _ (b : Board) (a : Accepted b) where
   in_edge : (i : ℕ) → has_row b i ≡ true → InEdge b.nodes i
   in_edge i has = let ends = cell_ends i has in let y = a.y i (a.row_placed i has) in record { low = omega (arith, ends); wide = ends.1; flat = omega arith }
 
-  pub board_fits : (facts : List (List ℕ)) → NodeFacts b facts → length b.nodes ≤ length facts → length b.wires ≤ length facts
+  board_fits : (facts : List (List ℕ)) → NodeFacts b facts → length b.nodes ≤ length facts → length b.wires ≤ length facts
       → BoardFits b.pages b.nodes b.wires facts
   board_fits facts known nf wf =
       record {
@@ -50,25 +44,19 @@ module _ (b : Board) (a : Accepted b) where
         inside = λ i h. in_edge i;
       }
 
--- What a planned board finds lent.
-module _ (lent : Lent) (b : Board) (a : Accepted b) (fitting : fits_lent lent b ≡ true) where
-  pub turn_ready : (rows facts : List (List ℕ)) → FactsHold b rows facts
-      → (c : Counts) → c ≡ counts_in b → lent.work ≤ length facts
-      → (rerouters bus_wires ports marks : List (List ℕ)) → BusLent lent marks rerouters bus_wires ports
-      → (held : BusCounts) → held.rerouters ≤ length rerouters → held.bus_wires ≤ length bus_wires → held.ports ≤ length ports → TurnReady b rows c facts rerouters bus_wires ports held marks
-  unfolding records
-  turn_ready rows facts known c counted long rerouters bus_wires ports marks bus held hn hk hu =
-      let fit = fits_all lent b fitting in
-      let fw = fit.work in
-      let fr = fit.rerouters in
-      let fb = fit.bus_wires in
-      let ml = bus.marks_lent in let rl = bus.rerouters_lent in let bl = bus.wires_lent in
-      record {
-        sections = known.sections;
-        counted = counted;
-        accepted = a;
-        fits = board_fits b a facts known.nodes_known (omega arith) (omega arith);
-        nodes_known = known.nodes_known;
-        wires_known = known.wires_known;
-        lent = record { rerouters_there = hn; wires = hk; muted = hu; rerouter_room = omega arith; wire_room = omega arith; mark_room = omega arith };
-      }
+-- The same of its sections as they are cut.
+pub board_of : {b : Board} {pages nodes chips inner execs wires facts : List (List ℕ)} → SectionsCut b pages nodes chips inner execs wires → NodeFacts b facts → WireFacts b facts
+    → BoardOf b pages nodes wires facts
+board_of cut known on_wires =
+    record { pages_are = sym cut.pages_cut; nodes_are = sym cut.nodes_cut; wires_are = sym cut.wires_cut; nodes_known = known; wires_known = on_wires }
+
+pub board_known : {b : Board} {pages nodes wires facts : List (List ℕ)} → Accepted b → BoardOf b pages nodes wires facts → length b.nodes ≤ length facts → length b.wires ≤ length facts
+    → BoardKnown b pages nodes wires facts
+board_known {b} {pages} {nodes} {wires} {facts} a cut nf wf =
+    record {
+      sections = cut;
+      fits =
+          subst (λ (l : List (List ℕ)). BoardFits l nodes wires facts) cut.pages_are
+          (subst (λ (l : List (List ℕ)). BoardFits b.pages l wires facts) cut.nodes_are
+          (subst (λ (l : List (List ℕ)). BoardFits b.pages b.nodes l facts) cut.wires_are (board_fits b a facts cut.nodes_known nf wf)));
+    }

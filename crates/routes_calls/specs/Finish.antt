@@ -1,7 +1,6 @@
 -- From the bus that `lay_bus` leaves to the finished plan. No rule stands here.
 use Rattle.std.specs.Prelude.{ℕ, ◌+◌, ◌*◌, ◌≤◌, ◌≡◌, List, ◌++◌, map, length, drop, Result, Ok, Err}
 use Rattle.base.specs.declared.refusal.Refusal.{Refusal}
-use Rattle.sheet.specs.declared.Counts.{Counts}
 use Rattle.board.specs.Board.{Board}
 use Rattle.board.specs.Accepted.{Accepted}
 use Rattle.board.specs.Demands.{PageLanes, planned, plan_lanes}
@@ -10,21 +9,23 @@ use Rattle.board.specs.Walk.{counts_in}
 use Rattle.routes.specs.Plan.{bus_of, finished, laid_groups}
 use Rattle.routes.specs.declared.bus.BusCounts.{BusCounts}
 use Rattle.routes_gutter.specs.Bus.{RowsReady, BusStands}
-use Rattle.routes_calls.specs.Turn.{TurnReady}
+use Rattle.routes_corners.specs.Turning.{Lent}
+use Rattle.routes_calls.specs.Turn.{BoardKnown}
 use Rattle.routes_calls.specs.declared.route.PlanLaid.{PlanLaid}
 
--- The tables hold a planned board whose records stand in rows, and what is lent is as long as named: its plan can be laid, turned and answered.
-pub record PlanReady (b : Board) (ps : List PageLanes) (rows : List (List ℕ)) (counts : Counts) (m : ℕ) (facts taps groups demands keys marks rerouters bus_wires ports answers : List (List ℕ)) : Type 0 where
-  pub laying : RowsReady b ps rows counts m facts taps groups demands keys marks rerouters bus_wires
+-- The tables hold a planned board whose sections are cut, and what is lent is as long as named: its plan can be laid, turned and answered.
+pub record PlanReady (b : Board) (ps : List PageLanes) (pages nodes wires facts taps groups demands keys marks rerouters bus_wires ports answers : List (List ℕ)) : Type 0 where
+  pub laying : RowsReady b ps pages nodes wires facts taps groups demands keys marks rerouters bus_wires
   pub mark_room : length b.nodes + 5 * length b.wires ≤ length marks
   pub port_room : length b.wires ≤ length ports
   pub answer_room : length b.pages ≤ length answers
 
 -- The bus of the lanes stands in the buffers, as long as named, and the corner pass can begin.
-pub record CornersReady (b : Board) (ps : List PageLanes) (old old_wires oldPorts rows : List (List ℕ)) (counts : Counts) (facts rerouters bus_wires ports : List (List ℕ)) (held : BusCounts) (marks : List (List ℕ)) : Type 0 where
+pub record CornersReady (b : Board) (ps : List PageLanes) (old old_wires oldPorts pages nodes wires facts rerouters bus_wires ports : List (List ℕ)) (held : BusCounts) (marks : List (List ℕ)) : Type 0 where
   pub accepted : Accepted b
   pub plan : plan_lanes b ≡ planned ps
-  pub turning : TurnReady b rows counts facts rerouters bus_wires ports held marks
+  pub known : BoardKnown b pages nodes wires facts
+  pub lent : Lent (length nodes) (length wires) rerouters bus_wires ports marks held
   pub stands : BusStands (bus_of b ps) old old_wires oldPorts rerouters bus_wires ports held
   pub rerouters_lent : 5 * length b.wires ≤ length old
   pub wires_lent : 6 * length b.wires ≤ length old_wires

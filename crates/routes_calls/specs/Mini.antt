@@ -1,9 +1,8 @@
 -- `lay_mini_bus`: what it answers and what it leaves in the buffers.
-use Rattle.std.specs.Prelude.{ℕ, ◌≤◌, Bool, true, false, ◌&&◌, List, leb, length}
+use Rattle.std.specs.Prelude.{ℕ, ◌+◌, ◌*◌, ◌≤◌, Bool, true, false, ◌&&◌, List, leb, length}
 use Rattle.base.specs.declared.refusal.Reason.TheVariants.{NoRoom}
 use Rattle.base.specs.declared.refusal.Refusal.{Refusal}
 use Rattle.base.specs.Refusal.{refusal}
-use Rattle.sheet.specs.declared.Counts.{Counts}
 use Rattle.sheet.specs.Table.{library_most}
 use Rattle.board.specs.Board.{Board}
 use Rattle.board.specs.Accepted.{Accepted}
@@ -14,7 +13,7 @@ use Rattle.routes.specs.Route.{Routed, turned_away, plan}
 use Rattle.routes_corners.specs.Handed.{bus_in}
 use Rattle.routes_corners.specs.Turning.{has_room}
 use Rattle.routes.specs.declared.bus.BusCounts.{BusCounts}
-use Rattle.routes_calls.specs.Turn.{TurnReady}
+use Rattle.routes_calls.specs.Turn.{BoardKnown}
 
 -- E16: whether buffers of these lengths hold what is said to be in them.
 unfoldable pub holds : BusCounts → ℕ → ℕ → ℕ → Bool
@@ -53,9 +52,10 @@ crowded_at true crowded = crowded
 crowded_at false crowded = refusal NoRoom 0
 
 -- A board of an accepted sheet, ready for the corner pass whatever is handed in.
-pub record HeldReady (b : Board) (rows : List (List ℕ)) (counts : Counts) (facts rerouters bus_wires ports marks : List (List ℕ)) : Type 0 where
-  pub ready :
-      (held : BusCounts) → held.rerouters ≤ length rerouters → held.bus_wires ≤ length bus_wires → held.ports ≤ length ports
-      → TurnReady b rows counts facts rerouters bus_wires ports held marks
+pub record HeldReady (b : Board) (pages nodes wires facts rerouters bus_wires ports marks : List (List ℕ)) : Type 0 where
+  pub known : BoardKnown b pages nodes wires facts
   pub accepted : Accepted b
+  pub rerouter_room : 5 * length b.wires ≤ length rerouters
+  pub wire_room : 6 * length b.wires ≤ length bus_wires
+  pub mark_room : length b.nodes + 5 * length b.wires ≤ length marks
   pub port_room : length b.wires ≤ length ports

@@ -10,13 +10,14 @@ ghost use Rattle.routes_gutter.specs.Bus.{BusLent, BusStands};
 ghost use Rattle.routes_calls.specs.Finish.{CornersReady, PlanReady, PlanTexted};
 ghost use Rattle.routes_calls.specs.Route.{plan_fits, route_call, PlanCalled};
 
-use crate::turn::turn_rows;
+use crate::mini::settle_corners;
 use base::refusal::Refusal;
 use base::rows::{BusWireRow, PageRow, PortRow, Record, RerouterRow, WorkRow};
-use board_plan::{Asked, MARK_ROWS, ask, plan_text, write_pages};
+use board::sections::{Sections, cut_sections};
+use board_plan::{Asked, ask, plan_text, work_lengths, write_pages};
 use routes::bus::BusCounts;
+use routes_corners::turn::turn_corners;
 use routes_gutter::laying::{BusLaid, lay_and_settle};
-use routes_ports::settle::settle_ports;
 use sheet::Counts;
 
 // A finished plan: how many records of each section its board has, what stands in the buffers, and how many groups were laid.
@@ -27,9 +28,9 @@ pub struct PlanLaid {
 }
 
 // The corners on top of the lanes' bus, and the ports that their deliveries suppress. There is always room: a wire that may turn is not delivered yet.
+// Stays (C interface): C lends each buffer and each slice of work space by itself; one struct of them all would tell what it left by nested pairs.
 fn turn_and_settle(
-    records: &[Record],
-    counts: Counts,
+    s: Sections<'_>,
     facts: &[WorkRow],
     rerouters: &mut [RerouterRow],
     bus_wires: &mut [BusWireRow],
@@ -37,32 +38,19 @@ fn turn_and_settle(
     held: BusCounts,
     marks: &mut [WorkRow],
 ) -> BusCounts
-    requires { (b : Board) × (ps : List PageLanes) × (old : List (List ℕ)) × (old_wires : List (List ℕ)) × (oldPorts : List (List ℕ)) × CornersReady b ps old old_wires oldPorts records.now counts facts.now rerouters.old bus_wires.old ports.old held marks.old }
-    ensures { (b : Board) (ps : List PageLanes) (old old_wires oldPorts : List (List ℕ)) → CornersReady b ps old old_wires oldPorts records.now counts facts.now rerouters.old bus_wires.old ports.old held marks.old
+    requires { (b : Board) × (ps : List PageLanes) × (old : List (List ℕ)) × (old_wires : List (List ℕ)) × (oldPorts : List (List ℕ)) × CornersReady b ps old old_wires oldPorts s.pages.now s.nodes.now s.wires.now facts.now rerouters.old bus_wires.old ports.old held marks.old }
+    ensures { (b : Board) (ps : List PageLanes) (old old_wires oldPorts : List (List ℕ)) → CornersReady b ps old old_wires oldPorts s.entry.pages.now s.entry.nodes.now s.entry.wires.now facts.now rerouters.old bus_wires.old ports.old held marks.old
         → BusStands (finished b ps) old old_wires oldPorts rerouters.new bus_wires.new ports.new result }
 {
-    match turn_rows(
-        records, counts, facts, rerouters, bus_wires, ports, held, marks,
-    ) {
+    match turn_corners(s, facts, rerouters, bus_wires, ports, held, marks) {
         Err(_) => held,
-        Ok(count) => {
-            let n = count.rerouters;
-            let k = count.wires;
-            let u = settle_ports(bus_wires, held.bus_wires, k, ports, held.ports);
-            BusCounts {
-                rerouters: n,
-                bus_wires: k,
-                ports: u,
-            }
-        }
+        Ok(count) => settle_corners(count, held, bus_wires, ports),
     }
 }
 
-// The finished plan of a planned board whose records stand in rows, and its page answers: laid and settled, turned and settled.
+// The finished plan of a planned board whose sections are cut, and its page answers: laid and settled, turned and settled.
 pub fn finish_plan(
-    records: &[Record],
-    counts: Counts,
-    m: usize,
+    s: Sections<'_>,
     facts: &[WorkRow],
     taps: &mut [WorkRow],
     groups: &[WorkRow],
@@ -74,23 +62,17 @@ pub fn finish_plan(
     ports: &mut [PortRow],
     answers: &mut [PageRow],
 ) -> BusLaid
-    requires { (b : Board) × (ps : List PageLanes) × PlanReady b ps records.now counts m facts.now taps.old groups.now demands.old keys.old marks.old rerouters.old bus_wires.old ports.old answers.old }
-    ensures { (b : Board) (ps : List PageLanes) → PlanReady b ps records.now counts m facts.now taps.old groups.now demands.old keys.old marks.old rerouters.old bus_wires.old ports.old answers.old
+    requires { (b : Board) × (ps : List PageLanes) × PlanReady b ps s.pages.now s.nodes.now s.wires.now facts.now taps.old groups.now demands.old keys.old marks.old rerouters.old bus_wires.old ports.old answers.old }
+    ensures { (b : Board) (ps : List PageLanes) → PlanReady b ps s.entry.pages.now s.entry.nodes.now s.entry.wires.now facts.now taps.old groups.now demands.old keys.old marks.old rerouters.old bus_wires.old ports.old answers.old
         → BusStands (finished b ps) rerouters.old bus_wires.old ports.old rerouters.new bus_wires.new ports.new result.bus × (result.groups ≡ laid_groups b ps)
         × (answers.new ≡ map page_row ps ++ drop (length ps) answers.old) }
 {
     let laid = lay_and_settle(
-        records, counts, m, facts, taps, groups, demands, keys, marks, rerouters, bus_wires, ports,
+        s, facts, taps, groups, demands, keys, marks, rerouters, bus_wires, ports,
     );
-    let lanes = laid.bus;
-    let bus = turn_and_settle(
-        records, counts, facts, rerouters, bus_wires, ports, lanes, marks,
-    );
-    write_pages(facts, counts.pages, answers);
-    BusLaid {
-        bus,
-        groups: laid.groups,
-    }
+    let bus = turn_and_settle(s, facts, rerouters, bus_wires, ports, laid.bus, marks);
+    write_pages(facts, &mut answers[..s.pages.len()]);
+    BusLaid { bus, ..laid }
 }
 
 // The finished plan of a sheet's board and its page answers: every refusal first, so that nothing is written where there is one.
@@ -118,9 +100,10 @@ pub fn route_within(
     )?;
     let counts = planned.counts;
     let m = planned.taps?;
+    let s = cut_sections(records, counts);
+    let taps = &mut taps[..m];
     let laid = finish_plan(
-        records, counts, m, facts, taps, groups, demands, keys, marks, rerouters, bus_wires, ports,
-        answers,
+        s, facts, taps, groups, demands, keys, marks, rerouters, bus_wires, ports, answers,
     );
     Ok(PlanLaid { counts, laid })
 }
@@ -146,15 +129,7 @@ pub fn route(
 {
     let asked = ask(
         [rerouters.len(), bus_wires.len(), ports.len(), answers.len()],
-        [
-            records.len(),
-            facts.len(),
-            taps.len(),
-            groups.len(),
-            demands.len(),
-            keys.len(),
-            marks.len() / MARK_ROWS,
-        ],
+        work_lengths(records, facts, taps, groups, demands, keys, marks),
     );
     let plan = route_within(
         text, asked, rerouters, bus_wires, ports, answers, records, facts, taps, groups, demands,

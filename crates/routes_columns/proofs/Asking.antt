@@ -6,7 +6,8 @@ use mathlib.Core.List.{List, [], ◌∷◌}
 use native.Mathlib.Omega.{arith}
 use lib.Dec.{eqb}
 use lib.ListN.{length, get_or, set}
-use borrow.Author.Tests.{eq-eqb, ne_eqb}
+use Rattle.std.specs.Prelude.{Option}
+use Rattle.std.specs.Option.{is_some, unwrap_or}
 use Rattle.sheet.specs.Table.{MISSING}
 use Rattle.base.specs.Lists.{Found, none, at, found}
 use Rattle.board.specs.Board.{Board, placed}
@@ -14,18 +15,21 @@ use Rattle.board.specs.Rows.{REROUTER_SIZE}
 use Rattle.board.specs.Groups
 use Rattle.board.specs.Groups.{source_row}
 use Rattle.board.specs.Demands.{PageLanes}
+use Rattle.board.specs.Index.{found_of}
 use Rattle.board.specs.Tables.{held, flag, tap_in}
 use Rattle.routes.specs.Stops.{new_group, new_row}
 use Rattle.routes.specs.Levels.{Level, Stop, is_own, unclaimed, lane_for}
 use Rattle.routes.specs.Rerouters.{TAP_RESERVE, source}
 use Rattle.routes_taps.specs.declared.taps.Lane.{Lane}
 use Rattle.routes_taps.specs.declared.taps.Tap.{Tap}
-use Rattle.routes_taps.specs.declared.taps.News.{News}
-use Rattle.routes_taps.specs.Taps.{tap_of, tap_read, lane_read, LaneOf, NewsOf, RowHeld}
+use Rattle.routes.specs.declared.news.News.{News}
+use Rattle.routes.specs.News.{begins_group, begins_row, NewsOf}
+use Rattle.routes_taps.specs.Taps.{tap_of, tap_read, lane_read, LaneOf}
 use Rattle.routes_taps.specs.Asking
 use Rattle.routes_taps.specs.Asking.{served_at, is_kept, claim_if, head_here, link_here, headed, ask_tap, question_row, source_x}
-use Rattle.routes_columns.specs.declared.columns.Questions.{Questions}
-use Rattle.routes_columns.specs.Columns.{lane_key, claim_at, claimed_if, ClaimsHeld, ClaimRoom, Claiming, TwoMore, head_in, headed_in, link_in, linked_in, TapTold, TapAsked, row_in, NextAsked}
+use Rattle.routes_columns.specs.declared.claims.ClaimRuns.{ClaimRuns}
+use Rattle.routes_columns.specs.declared.columns.Claimed.{Claimed}
+use Rattle.routes_columns.specs.Columns.{lane_key, claim_at, claimed_if, SamePlaces, ClaimsHeld, ClaimRoom, Claiming, TwoMore, head_in, headed_in, link_in, linked_in, TapTold, TapAsked, row_in, NextAsked}
 use Rattle.routes_columns.proofs.Claiming.{claim_held, one_claim}
 
 -- The run of a tap's lane, by what the code read of the tap.
@@ -34,10 +38,14 @@ pub lane_keyed : (pages nodes wires facts groups laid : List (List ℕ)) (k : �
 lane_keyed pages nodes wires facts groups laid k t l et el =
     (ap (λ (u : Tap). u.page) et, ap (λ (v : Lane). v.lane) el ∙ ap (λ (u : Tap). get_or (get_or groups u.group []) 4 0) et)
 
+-- Two steps that leave the runs in their places.
+pub both_same : {old between new : ClaimRuns} → SamePlaces old between → SamePlaces between new → SamePlaces old new
+both_same p q = record { starts = q.starts ∙ p.starts; nexts_long = q.nexts_long ∙ p.nexts_long; xs_long = q.xs_long ∙ p.xs_long }
+
 -- The head asked, then the link.
 module _ (t : Tap) (l : Lane) (news : News) (level : Level) {starts nexts xs nexts₁ xs₁ nexts₂ xs₂ : List ℕ} {k served : ℕ} {keeps head link : Bool} (few : l.lane < 512) (e : k ≡ lane_key t.page l.lane)
-    (room : ClaimRoom 2 starts nexts xs (lane_key t.page l.lane)) (asked₁ : Claiming starts k l.source_x (news.group && not (eqb l.source_x MISSING)) nexts xs nexts₁ xs₁ head) (long : length nexts₁ ≡ length nexts)
-    (eServed : served ≡ served_at level) (eOwn : keeps ≡ is_own level) (asked₂ : Claiming starts k (served + 2) (news.row && keeps) nexts₁ xs₁ nexts₂ xs₂ link) where
+    (room : ClaimRoom 2 starts nexts xs (lane_key t.page l.lane)) (asked₁ : Claiming starts k l.source_x (begins_group news && not (eqb l.source_x MISSING)) nexts xs nexts₁ xs₁ head) (long : length nexts₁ ≡ length nexts)
+    (eServed : served ≡ served_at level) (eOwn : keeps ≡ is_own level) (asked₂ : Claiming starts k (served + 2) (begins_row news && keeps) nexts₁ xs₁ nexts₂ xs₂ link) where
   two_more : TwoMore (lane_key t.page l.lane) nexts nexts₂
   two_more =
       let next = room.next in
@@ -57,7 +65,7 @@ module _ (t : Tap) (l : Lane) (news : News) (level : Level) {starts nexts xs nex
       let first = claim_held c t l.lane l.source_x on few e (omega arith) asked₁ in
       let second = claim_held first.1 t l.lane (served + 2) on few e (omega arith) asked₂ in
       let headed_same : claimed_if head (claim_at t l.lane l.source_x) claims ≡ headed_in t l news level claims = ap (λ so. claimed_if so (claim_at t l.lane l.source_x) claims) first.0 in
-      let link_same : link ≡ link_in t l news level claims = second.0 ∙ (λ i. news.row && eOwn i && unclaimed (headed_same i) t.page l.lane (eServed i + 2)) in
+      let link_same : link ≡ link_in t l news level claims = second.0 ∙ (λ i. begins_row news && eOwn i && unclaimed (headed_same i) t.page l.lane (eServed i + 2)) in
       record {
         head = first.0;
         link = link_same;
@@ -68,13 +76,13 @@ module _ (t : Tap) (l : Lane) (news : News) (level : Level) {starts nexts xs nex
   tap_asked = record { more = two_more; told = told }
 
 -- A row that may not be known.
-row_known : (v : ℕ) (f : Found) → RowHeld v f → not (eqb v MISSING) ≡ found f
-row_known v none h = ap not (eq-eqb v MISSING h)
-row_known v (at r) h = ap not (ne_eqb v MISSING (λ z. h.1 (sym h.0 ∙ z)))
+row_known : (o : Option ℕ) (f : Found) → o ≡ found_of f → is_some o ≡ found f
+row_known o none h = ap is_some h
+row_known o (at r) h = ap is_some h
 
-row_held : (v : ℕ) (f : Found) → RowHeld v f → v ≡ held f
-row_held v none h = h
-row_held v (at r) h = h.0
+row_held : (o : Option ℕ) (f : Found) → o ≡ found_of f → unwrap_or o MISSING ≡ held f
+row_held o none h = ap (λ (p : Option ℕ). unwrap_or p MISSING) h
+row_held o (at r) h = ap (λ (p : Option ℕ). unwrap_or p MISSING) h
 
 and_assoc : (a b c : Bool) → a && b && c ≡ a && (b && c)
 and_assoc true b c = refl
@@ -122,7 +130,7 @@ module _ (b : Board) (ts : List Groups.Tap) (ps : List PageLanes) (ls : List Gro
       ∷ served_at level
       ∷ []
 
-  next_as : {starts nexts xs nexts' xs' : List ℕ} {k : ℕ} {q : Questions} {asked : List (List ℕ)} {row : List ℕ} → TapAsked t l news level starts nexts xs nexts' xs' q
+  next_as : {starts nexts xs nexts' xs' : List ℕ} {k : ℕ} {q : Claimed} {asked : List (List ℕ)} {row : List ℕ} → TapAsked t l news level starts nexts xs nexts' xs' q
       → row ≡ row_in l news level q.head q.link → NextAsked b ts ps ls (tap_of t) level k starts nexts xs asked nexts' xs' (set asked k row)
   unfolding ask_tap
   next_as {starts} {nexts} {xs} {nexts'} {xs'} {k} {q} {asked} {row} tap er =
@@ -133,7 +141,7 @@ module _ (b : Board) (ts : List Groups.Tap) (ps : List PageLanes) (ls : List Gro
 
 -- The same of the tap as it was read.
 pub next_asked : (b : Board) (ts : List Groups.Tap) (ps : List PageLanes) (ls : List Groups.Tap) (read : List ℕ) (t : Tap) (l : Lane) (news : News) (level : Level) → t ≡ tap_read read → LaneOf b ts ps (tap_of t) l → NewsOf ls (tap_in read) news
-    → {starts nexts xs nexts' xs' : List ℕ} {k : ℕ} {q : Questions} {asked : List (List ℕ)} {row : List ℕ} → TapAsked t l news level starts nexts xs nexts' xs' q
+    → {starts nexts xs nexts' xs' : List ℕ} {k : ℕ} {q : Claimed} {asked : List (List ℕ)} {row : List ℕ} → TapAsked t l news level starts nexts xs nexts' xs' q
     → row ≡ row_in l news level q.head q.link → NextAsked b ts ps ls (tap_in read) level k starts nexts xs asked nexts' xs' (set asked k row)
 next_asked b ts ps ls read t l news level et lane n {starts} {nexts} {xs} {nexts'} {xs'} {k} {q} {asked} {row} tap er =
     let same : tap_of t ≡ tap_in read = ap tap_of et in

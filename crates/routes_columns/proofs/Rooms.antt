@@ -87,9 +87,6 @@ module _ (pages : ℕ) (groups laid : List (List ℕ)) (n : ℕ) (stops : List (
       growing_none (room_of pages groups laid n stops s) (keys_of pages) starts (replicate m 0) (omega arith) made
       (rw (length-replicate {A = ℕ} m 0) (omega (arith, room_most pages groups laid n stops s (keys_of pages))))
 
-  pub numbers_few : length (replicate {A = ℕ} m 0) < 4294967296
-  numbers_few = rw (length-replicate {A = ℕ} m 0) small
-
   pub stops_room : (k : ℕ) → k < keys_of pages → get_or starts k 0 + having (stop_key pages stops) k s ≤ get_or starts (suc k) 0
   stops_room k h = omega (arith, made k (omega arith), made (suc k) h)
 

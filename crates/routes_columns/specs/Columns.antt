@@ -1,6 +1,7 @@
 -- How the code holds the claims and asks for columns. The claims of a lane are a run of numbers, the x of each: those of the stops' own levels, then one for each
 -- head and link that is placed. No rule stands here.
 use Rattle.std.specs.Prelude.{ℕ, suc, ◌+◌, ◌-◌, ◌*◌, ◌<◌, ◌≤◌, ◌≡◌, Bool, true, false, not, ◌&&◌, List, [], ◌∷◌, eqb, ltb, length, get_or, set}
+use Rattle.std.specs.Option.{is_some, unwrap_or}
 use Rattle.sheet.specs.Table.{MISSING}
 use Rattle.base.specs.Lists.{any}
 use Rattle.base.specs.Runs.{having}
@@ -12,14 +13,16 @@ use Rattle.board.specs.Demands.{PageLanes}
 use Rattle.board.specs.Tables.{flag}
 use Rattle.routes.specs.Stops.{near}
 use Rattle.routes.specs.Levels.{Level, dropped, shared, own, Stop, is_own, unclaimed}
+use Rattle.routes.specs.News.{begins_group, begins_row, begins_column}
 use Rattle.routes.specs.Rerouters.{TAP_RESERVE}
 use Rattle.routes.specs.declared.levels.Level.TheVariants.{Dropped}
 use Rattle.routes_taps.specs.declared.taps.Lane.{Lane}
 use Rattle.routes_taps.specs.declared.taps.Tap.{Tap}
-use Rattle.routes_taps.specs.declared.taps.News.{News}
+use Rattle.routes.specs.declared.news.News.{News}
 use Rattle.routes_taps.specs.declared.taps.Reached.{Reached}
 use Rattle.routes_taps.specs.Asking.{Asking, served_at, is_kept, ask_tap, question_row}
-use Rattle.routes_columns.specs.declared.columns.Questions.{Questions}
+use Rattle.routes_columns.specs.declared.claims.ClaimRuns.{ClaimRuns}
+use Rattle.routes_columns.specs.declared.columns.Claimed.{Claimed}
 
 -- The run of a lane. Behind those of the pages is one for what claims nothing.
 abbrev pub lane_key : ℕ → ℕ → ℕ
@@ -41,14 +44,28 @@ stop_key pages stops i = own_key pages (get_or stops i [])
 abbrev pub level_at : List (List ℕ) → ℕ → ℕ
 level_at stops i = field stops i 5
 
+abbrev pub lane_of_tap : List (List ℕ) → List ℕ → ℕ
+lane_of_tap groups r = lane_key (get_or r 0 0) (field groups (get_or r 1 0) 4)
+
 abbrev pub tap_key : List (List ℕ) → List (List ℕ) → ℕ → ℕ
-tap_key groups laid k = lane_key (field laid k 0) (field groups (field laid k 1) 4)
+tap_key groups laid k = lane_of_tap groups (get_or laid k [])
 
 -- A run has room for one claim a stop and two a tap.
 abbrev pub room_of : ℕ → List (List ℕ) → List (List ℕ) → ℕ → List (List ℕ) → ℕ → ℕ → ℕ
 room_of pages groups laid n stops s j = having (stop_key pages stops) j s + 2 * having (tap_key groups laid) j n
 
+-- Runs that start where they did, with as much room.
+pub record SamePlaces (old new : ClaimRuns) : Type 0 where
+  pub starts : new.starts ≡ old.starts
+  pub nexts_long : length new.nexts ≡ length old.nexts
+  pub xs_long : length new.xs ≡ length old.xs
+
 -- A tap's lane has a run.
+pub record TapsLane (groups : List (List ℕ)) (r : List ℕ) : Type 0 where
+  pub on_groups : get_or r 1 0 < length groups
+  pub page : get_or r 0 0 < 64
+  pub lane : field groups (get_or r 1 0) 4 < 512
+
 pub record TapKeyed (groups laid : List (List ℕ)) (k : ℕ) : Type 0 where
   pub on_laid : k < length laid
   pub on_groups : field laid k 1 < length groups
@@ -103,23 +120,23 @@ pub record TwoMore (k : ℕ) (nexts nexts' : List ℕ) : Type 0 where
 -- A tap's head and link, by what the code read of the tap, and the claims with them.
 module _ (t : Tap) (l : Lane) (news : News) (level : Level) where
   abbrev pub head_in : List Stop → Bool
-  head_in claims = news.group && not (eqb l.source_x MISSING) && unclaimed claims t.page l.lane l.source_x
+  head_in claims = begins_group news && not (eqb l.source_x MISSING) && unclaimed claims t.page l.lane l.source_x
 
   abbrev pub headed_in : List Stop → List Stop
   headed_in claims = claimed_if (head_in claims) (claim_at t l.lane l.source_x) claims
 
   abbrev pub link_in : List Stop → Bool
-  link_in claims = news.row && is_own level && unclaimed (headed_in claims) t.page l.lane (served_at level + REROUTER_SIZE)
+  link_in claims = begins_row news && is_own level && unclaimed (headed_in claims) t.page l.lane (served_at level + REROUTER_SIZE)
 
   abbrev pub linked_in : List Stop → List Stop
   linked_in claims = claimed_if (link_in claims) (claim_at t l.lane (served_at level + REROUTER_SIZE)) (headed_in claims)
 
-  pub record TapTold (pages : ℕ) (claims : List Stop) (starts nexts' xs' : List ℕ) (r : Questions) : Type 0 where
+  pub record TapTold (pages : ℕ) (claims : List Stop) (starts nexts' xs' : List ℕ) (r : Claimed) : Type 0 where
     pub head : r.head ≡ head_in claims
     pub link : r.link ≡ link_in claims
     pub held : ClaimsHeld pages (linked_in claims) starts nexts' xs'
 
-  pub record TapAsked (starts nexts xs nexts' xs' : List ℕ) (r : Questions) : Type 0 where
+  pub record TapAsked (starts nexts xs nexts' xs' : List ℕ) (r : Claimed) : Type 0 where
     pub more : TwoMore (lane_key t.page l.lane) nexts nexts'
     pub told : (pages : ℕ) (claims : List Stop) → t.page < pages → ClaimsHeld pages claims starts nexts xs → TapTold pages claims starts nexts' xs' r
 
@@ -128,9 +145,9 @@ abbrev pub row_in : Lane → News → Level → Bool → Bool → List ℕ
 row_in l news level head link =
     flag head
     ∷ flag link
-    ∷ flag (head && not (eqb l.source_row MISSING))
-    ∷ flag (news.column && is_kept level)
-    ∷ l.source_row
+    ∷ flag (head && is_some l.source_row)
+    ∷ flag (begins_column news && is_kept level)
+    ∷ unwrap_or l.source_row MISSING
     ∷ l.source_x
     ∷ (l.source_y - TAP_RESERVE)
     ∷ served_at level

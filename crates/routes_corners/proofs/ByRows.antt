@@ -20,7 +20,7 @@ use Rattle.routes_corners.specs.CornerTables.{BoardOf, Classed, firsts}
 use Rattle.routes_corners.specs.Handed.{CellRows}
 use Rattle.routes_corners.specs.Answering.{RowsRoom}
 use Rattle.routes_corners.specs.Listing.{TurnsListed, TurnsOf}
-use Rattle.routes_corners.specs.Turning.{has_room, BoardFits, Lent, Found}
+use Rattle.routes_corners.specs.Turning.{has_room, BoardFits, Lent, TurnersFound}
 use Rattle.routes_corners.specs.Writing.{EndsOf, WriteRoom}
 use Rattle.routes_corners.proofs.TurnLaws.{room_found}
 use Rattle.routes_corners.proofs.Writing.{turn_ends}
@@ -80,7 +80,7 @@ module _ (b : Board) (bus : Bus.Bus) (pages nodes wires facts : List (List ℕ))
 
 -- What the pass asks for, where there is room for all that turns: the wires found can be listed, decided and written.
 module _ (pages nodes wires facts R W ports items : List (List ℕ)) (held : BusCounts) (classes list : List ℕ) (n : ℕ) (fits : BoardFits pages nodes wires facts)
-    (lent : Lent (length nodes) (length wires) R W ports items held) (f : Found nodes wires facts ports held.ports classes list n) (room : has_room (length wires) held n ≡ true) where
+    (lent : Lent (length nodes) (length wires) R W ports items held) (f : TurnersFound nodes wires facts ports held.ports classes list n) (room : has_room (length wires) held n ≡ true) where
   found_listed : length wires ≤ length classes → n ≤ length list → TurnsListed nodes facts classes list n
   found_listed on_classes on_list =
       let few = fits.wires_few in

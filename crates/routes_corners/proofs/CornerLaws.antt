@@ -1,5 +1,5 @@
 -- The tests on the nodes of a wire: ends found by their anchors. And the flags of suppressed ports, kept by class.
-use Rattle.std.proofs.Common.{◌≡◌, ℕ, zero, suc, ◌<◌, ◌≤◌, Bool, true, false, not, ◌&&◌, ◌||◌, eqb, ltb, List, [], length, get_or, set, sym, refl, ap, ◌∙◌, ap₂, arith, get_or-set_other, get_or-set_same, eq-eqb, ne_eqb, eqb-true}
+use Rattle.std.proofs.Common.{◌≡◌, ℕ, zero, suc, ◌<◌, ◌≤◌, Bool, true, false, not, ◌&&◌, ◌||◌, eqb, ltb, List, [], length, get_or, set, sym, refl, ap, ◌∙◌, ap₂, arith, get_or-set_other, get_or-set_same, eq-eqb, eqb-true}
 use native.Mathlib.Decide.{dec_lt}
 use borrow.Author.Tests.{eqb-false}
 use Rattle.sheet.specs.Table.{MISSING}
@@ -12,6 +12,7 @@ use Rattle.board.specs.Index.{link}
 use Rattle.board.specs.Tables.{held}
 use Rattle.board.proofs.Newest.{link_below, link_held}
 use Rattle.routes.specs.Corners.{turns_down}
+use Rattle.routes_corners.specs.CornerTables.{flag_at}
 
 -- The tests on two nodes, over their rows.
 abbrev turns_in : List ℕ → List ℕ → Bool
@@ -102,10 +103,7 @@ module _ (b : Board) (id : ℕ) where
           go false e = body_gone (λ h f. eqb-false (field nodes a 1) id e (sym ids ∙ f))
 
 -- The flags of the classes after a port is suppressed.
-pub flag-set : (flags : List ℕ) (k v : ℕ) (same old : Bool) → k < length flags → eqb v k ≡ same → eqb (get_or flags v 0) 0 ≡ not old
-    → eqb (get_or (set flags k 1) v 0) 0 ≡ not (same || old)
+pub flag-set : (flags : List Bool) (k v : ℕ) (same old : Bool) → k < length flags → eqb v k ≡ same → flag_at flags v ≡ old → flag_at (set flags k true) v ≡ same || old
 flag-set flags k v true old room e h =
-    let here : v ≡ k = eqb-true v k e in
-    ap (λ i. eqb i 0) (ap (λ j. get_or (set flags k 1) j 0) here ∙ get_or-set_same flags k 1 0 room) ∙ ne_eqb 1 0 (λ z. omega arith)
-flag-set flags k v false old room e h =
-    ap (λ i. eqb i 0) (get_or-set_other flags k v 1 0 (λ z. eqb-false v k e z)) ∙ h
+    ap (flag_at (set flags k true)) (eqb-true v k e) ∙ get_or-set_same flags k true false room
+flag-set flags k v false old room e h = get_or-set_other flags k v true false (λ z. eqb-false v k e z) ∙ h

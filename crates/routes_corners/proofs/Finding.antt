@@ -10,7 +10,11 @@ use Rattle.board.specs.Tables.{flag, held}
 use Rattle.routes.specs.Bus
 use Rattle.routes.specs.Bus.{muted}
 use Rattle.routes.specs.Corners.{turns_down, turns}
-use Rattle.routes_corners.specs.CornerTables.{BoardOf, Flagged, EndsThere, firsts, TestsFit, Turners}
+use Rattle.routes_corners.specs.CornerTables.{BoardOf, flag_at, Flagged, EndsThere, firsts, TurningBelow}
+
+not_not : (t : Bool) → not (not t) ≡ t
+not_not true = refl
+not_not false = refl
 
 flag_open : (t : Bool) → eqb (flag t) 1 ≡ t
 flag_open true = eq-eqb 1 1 refl
@@ -18,7 +22,7 @@ flag_open false = ne_eqb 0 1 (λ z. omega arith)
 
 -- The tests on a wire, one after the other.
 module _ (b : Board) (bus : Bus.Bus) (pages nodes wires facts : List (List ℕ)) (h : BoardOf b pages nodes wires facts)
-    (classes flags : List ℕ) (w : ℕ) (there : w < length wires) (flagged : eqb (get_or flags (get_or classes w 0) 0) 0 ≡ not (muted b bus w)) where
+    (classes : List ℕ) (flags : List Bool) (w : ℕ) (there : w < length wires) (flagged : flag_at flags (get_or classes w 0) ≡ muted b bus w) where
   on_board_lem : w < length b.wires
   on_board_lem = let e : length b.wires ≡ length wires = ap length h.wires_are in omega arith
 
@@ -31,7 +35,7 @@ module _ (b : Board) (bus : Bus.Bus) (pages nodes wires facts : List (List ℕ))
   opens : eqb (field facts w 4) 1 ≡ wire_open b w
   opens = ap (λ v. eqb v 1) (h.wires_known.opens w on_board_lem) ∙ flag_open (wire_open b w)
 
-  tests : (o m : Bool) (f g : Found) → eqb (field facts w 4) 1 ≡ o → eqb (get_or flags (get_or classes w 0) 0) 0 ≡ m → body_of b (field wires w 1) ≡ f → body_of b (field wires w 3) ≡ g
+  tests : (o m : Bool) (f g : Found) → eqb (field facts w 4) 1 ≡ o → flag_at flags (get_or classes w 0) ≡ not m → body_of b (field wires w 1) ≡ f → body_of b (field wires w 3) ≡ g
       → turns b bus w ≡ elim (o && m) as (λ _. Bool) [
         | false ↦ false
         | true ↦ elim f as (λ _. Bool) [ none ↦ false | at s ↦ elim g as (λ _. Bool) [ none ↦ false | at t ↦ turns_down b s t ] ]
@@ -39,7 +43,7 @@ module _ (b : Board) (bus : Bus.Bus) (pages nodes wires facts : List (List ℕ))
   unfolding turns
   tests o m f g eo em ef eg =
       let po : wire_open b w ≡ o = sym opens ∙ eo in
-      let pm : not (muted b bus w) ≡ m = sym flagged ∙ em in
+      let pm : not (muted b bus w) ≡ m = ap not (sym flagged ∙ em) ∙ not_not m in
       let pf : body_of b (source_node b w) ≡ f = (λ i. body_of b (field (h.wires_are i) w 1)) ∙ ef in
       let pg : body_of b (target_node b w) ≡ g = (λ i. body_of b (field (h.wires_are i) w 3)) ∙ eg in
       λ i. elim (po i && pm i) as (λ _. Bool) [
@@ -52,37 +56,37 @@ module _ (b : Board) (bus : Bus.Bus) (pages nodes wires facts : List (List ℕ))
   Fails = false ≡ turns b bus w
 
   pub turn_closed : (field facts w 4 ≡ 1 → ⊥) → Fails
-  turn_closed o = sym (tests false _ _ _ (ne_eqb (field facts w 4) 1 o) refl refl refl)
+  turn_closed o = sym (tests false (not (flag_at flags (get_or classes w 0))) _ _ (ne_eqb (field facts w 4) 1 o) (sym (not_not (flag_at flags (get_or classes w 0)))) refl refl)
 
   module _ (o : field facts w 4 ≡ 1) where
-    pub turn_muted : (get_or flags (get_or classes w 0) 0 ≡ 0 → ⊥) → Fails
-    turn_muted m = sym (tests true false _ _ (eq-eqb (field facts w 4) 1 o) (ne_eqb (get_or flags (get_or classes w 0) 0) 0 m) refl refl)
+    pub turn_muted : flag_at flags (get_or classes w 0) ≡ true → Fails
+    turn_muted m = sym (tests true false _ _ (eq-eqb (field facts w 4) 1 o) m refl refl)
 
-    module _ (m : get_or flags (get_or classes w 0) 0 ≡ 0) where
+    module _ (m : flag_at flags (get_or classes w 0) ≡ false) where
       pub turn_sourceless : body_of b (field wires w 1) ≡ none → Fails
-      turn_sourceless f = sym (tests true true none _ (eq-eqb (field facts w 4) 1 o) (eq-eqb (get_or flags (get_or classes w 0) 0) 0 m) f refl)
+      turn_sourceless f = sym (tests true true none _ (eq-eqb (field facts w 4) 1 o) m f refl)
 
       module _ (s : ℕ) (f : body_of b (field wires w 1) ≡ at s) where
         pub turn_sinkless : body_of b (field wires w 3) ≡ none → Fails
-        turn_sinkless g = sym (tests true true (at s) none (eq-eqb (field facts w 4) 1 o) (eq-eqb (get_or flags (get_or classes w 0) 0) 0 m) f g)
+        turn_sinkless g = sym (tests true true (at s) none (eq-eqb (field facts w 4) 1 o) m f g)
 
         pub turn_tested : (t : ℕ) → body_of b (field wires w 3) ≡ at t → (d : Bool) → d ≡ turns_down b s t → d ≡ turns b bus w
-        turn_tested t g d e = e ∙ sym (tests true true (at s) (at t) (eq-eqb (field facts w 4) 1 o) (eq-eqb (get_or flags (get_or classes w 0) 0) 0 m) f g)
+        turn_tested t g d e = e ∙ sym (tests true true (at s) (at t) (eq-eqb (field facts w 4) 1 o) m f g)
 
 firsts_kept : (list : List ℕ) (n m x : ℕ) → n ≤ m → firsts (set list m x) n ≡ firsts list n
 firsts_kept list zero m x h = refl
 firsts_kept list (suc n) m x h = λ i. get_or-set_other list m n x 0 (λ z. omega arith) i ∷ firsts_kept list n m x (omega arith) i
 
 -- The wires that turn, found one after the other.
-module _ (nodes wires facts : List (List ℕ)) (classes flags list : List ℕ) (n w : ℕ) (t : Turners nodes wires facts classes flags list n w) (there : w < length wires) where
+module _ (nodes wires facts : List (List ℕ)) (classes : List ℕ) (flags : List Bool) (list : List ℕ) (n w : ℕ) (t : TurningBelow nodes wires facts classes flags list n w) (there : w < length wires) where
   abbrev Tells : Bool → Type 0
   Tells r =
-      (b : Board) (bus : Bus.Bus) (pages : List (List ℕ)) → BoardOf b pages nodes wires facts → eqb (get_or flags (get_or classes w 0) 0) 0 ≡ not (muted b bus w) → r ≡ turns b bus w
+      (b : Board) (bus : Bus.Bus) (pages : List (List ℕ)) → BoardOf b pages nodes wires facts → flag_at flags (get_or classes w 0) ≡ muted b bus w → r ≡ turns b bus w
 
   told : (r : Bool) → Tells r → (b : Board) (bus : Bus.Bus) (pages : List (List ℕ)) → BoardOf b pages nodes wires facts → Flagged b bus classes flags → turns b bus w ≡ r
   told r d b bus pages f g = sym (d b bus pages f (g w (let e : length b.wires ≡ length wires = ap length f.wires_are in omega arith)))
 
-  pub turners_passed : (r : Bool) → Tells r → r ≡ false → Turners nodes wires facts classes flags list n (suc w)
+  pub turners_passed : (r : Bool) → Tells r → r ≡ false → TurningBelow nodes wires facts classes flags list n (suc w)
   turners_passed r d e =
       record {
         few = let h = t.few in omega arith;
@@ -91,7 +95,7 @@ module _ (nodes wires facts : List (List ℕ)) (classes flags list : List ℕ) (
         all = λ b bus pages f g. t.all b bus pages f g ∙ sym (pick_false (turns b bus w) (w ∷ keep (turns b bus) (upto w)) (keep (turns b bus) (upto w)) (told r d b bus pages f g ∙ e));
       }
 
-  pub turners_more : n < length list → (r : Bool) → Tells r → r ≡ true → EndsThere nodes facts w → Turners nodes wires facts classes flags (set list n w) (suc n) (suc w)
+  pub turners_more : n < length list → (r : Bool) → Tells r → r ≡ true → EndsThere nodes facts w → TurningBelow nodes wires facts classes flags (set list n w) (suc n) (suc w)
   turners_more room r d e own =
       record {
         few = let h = t.few in omega arith;

@@ -1,24 +1,24 @@
 -- Wires by target port, along their sorted keys: classes, a port's place among the keys, and flags of suppressed ports.
-use Rattle.std.proofs.Common.{◌≡◌, ℕ, zero, suc, ◌+◌, ◌-◌, ◌*◌, ◌/◌, ◌<◌, ◌≤◌, Bool, true, false, not, ◌||◌, eqb, ltb, List, length, get_or, set, sym, refl, ap, ◌∙◌, subst, arith, length-set, get_or-set_other, get_or-set_same, ltb-false, ltb-true, eq-eqb, ne_eqb, eqb-true}
+use Rattle.std.proofs.Common.{◌≡◌, ℕ, zero, suc, ◌+◌, ◌-◌, ◌*◌, ◌/◌, ◌<◌, ◌≤◌, Bool, true, false, ◌||◌, eqb, List, length, get_or, set, sym, refl, ap, ◌∙◌, subst, arith, length-set, get_or-set_other, get_or-set_same, eq-eqb, ne_eqb, eqb-true}
 use native.Mathlib.Decide.{dec_lt, ℕ_discrete}
 use borrow.Author.Tests.{eqb-false}
-use Rattle.base.specs.Keys.{Rising, Risen, FirstNotBelow}
+use Rattle.base.specs.Keys.{Risen, FirstNotBelow}
 use Rattle.base.proofs.Bools.{clash, both}
 use Rattle.base.proofs.Lists.{same_two}
 use Rattle.board.specs.Board.{field}
 use Rattle.routes.specs.Bus.{Port, same_port}
 use Rattle.routes_corners.specs.CornerTables.{port_at, Classed}
-use Rattle.routes_corners.specs.Ports.{port_key, wire_key, PortsLow, NUMBERS, wire_at, class_at, PortKeys, PortRoom, the_port, goes_to, FlaggedBy}
+use Rattle.routes_corners.specs.Ports.{port_key, wire_key, PortsLow, NUMBERS, wire_at, class_at, PortKeys, the_port, goes_to, FlaggedBy}
 use Rattle.routes_corners.proofs.CornerLaws.{flag-set}
 
 -- The keys of the wires, sorted.
 pub keys_sorted : (wires : List (List ℕ)) (given risen : List ℕ) → PortsLow wires → length wires ≤ NUMBERS → length wires ≤ length risen → Risen given risen (length wires)
     → ((w : ℕ) → w < length wires → get_or given w 0 ≡ wire_key wires w * NUMBERS + w) → PortKeys wires risen
-keys_sorted wires given risen low few room r is =
+keys_sorted wires given risen low few long r is =
     record {
       few = few;
       low = low;
-      room = room;
+      long = long;
       rising = r.rising;
       comes = λ p h.
           let f = r.from p h in
@@ -201,19 +201,15 @@ module _ (wires : List (List ℕ)) (keys : List ℕ) (k : PortKeys wires keys) (
       go true e = let f = port_here w h e in clash f.1 (no_one f.0)
       go false e = refl
 
-pub un_not : (t : Bool) → not t ≡ false → t ≡ true
-un_not true e = refl
-un_not false e = clash (sym e) refl
-
 -- The flags with one more port.
-module _ (wires : List (List ℕ)) (classes flags : List ℕ) (c : Classed wires classes (length wires)) (p : Port) (test : ℕ → Bool) (h : FlaggedBy test wires classes flags) where
+module _ (wires : List (List ℕ)) (classes : List ℕ) (flags : List Bool) (c : Classed wires classes (length wires)) (p : Port) (test : ℕ → Bool) (h : FlaggedBy test wires classes flags) where
   abbrev more : ℕ → Bool
   more w = goes_to wires p w || test w
 
   pub flag_none : ((w : ℕ) → w < length wires → goes_to wires p w ≡ false) → FlaggedBy more wires classes flags
-  flag_none none w l = h w l ∙ ap not (sym (ap (λ t. t || test w) (none w l)))
+  flag_none none w l = h w l ∙ sym (ap (λ t. t || test w) (none w l))
 
-  pub flag_found : length wires ≤ length flags → (v : ℕ) → v < length wires → goes_to wires p v ≡ true → FlaggedBy more wires classes (set flags (get_or classes v 0) 1)
+  pub flag_found : length wires ≤ length flags → (v : ℕ) → v < length wires → goes_to wires p v ≡ true → FlaggedBy more wires classes (set flags (get_or classes v 0) true)
   flag_found room v b t =
       let low = c.low v b in
       let inside : get_or classes v 0 < length flags = omega arith in

@@ -1,5 +1,5 @@
 -- One call of the corner pass: tables fresh, the wires that turn, and the room for their corners.
-use Rattle.std.proofs.Common.{◌≡◌, ℕ, zero, suc, ◌∷◌, refl, ap₂, ◌+◌, ◌*◌, ◌<◌, ◌≤◌, true, not, ◌&&◌, leb, List, length, get_or, replicate, sym, ap, ◌∙◌, arith, leb-true, [], map, reverse, take, subst, length-take-le, get_or-take}
+use Rattle.std.proofs.Common.{◌≡◌, ℕ, zero, suc, ◌∷◌, refl, ap₂, ◌+◌, ◌*◌, ◌<◌, ◌≤◌, Bool, true, false, ◌&&◌, leb, List, length, get_or, replicate, sym, ap, ◌∙◌, arith, leb-true, [], map, reverse, take, subst, length-take-le, get_or-take}
 use lib.Seq.{take-length}
 use Rattle.base.proofs.Views.{view-take}
 use lib.ListN.{length-replicate, get_or-replicate}
@@ -12,26 +12,26 @@ use Rattle.routes.specs.Bus.{Rerouter, same_port, port_of}
 use Rattle.routes.specs.Buffers.{port_in, Row, Rows}
 use Rattle.routes.specs.Corners.{turns, turnable}
 use Rattle.routes.specs.declared.bus.BusCounts.{BusCounts}
-use Rattle.routes_corners.specs.CornerTables.{BoardOf, EndsThere, port_at, Classed, Flagged, firsts, Turners}
+use Rattle.routes_corners.specs.CornerTables.{BoardOf, EndsThere, port_at, Classed, flag_at, Flagged, firsts, TurningBelow}
 use Rattle.routes_corners.specs.Handed.{CellRows, Mutes}
 use Rattle.routes_corners.specs.Ports.{FlaggedBy, among_ports}
-use Rattle.routes_corners.specs.Turning.{has_room, Found}
+use Rattle.routes_corners.specs.Turning.{has_room, TurnersFound}
 use Rattle.routes_corners.proofs.Writing.{length-firsts}
 
 -- A list for W wires, and no flag set in it.
 pub fresh_list : (W : ℕ) → W ≤ 8192 → W ≤ length (replicate {A = ℕ} 8192 0)
 fresh_list W few = simp length-replicate few
 
-pub fresh_flags : (W : ℕ) → W ≤ 8192 → (k : ℕ) → k < W → get_or (replicate {A = ℕ} 8192 0) k 0 ≡ 0
-fresh_flags W few k h = get_or-replicate 8192 k 0 0 (omega arith)
+pub fresh_flags : (W : ℕ) → W ≤ 8192 → (k : ℕ) → k < W → flag_at (replicate {A = Bool} 8192 false) k ≡ false
+fresh_flags W few k h = get_or-replicate 8192 k false false (omega arith)
 
 -- The wires found, by the flags of the ports handed in.
-module _ (nodes wires facts ports : List (List ℕ)) (u : ℕ) (classes flags list : List ℕ) (n : ℕ) (flagged : FlaggedBy (among_ports wires ports u) wires classes flags) where
+module _ (nodes wires facts ports : List (List ℕ)) (u : ℕ) (classes : List ℕ) (flags : List Bool) (list : List ℕ) (n : ℕ) (flagged : FlaggedBy (among_ports wires ports u) wires classes flags) where
   flagged_in : (b : Board) (bus : Bus.Bus) → b.wires ≡ wires → Mutes b bus ports u → Flagged b bus classes flags
   flagged_in b bus is mutes w low =
-      let e : length b.wires ≡ length wires = ap length is in flagged w (omega arith) ∙ ap not (sym (mutes w low ∙ (λ i. any (same_port (port_at (is i) w)) (view port_in ports u))))
+      let e : length b.wires ≡ length wires = ap length is in flagged w (omega arith) ∙ sym (mutes w low ∙ (λ i. any (same_port (port_at (is i) w)) (view port_in ports u)))
 
-  pub found_by : Classed wires classes (length wires) → Turners nodes wires facts classes flags list n (length wires) → Found nodes wires facts ports u classes list n
+  pub found_by : Classed wires classes (length wires) → TurningBelow nodes wires facts classes flags list n (length wires) → TurnersFound nodes wires facts ports u classes list n
   found_by classed t =
       record {
         classed = classed;
@@ -48,7 +48,7 @@ ports_taken ports u h =
     view-take port_in (take u ports) (length (take u ports)) (omega arith) ∙ ap (λ (s : List (List ℕ)). reverse (map port_in s)) (take-length (take u ports)) ∙ sym (view-take port_in ports u h)
 
 pub found_taken : {nodes wires facts ports : List (List ℕ)} {u : ℕ} {classes list : List ℕ} {n : ℕ} → u ≤ length ports
-    → Found nodes wires facts (take u ports) (length (take u ports)) classes list n → Found nodes wires facts ports u classes list n
+    → TurnersFound nodes wires facts (take u ports) (length (take u ports)) classes list n → TurnersFound nodes wires facts ports u classes list n
 found_taken {ports = ports} {u = u} h f =
     record {
       classed = f.classed;
@@ -64,7 +64,7 @@ firsts_within list most zero h = refl
 firsts_within list most (suc n) h = ap₂ (λ (w : ℕ) (l : List ℕ). w ∷ l) (get_or-take most list n 0 h) (firsts_within list most n (omega (arith, h)))
 
 pub found_alone : {nodes wires facts ports : List (List ℕ)} {u : ℕ} {classes list : List ℕ} {n : ℕ} → n ≤ length list
-    → Found nodes wires facts ports u classes list n → Found nodes wires facts ports u classes (take n list) (length (take n list))
+    → TurnersFound nodes wires facts ports u classes list n → TurnersFound nodes wires facts ports u classes (take n list) (length (take n list))
 found_alone {nodes = nodes} {wires = wires} {facts = facts} {list = list} {n = n} h f =
     record {
       classed = f.classed;
@@ -91,10 +91,17 @@ rows_taken width rows n h known i low =
     let e = length-take-le n rows h in
     subst (Row width) (get_or-take n rows i [] low) (known i (omega (arith, low, e)))
 
-pub room_asked : (b : Board) (bus : Bus.Bus) (pages nodes wires facts ports : List (List ℕ)) (u : ℕ) (classes list : List ℕ) (n : ℕ) → Found nodes wires facts ports u classes list n
+room_asked : (b : Board) (bus : Bus.Bus) (pages nodes wires facts ports : List (List ℕ)) (u : ℕ) (classes list : List ℕ) (n : ℕ) → TurnersFound nodes wires facts ports u classes list n
     → BoardOf b pages nodes wires facts → Mutes b bus ports u → (held : BusCounts) → has_room (length wires) held (turnable b bus) ≡ has_room (length wires) held n
 unfolding turnable
 room_asked b bus pages nodes wires facts ports u classes list n f is mutes held = ap (has_room (length wires) held) (sym (sym (length-firsts list n) ∙ ap length (f.all b bus pages is mutes)))
+
+-- The same of ports that are the first of a buffer.
+pub room_taken : (ports : List (List ℕ)) {nodes wires facts : List (List ℕ)} {u : ℕ} {classes list : List ℕ} {n : ℕ} → u ≤ length ports → TurnersFound nodes wires facts (take u ports) (length (take u ports)) classes list n
+    → (held : BusCounts) (b : Board) (bus : Bus.Bus) (pages : List (List ℕ)) → BoardOf b pages nodes wires facts → Mutes b bus ports u
+    → has_room (length wires) held (turnable b bus) ≡ has_room (length wires) held n
+room_taken ports {nodes = nodes} {wires = wires} {facts = facts} {u = u} {classes = classes} {list = list} {n = n} h f held b bus pages is mutes =
+    room_asked b bus pages nodes wires facts ports u classes list n (found_taken h f) is mutes held
 
 pub room_found : (W : ℕ) (held : BusCounts) (m : ℕ) → has_room W held m ≡ true → (held.rerouters + m ≤ 5 * W) × (held.bus_wires + 2 * m ≤ 6 * W)
 unfolding has_room

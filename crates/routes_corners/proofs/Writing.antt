@@ -1,10 +1,11 @@
 -- Corners written one after the other, each at the level told.
-use Rattle.std.proofs.Common.{◌≡◌, ℕ, zero, suc, ◌+◌, ◌-◌, ◌*◌, ◌<◌, ◌≤◌, Bool, true, false, not, ◌&&◌, List, [], length, get_or, sym, refl, ap, ◌∙◌, subst, add-one, arith, eq-eqb, ne_eqb}
+use Rattle.std.proofs.Common.{◌≡◌, ℕ, zero, suc, ◌+◌, ◌-◌, ◌*◌, ◌<◌, ◌≤◌, Bool, true, false, not, ◌&&◌, List, [], length, Option, None, Some, get_or, sym, refl, ap, ◌∙◌, subst, add-one, arith}
 use Rattle.sheet.specs.Table.{MISSING}
 use Rattle.base.specs.Lists.{Found, none, at}
 use Rattle.base.proofs.Bools.{clash}
 use Rattle.board.specs.Board.{Board, field, given, source_node, target_node}
 use Rattle.board.specs.Groups.{anchor_of, wire_open}
+use Rattle.board.specs.Index.{found_of}
 use Rattle.board.specs.Refusals.{body_of}
 use Rattle.board.specs.Rows.{row_of}
 use Rattle.board.specs.Tables.{held}
@@ -18,10 +19,19 @@ use Rattle.routes.specs.declared.bus.End.TheVariants.{Port}
 use Rattle.routes.specs.declared.bus.Feed.{Feed}
 use Rattle.routes.specs.declared.bus.Placed.{Placed}
 use Rattle.routes_turns.specs.Deciding.{node_in, decide_if, source_of, sink_of, with_corners}
-use Rattle.routes_turns.specs.Told.{level_in, answers_in, told_corners}
+use Rattle.routes_turns.specs.Told.{answers_in, told_corners}
 use Rattle.routes_corners.specs.CornerTables.{BoardOf, EndsThere, firsts}
 use Rattle.routes_corners.specs.Turning.{BoardFits}
 use Rattle.routes_corners.specs.Writing.{WriteRoom, EndsOf, CornerThere, turned_bus, CornerWritten, WireWritten}
+
+-- What an Option tells.
+abbrev pub told_in : Option ℕ → Found
+told_in None = none
+told_in (Some level) = at level
+
+pub told_back : (level : Option ℕ) (told : Found) → level ≡ found_of told → told_in level ≡ told
+told_back level none e = ap told_in e
+told_back level (at l) e = ap told_in e
 
 -- A corner pushed and its delivery.
 module _ (R W : List (List ℕ)) (count : BusCount) (wire : List ℕ) (w : ℕ) (new : Rerouter) (R' W₁ W' : List (List ℕ)) (placed : Placed) (r : BusCount) where
@@ -64,24 +74,23 @@ corner_read b pages nodes wires facts w level there is =
     λ i. record { x = level; y = field (same i) s 9; z = field (sym is.pages_are i) (field (same i) t 10) 2; rotation = 2; role = role_line; part = part_corner; colour = field (same i) s 1; page = field (same i) t 10; lane = MISSING; row = row i; depth = unfed }
 
 -- What a wire leaves, with a level or without.
-module _ (pages nodes wires facts : List (List ℕ)) (w level : ℕ) (R W : List (List ℕ)) (count : BusCount) where
-  pub none_written : level ≡ MISSING → WireWritten pages nodes wires facts w (level_in level) R W count R W count
-  none_written e =
+module _ (pages nodes wires facts : List (List ℕ)) (w : ℕ) (R W : List (List ℕ)) (count : BusCount) where
+  pub none_written : WireWritten pages nodes wires facts w none R W count R W count
+  none_written =
       record {
         room = λ left r.
             let rerouters : count.rerouters + suc left ≤ length R = r.rerouter_room in
             let lines : count.wires + 2 * suc left ≤ length W = r.wire_room in
             let numbers : count.rerouters + suc left ≤ MISSING = r.numbers in
             record { rerouter_room = omega arith; wire_room = omega arith; numbers = omega arith };
-        holds = λ b bus old old_wires done is ends h.
-            subst (λ (f : Found). BusHeld (with_corners b bus (decide_if f w done)) old old_wires R W count) (sym (λ i. elim (eq-eqb level MISSING e i) as (λ _. Found) [ true ↦ none | false ↦ at level ])) h;
+        holds = λ b bus old old_wires done is ends h. h;
       }
 
-  pub told_written : (level ≡ MISSING → ⊥) → (new : Rerouter) → ((b : Board) (ws : List (List ℕ)) → BoardOf b pages nodes ws facts → rerouter_of new ≡ corner_rerouter b (field facts w 2) (field facts w 3) level)
+  pub told_written : (level : ℕ) (new : Rerouter) → ((b : Board) (ws : List (List ℕ)) → BoardOf b pages nodes ws facts → rerouter_of new ≡ corner_rerouter b (field facts w 2) (field facts w 3) level)
       → (R' W' : List (List ℕ)) (r : BusCount) → CornerWritten R W count (get_or wires w []) w new R' W' r
-      → length R' ≡ length R → length W' ≡ length W → WireWritten pages nodes wires facts w (level_in level) R W count R' W' r
+      → length R' ≡ length R → length W' ≡ length W → WireWritten pages nodes wires facts w (at level) R W count R' W' r
   unfolding with_corners
-  told_written other new stands R' W' r p lr lw =
+  told_written level new stands R' W' r p lr lw =
       record {
         room = λ left q.
             let rerouters : count.rerouters + suc left ≤ length R = q.rerouter_room in
@@ -92,9 +101,8 @@ module _ (pages nodes wires facts : List (List ℕ)) (w level : ℕ) (R W : List
             record { rerouter_room = omega arith; wire_room = omega arith; numbers = omega arith };
         holds = λ b bus old old_wires done is own h.
             let same : rerouter_of new ≡ corner_rerouter b (source_of b w) (sink_of b w) level = stands b wires is ∙ (λ i. corner_rerouter b (sym own.0 i) (sym own.1 i) level) in
-            subst (λ (f : Found). BusHeld (with_corners b bus (decide_if f w done)) old old_wires R' W' r) (sym (λ i. elim (ne_eqb level MISSING other i) as (λ _. Found) [ true ↦ none | false ↦ at level ]))
-            (subst (λ (x : Bus.Rerouter). BusHeld (turned_bus b (with_corners b bus done) w x) old old_wires R' W' r) same
-            (p.holds b (with_corners b bus done) old old_wires (ap (λ x. get_or x w []) is.wires_are) h));
+            subst (λ (x : Bus.Rerouter). BusHeld (turned_bus b (with_corners b bus done) w x) old old_wires R' W' r) same
+            (p.holds b (with_corners b bus done) old old_wires (ap (λ x. get_or x w []) is.wires_are) h);
       }
 
 -- The pass after k of the n wires in the list.

@@ -1,5 +1,5 @@
 -- How the code of the corner pass holds its board and the wires that turn. No rule stands here.
-use Rattle.std.specs.Prelude.{◌≡◌, ℕ, zero, suc, ◌<◌, ◌≤◌, true, not, List, [], ◌∷◌, length, ◌==◌, slice_index, slice_index_or}
+use Rattle.std.specs.Prelude.{◌≡◌, ℕ, zero, suc, ◌<◌, ◌≤◌, Bool, true, false, List, [], ◌∷◌, length, ◌==◌, slice_index, slice_index_or}
 use Rattle.sheet.specs.Table.{MISSING}
 use Rattle.base.specs.Lists.{keep, upto}
 use Rattle.board.specs.Board.{Board, field, given}
@@ -25,12 +25,16 @@ pub record Classed (wires : List (List ℕ)) (classes : List ℕ) (n : ℕ) : Ty
   pub same : (v w : ℕ) → v < n → w < n → (slice_index classes v == slice_index classes w) ≡ same_port (port_at wires v) (port_at wires w)
   pub low : (w : ℕ) → w < n → slice_index classes w ≤ w
 
+-- Whether a class has its flag.
+abbrev pub flag_at : List Bool → ℕ → Bool
+flag_at flags class = slice_index_or flags class false
+
 -- A class has its flag where its port is suppressed.
-abbrev pub Flagged : Board → Bus.Bus → List ℕ → List ℕ → Type 0
-Flagged b bus classes flags = (w : ℕ) → w < length b.wires → (slice_index flags (slice_index classes w) == 0) ≡ not (muted b bus w)
+abbrev pub Flagged : Board → Bus.Bus → List ℕ → List Bool → Type 0
+Flagged b bus classes flags = (w : ℕ) → w < length b.wires → flag_at flags (slice_index classes w) ≡ muted b bus w
 
 -- A wire's rows are there, and so is the flag of its class.
-pub record WireThere (wires facts : List (List ℕ)) (classes flags : List ℕ) (w : ℕ) : Type 0 where
+pub record WireThere (wires facts : List (List ℕ)) (classes : List ℕ) (flags : List Bool) (w : ℕ) : Type 0 where
   pub wire : w < length wires
   pub end : w < length facts
   pub class : w < length classes
@@ -49,7 +53,7 @@ firsts s zero = []
 firsts s (suc n) = slice_index s n ∷ firsts s n
 
 -- The tables that the tests read, and room for the wires that pass.
-pub record TestsFit (wires facts : List (List ℕ)) (classes flags list : List ℕ) : Type 0 where
+pub record TestsFit (wires facts : List (List ℕ)) (classes : List ℕ) (flags : List Bool) (list : List ℕ) : Type 0 where
   pub wires_few : length wires ≤ MISSING
   pub ends_long : length wires ≤ length facts
   pub classes_long : length wires ≤ length classes
@@ -57,7 +61,7 @@ pub record TestsFit (wires facts : List (List ℕ)) (classes flags list : List �
   pub room : length wires ≤ length list
 
 -- The first n of a list are wires below w whose ends are there: those that turn on the bus.
-pub record Turners (nodes wires facts : List (List ℕ)) (classes flags list : List ℕ) (n w : ℕ) : Type 0 where
+pub record TurningBelow (nodes wires facts : List (List ℕ)) (classes : List ℕ) (flags : List Bool) (list : List ℕ) (n w : ℕ) : Type 0 where
   pub few : n ≤ w
   pub below : (k : ℕ) → k < n → slice_index list k < w
   pub ends : (k : ℕ) → k < n → EndsThere nodes facts (slice_index list k)

@@ -47,7 +47,7 @@ pub record Lent (N W : ℕ) (rerouters bus_wires ports marks : List (List ℕ)) 
   pub mark_room : N + 5 * W ≤ length marks
 
 -- The first n of a list are the wires that turn, with the classes of all wires.
-pub record Found (nodes wires facts ports : List (List ℕ)) (u : ℕ) (classes list : List ℕ) (n : ℕ) : Type 0 where
+pub record TurnersFound (nodes wires facts ports : List (List ℕ)) (u : ℕ) (classes list : List ℕ) (n : ℕ) : Type 0 where
   pub classed : Classed wires classes (length wires)
   pub few : n ≤ length wires
   pub below : (k : ℕ) → k < n → slice_index list k < length wires

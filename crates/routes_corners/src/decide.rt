@@ -8,32 +8,30 @@ ghost use Rattle.routes_corners.specs.Answering.{DecideRoom};
 ghost use Rattle.routes_corners.specs.CornerTables.{firsts};
 ghost use Rattle.routes_corners.specs.Listing.{TurnsListed, TurnsOf};
 
-use crate::items::fill_corners;
-use base::rows::{Record, RerouterRow, WorkRow};
+use crate::items::{Turners, fill_corners};
+use base::rows::{RerouterRow, WorkRow};
 use base::runs::order_by_key;
 use routes_rows::notes::NOTES_MOST;
 use routes_rows::turn::turn_rows;
 
 // K4 to K7, K9: the level of each wire in the list, by the rerouters, or MISSING.
 pub fn decide_corners(
-    nodes: &[Record],
-    facts: &[WorkRow],
-    classes: &[u32],
-    list: &[u32],
+    t: Turners<'_>,
     rerouters: &[RerouterRow],
     items: &mut [WorkRow],
     answers: &mut [u32],
 )
-    requires bricks_askable { BricksAskable nodes.now facts.now }
-    requires turns_listed { TurnsListed nodes.now facts.now classes.now list.now (length list.now) }
-    requires decide_room { DecideRoom nodes.now (length list.now) rerouters.now (length rerouters.now) items.old answers.old }
-    ensures { (b : Board) (bus : Bus) (pages wires : List (List ℕ)) → TurnsOf b bus pages nodes.now wires facts.now classes.now list.now (length list.now) rerouters.now (length rerouters.now)
-        → LevelsHeld b bus answers.new (firsts list.now (length list.now)) }
+    requires bricks_askable { BricksAskable t.s.nodes.now t.facts.now }
+    requires turns_listed { TurnsListed t.s.nodes.now t.facts.now t.classes.now t.list.now (length t.list.now) }
+    requires decide_room { DecideRoom t.s.nodes.now (length t.list.now) rerouters.now (length rerouters.now) items.old answers.old }
+    ensures { (b : Board) (bus : Bus) (pages wires : List (List ℕ)) → TurnsOf b bus pages t.entry.s.nodes.now wires t.entry.facts.now t.entry.classes.now t.entry.list.now (length t.entry.list.now) rerouters.now (length rerouters.now)
+        → LevelsHeld b bus answers.new (firsts t.entry.list.now (length t.entry.list.now)) }
 {
-    let bricks = nodes.len();
-    fill_corners(nodes, facts, classes, list, rerouters, items);
+    let bricks = t.s.nodes.len();
     let first = bricks + rerouters.len();
-    let count = order_by_key(items, first + list.len(), bricks);
+    let items = &mut items[..first + t.list.len()];
+    fill_corners(t, rerouters, items);
+    let count = order_by_key(items, bricks);
     let mut notes = [0u32; NOTES_MOST];
     turn_rows(items, count, first, &mut notes, answers);
 }

@@ -2,15 +2,25 @@
 ghost use Rattle.std.specs.Prelude.{◌≡◌, ℕ, ◌+◌, ◌<◌, ◌≤◌, ◌&&◌, List, [], length, nat_lt, slice_index, slice_index_or};
 ghost use Rattle.board.specs.Board.{Board};
 ghost use Rattle.routes.specs.Bus.{Bus};
-ghost use Rattle.routes.specs.Buffers.{inward as inwardOf, rerouter_in};
+ghost use Rattle.routes.specs.Buffers.{rerouter_in};
 ghost use Rattle.routes_beside.specs.Beside.{Bases, BricksAskable};
 ghost use Rattle.routes_turns.specs.CornerItems.{is_inside, CornerItems};
 ghost use Rattle.routes_corners.specs.CornerTables.{firsts};
 ghost use Rattle.routes_corners.specs.Listing.{CountsOf, BesideIs, question_row, TurnThere, TurnsListed, ItemsStored, TurnsOf};
 
-use base::numbers::ORIGIN;
 use base::rows::{Record, RerouterRow, WorkRow};
+use board::sections::Sections;
+use routes::bus::inward;
 use routes_beside::items::{count_pages, fill_bricks, item, no_item, page_bases};
+
+// The wires that turn, by number: with the board and the facts of its wires, and the class of each wire's target port.
+#[derive(Clone, Copy)]
+pub struct Turners<'a> {
+    pub s: Sections<'a>,
+    pub facts: &'a [WorkRow],
+    pub classes: &'a [u32],
+    pub list: &'a [u32],
+}
 
 // No corner reaches beyond it.
 const EDGE: u32 = 4294967290;
@@ -20,18 +30,10 @@ fn is_beside(counts: &[u32], page: u32, row: u32, x: u32, y: u32) -> bool
     requires { length counts.now ≡ 64 }
     ensures { result ≡ ((nat_lt page 64 && nat_lt row (slice_index counts.now page)) && is_inside x y) }
 {
-    let p = page as usize;
-    if 64 <= p {
+    let Some(count) = counts.get(page as usize) else {
         return false;
-    }
-    (row < counts[p]) & (x < EDGE) & (y < EDGE)
-}
-
-// A coordinate of 32 bits, as it is held.
-fn inward(c: u32) -> u32
-    ensures { result ≡ inwardOf c }
-{
-    std::num::wrapping_add_u32(c, ORIGIN)
+    };
+    (row < *count) & (x < EDGE) & (y < EDGE)
 }
 
 // C2: the item of a rerouter.
@@ -69,75 +71,42 @@ fn fill_beside(
 }
 
 // K4: the question of wire w.
-fn question_item(
-    nodes: &[Record],
-    facts: &[WorkRow],
-    classes: &[u32],
-    items: &[WorkRow],
-    w: usize,
-) -> WorkRow
-    requires { TurnThere nodes.now facts.now classes.now w × (length nodes.now ≤ length items.now) }
-    ensures { result ≡ question_row nodes.now facts.now classes.now items.now w }
+fn question_item(t: Turners<'_>, items: &[WorkRow], w: usize) -> WorkRow
+    requires { TurnThere t.s.nodes.now t.facts.now t.classes.now w × (length t.s.nodes.now ≤ length items.now) }
+    ensures { result ≡ question_row t.entry.s.nodes.now t.entry.facts.now t.entry.classes.now items.now w }
 {
-    let s = facts[w][2] as usize;
-    let t = facts[w][3] as usize;
-    [
-        items[t][0],
-        items[t][1],
-        nodes[s][9],
-        facts[w][3],
-        classes[w],
-        0,
-        items[t][6],
-        0,
-    ]
+    let source = t.facts[w][2] as usize;
+    let sink = t.facts[w][3];
+    let brick = items[sink as usize];
+    let y = t.s.nodes[source][9];
+    [brick[0], brick[1], y, sink, t.classes[w], 0, brick[6], 0]
 }
 
 // The questions of the wires in the list, behind the bricks and the rerouters.
-fn fill_questions(
-    nodes: &[Record],
-    facts: &[WorkRow],
-    classes: &[u32],
-    list: &[u32],
-    first: usize,
-    items: &mut [WorkRow],
-)
-    requires turns_listed { TurnsListed nodes.now facts.now classes.now list.now (length list.now) }
-    requires nodes_len_bound { (length nodes.now ≤ first) × (first + length list.now ≤ length items.old) }
-    ensures by_index { (q : ℕ) → q < length list.now → slice_index_or items.new (first + q) [] ≡ question_row nodes.now facts.now classes.now items.old (slice_index list.now q) }
+fn fill_questions(t: Turners<'_>, first: usize, items: &mut [WorkRow])
+    requires turns_listed { TurnsListed t.s.nodes.now t.facts.now t.classes.now t.list.now (length t.list.now) }
+    requires nodes_len_bound { (length t.s.nodes.now ≤ first) × (first + length t.list.now ≤ length items.old) }
+    ensures by_index { (q : ℕ) → q < length t.entry.list.now → slice_index_or items.new (first + q) [] ≡ question_row t.entry.s.nodes.now t.entry.facts.now t.entry.classes.now items.old (slice_index t.entry.list.now q) }
     ensures by_index_2 { (j : ℕ) → j < first → slice_index_or items.new j [] ≡ slice_index_or items.old j [] }
 {
-    for (q, w) in list.iter().enumerate() {
-        items[first + q] = question_item(nodes, facts, classes, items, *w as usize);
+    for (q, w) in t.list.iter().enumerate() {
+        items[first + q] = question_item(t, items, *w as usize);
     }
 }
 
 // All items: the bricks, the rerouters, the wires in the list.
-pub fn fill_corners(
-    nodes: &[Record],
-    facts: &[WorkRow],
-    classes: &[u32],
-    list: &[u32],
-    rerouters: &[RerouterRow],
-    items: &mut [WorkRow],
-)
-    requires bricks_askable { BricksAskable nodes.now facts.now }
-    requires turns_listed { TurnsListed nodes.now facts.now classes.now list.now (length list.now) }
-    requires items_room { length nodes.now + length rerouters.now + length list.now ≤ length items.old }
-    ensures items_stored { ItemsStored nodes.now facts.now classes.now list.now (length list.now) rerouters.now (length rerouters.now) items.new }
-    ensures corner_items { (b : Board) (bus : Bus) (pages wires : List (List ℕ)) → TurnsOf b bus pages nodes.now wires facts.now classes.now list.now (length list.now) rerouters.now (length rerouters.now)
-        → CornerItems b bus (λ w. slice_index classes.now w) facts.now items.new (length nodes.now + length rerouters.now) (firsts list.now (length list.now)) }
+pub fn fill_corners(t: Turners<'_>, rerouters: &[RerouterRow], items: &mut [WorkRow])
+    requires bricks_askable { BricksAskable t.s.nodes.now t.facts.now }
+    requires turns_listed { TurnsListed t.s.nodes.now t.facts.now t.classes.now t.list.now (length t.list.now) }
+    requires items_room { length t.s.nodes.now + length rerouters.now + length t.list.now ≤ length items.old }
+    ensures items_stored { ItemsStored t.entry.s.nodes.now t.entry.facts.now t.entry.classes.now t.entry.list.now (length t.entry.list.now) rerouters.now (length rerouters.now) items.new }
+    ensures corner_items { (b : Board) (bus : Bus) (pages wires : List (List ℕ)) → TurnsOf b bus pages t.entry.s.nodes.now wires t.entry.facts.now t.entry.classes.now t.entry.list.now (length t.entry.list.now) rerouters.now (length rerouters.now)
+        → CornerItems b bus (λ w. slice_index t.entry.classes.now w) t.entry.facts.now items.new (length t.entry.s.nodes.now + length rerouters.now) (firsts t.entry.list.now (length t.entry.list.now)) }
 {
+    let nodes = t.s.nodes;
     let bases = page_bases(nodes);
     let counts = count_pages(nodes);
-    fill_bricks(nodes, facts, &bases, items);
+    fill_bricks(nodes, t.facts, &bases, items);
     fill_beside(nodes, &bases, &counts, rerouters, items);
-    fill_questions(
-        nodes,
-        facts,
-        classes,
-        list,
-        nodes.len() + rerouters.len(),
-        items,
-    );
+    fill_questions(t, nodes.len() + rerouters.len(), items);
 }

@@ -1,6 +1,8 @@
 // Corners are written by the answers to their questions: a level, or none.
 ghost use Rattle.std.specs.Prelude.{◌≡◌, ℕ, ◌<◌, List, length, slice_index};
+ghost use Rattle.base.specs.Lists.{Found};
 ghost use Rattle.board.specs.Board.{Board, field};
+ghost use Rattle.board.specs.Index.{found_of};
 ghost use Rattle.routes.specs.Bus.{Bus};
 ghost use Rattle.routes.specs.Corners.{corner_rerouter};
 ghost use Rattle.routes.specs.Holding.{rerouter_of, BusHeld};
@@ -10,50 +12,43 @@ ghost use Rattle.routes_corners.specs.CornerTables.{BoardOf, EndsThere, firsts};
 ghost use Rattle.routes_corners.specs.Turning.{BoardFits};
 ghost use Rattle.routes_corners.specs.Writing.{CornerThere, WriteRoom, WritesFit, EndsOf, CornerWritten, WireWritten};
 
+use crate::items::Turners;
 use base::ids::NodeId;
 use base::numbers::MISSING;
-use base::rows::{BusWireRow, Record, RerouterRow, WorkRow};
-use routes::bus::{BusCount, End, Feed, Rerouter, push_bus_node, push_delivery};
-
-// Stays (C interface): a rerouter's role and part are numbers of its row.
-const ROLE_LINE: u32 = 1;
-
-const PART_CORNER: u32 = 6;
+use base::rows::{BusWireRow, Record, RerouterRow};
+use routes::bus::{
+    BusCount, End, Feed, Part, Rerouter, Role, Rotation, push_bus_node, push_delivery,
+};
 
 // K8: the corner of wire w at a level: beside its sink, at its source's height and in its colour.
-fn corner_at(
-    pages: &[Record],
-    nodes: &[Record],
-    facts: &[WorkRow],
-    w: usize,
-    level: u32,
-) -> Rerouter
-    requires { CornerThere pages.now nodes.now facts.now w }
-    ensures { (b : Board) (wires : List (List ℕ)) → BoardOf b pages.now nodes.now wires facts.now → rerouter_of result ≡ corner_rerouter b (field facts.now w 2) (field facts.now w 3) level }
+fn corner_at(t: Turners<'_>, w: usize, level: u32) -> Rerouter
+    requires { CornerThere t.s.pages.now t.s.nodes.now t.facts.now w }
+    ensures { (b : Board) (wires : List (List ℕ)) → BoardOf b t.entry.s.pages.now t.entry.s.nodes.now wires t.entry.facts.now → rerouter_of result ≡ corner_rerouter b (field t.entry.facts.now w 2) (field t.entry.facts.now w 3) level }
 {
-    let s = facts[w][2] as usize;
-    let t = facts[w][3] as usize;
-    let page = nodes[t][10];
+    let source = t.s.nodes[t.facts[w][2] as usize];
+    let sink = t.facts[w][3] as usize;
+    let page = t.s.nodes[sink][10];
     Rerouter {
         x: level,
-        y: nodes[s][9],
-        z: pages[page as usize][2],
-        rotation: 2,
-        role: ROLE_LINE,
-        part: PART_CORNER,
-        colour: NodeId(nodes[s][1]),
-        page: page,
-        lane: MISSING,
-        row: facts[t][0],
+        y: source[9],
+        z: t.s.pages[page as usize][2],
+        rotation: Rotation::Deg180,
+        role: Role::Line,
+        part: Part::Corner,
+        colour: NodeId(source[1]),
+        page,
+        lane: None,
+        row: Some(t.facts[sink][0]),
     }
 }
 
 // K10: a corner, the bus wire to it, and its delivery.
+// Stays (C interface): the two buffers are lent one by one; a struct of them and the count would tell what it left by nested pairs.
 fn write_corner(
     rerouters: &mut [RerouterRow],
     bus_wires: &mut [BusWireRow],
     count: BusCount,
-    wire: [u32; 16],
+    wire: Record,
     w: u32,
     new: Rerouter,
 ) -> BusCount
@@ -78,62 +73,56 @@ fn write_corner(
     )
 }
 
-// The corner of wire w at a level, where it has one.
+// A level by its answer, or none.
+// Stays (no plainer): the answers are numbers, MISSING for none, as `turn_rows` says of them.
+fn level_told(answer: u32) -> Option<u32>
+    ensures { result ≡ found_of (level_in answer) }
+{
+    (answer != MISSING).then_some(answer)
+}
+
+// The corner of wire w at its level, where it has one.
 fn write_told(
-    pages: &[Record],
-    nodes: &[Record],
-    wires: &[Record],
-    facts: &[WorkRow],
+    t: Turners<'_>,
     w: usize,
-    level: u32,
+    level: Option<u32>,
     rerouters: &mut [RerouterRow],
     bus_wires: &mut [BusWireRow],
     count: BusCount,
 ) -> BusCount
-    requires board_fits { BoardFits pages.now nodes.now wires.now facts.now }
-    requires ends_there { EndsThere nodes.now facts.now w × (w < length wires.now) }
+    requires board_fits { BoardFits t.s.pages.now t.s.nodes.now t.s.wires.now t.facts.now }
+    requires ends_there { EndsThere t.s.nodes.now t.facts.now w × (w < length t.s.wires.now) }
     requires write_room { WriteRoom 1 rerouters.old bus_wires.old count }
-    ensures { WireWritten pages.now nodes.now wires.now facts.now w (level_in level) rerouters.old bus_wires.old count rerouters.new bus_wires.new result }
+    ensures { (told : Found) → level ≡ found_of told → WireWritten t.entry.s.pages.now t.entry.s.nodes.now t.entry.s.wires.now t.entry.facts.now w told rerouters.old bus_wires.old count rerouters.new bus_wires.new result }
 {
-    if level == MISSING {
-        return count;
+    match level {
+        None => count,
+        Some(level) => {
+            let new = corner_at(t, w, level);
+            write_corner(rerouters, bus_wires, count, t.s.wires[w], w as u32, new)
+        }
     }
-    let new = corner_at(pages, nodes, facts, w, level);
-    write_corner(rerouters, bus_wires, count, wires[w], w as u32, new)
 }
 
 // K8 to K10: the corners of the wires in the list, in order, each at the level that its answer tells.
 pub fn write_corners(
-    pages: &[Record],
-    nodes: &[Record],
-    wires: &[Record],
-    facts: &[WorkRow],
-    list: &[u32],
+    t: Turners<'_>,
     answers: &[u32],
     rerouters: &mut [RerouterRow],
     bus_wires: &mut [BusWireRow],
     count: BusCount,
 ) -> BusCount
-    requires board_fits { BoardFits pages.now nodes.now wires.now facts.now }
-    requires writes_fit { WritesFit nodes.now wires.now facts.now list.now answers.now (length list.now) }
-    requires write_room { WriteRoom (length list.now) rerouters.old bus_wires.old count }
-    ensures { (b : Board) (bus : Bus) (old old_wires : List (List ℕ)) → BoardOf b pages.now nodes.now wires.now facts.now
-        → ((k : ℕ) → k < length list.now → EndsOf b facts.now (slice_index list.now k)) → BusHeld bus old old_wires rerouters.old bus_wires.old count
-        → BusHeld (with_corners b bus (told_corners (answers_in answers.now) (firsts list.now (length list.now)))) old old_wires rerouters.new bus_wires.new result }
+    requires board_fits { BoardFits t.s.pages.now t.s.nodes.now t.s.wires.now t.facts.now }
+    requires writes_fit { WritesFit t.s.nodes.now t.s.wires.now t.facts.now t.list.now answers.now (length t.list.now) }
+    requires write_room { WriteRoom (length t.list.now) rerouters.old bus_wires.old count }
+    ensures { (b : Board) (bus : Bus) (old old_wires : List (List ℕ)) → BoardOf b t.entry.s.pages.now t.entry.s.nodes.now t.entry.s.wires.now t.entry.facts.now
+        → ((k : ℕ) → k < length t.entry.list.now → EndsOf b t.entry.facts.now (slice_index t.entry.list.now k)) → BusHeld bus old old_wires rerouters.old bus_wires.old count
+        → BusHeld (with_corners b bus (told_corners (answers_in answers.now) (firsts t.entry.list.now (length t.entry.list.now)))) old old_wires rerouters.new bus_wires.new result }
 {
     let mut done = count;
-    for (q, w) in list.iter().enumerate() {
-        done = write_told(
-            pages,
-            nodes,
-            wires,
-            facts,
-            *w as usize,
-            answers[q],
-            rerouters,
-            bus_wires,
-            done,
-        );
+    for (q, w) in t.list.iter().enumerate() {
+        let level = level_told(answers[q]);
+        done = write_told(t, *w as usize, level, rerouters, bus_wires, done);
     }
     done
 }

@@ -19,15 +19,16 @@ use Rattle.routes.specs.Tables.{stop_in}
 use Rattle.routes.specs.Holding.{stop_level_of}
 use Rattle.routes_taps.specs.Asking
 use Rattle.routes_taps.specs.Asking.{tap_by, emit_by}
-use Rattle.routes_taps.specs.Taps.{tap_read, tap_of, Tables, TapOn, NewsOf, AtStop, WentOn, rows_begun}
+use Rattle.routes.specs.News.{NewsOf}
+use Rattle.routes_taps.specs.Taps.{tap_read, tap_of, Tables, TapOn, AtStop, WentOn, rows_begun}
 use Rattle.routes_taps.proofs.Reaching.{before_same}
 use Rattle.routes_taps.specs.declared.taps.Tap.{Tap}
-use Rattle.routes_taps.specs.declared.taps.News.{News}
+use Rattle.routes.specs.declared.news.News.{News}
 use Rattle.routes_taps.specs.declared.taps.Reached.{Reached}
 use Rattle.routes_emit.specs.Emitting.{told, tap_emitted, AnswersRoom, EmissionHeld, Becomes, Ready, Spends, RoomForTaps, start_of}
 use Rattle.routes_emit.specs.declared.answers.Answers.{Answers}
 use Rattle.routes_emit.specs.declared.walk.Walk.{Walk}
-use Rattle.routes_emit.proofs.Steps.{spends_none}
+use Rattle.routes_emit.proofs.Steps.{spends_none, group_case, row_case, served}
 
 -- A tap emitted is `tap_by`.
 pub emit_as : (b : Board) (ts : List Groups.Tap) (ps : List PageLanes) (a : Answers) (a' : Asking.Answers) (l : List Groups.Tap) (row : List ℕ) (t : Tap) (news : News) (level : Level) (s : Rerouters.Emission)
@@ -35,7 +36,7 @@ pub emit_as : (b : Board) (ts : List Groups.Tap) (ps : List PageLanes) (a : Answ
 unfolding tap_by
 emit_as b ts ps a a' l row t news level s ea et n =
     (λ i. tap_emitted b ts ps (ea i) (tap_of (et i)) news level s)
-    ∙ (λ i. tap_emitted b ts ps a' (tap_in row) (record { group = n.group i; row = n.row i; column = n.column i }) level s)
+    ∙ (λ i. served b ts ps a' (tap_in row) level (row_case b ts ps a' (tap_in row) level (n.row i) (group_case b ts ps a' (tap_in row) (n.group i) s)))
 
 -- The answers of each tap are there.
 pub answers_there : (n k bricks : ℕ) (asked : List (List ℕ)) (flags : List ℕ) → n ≤ length asked → bricks + 2 * n ≤ length flags → k < n → AnswersRoom asked flags bricks k

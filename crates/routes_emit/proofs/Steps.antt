@@ -5,27 +5,31 @@ use mathlib.Core.Bool.{Bool, true, false}
 use mathlib.Core.List.{List}
 use native.Mathlib.Omega.{arith}
 use lib.ListN.{length}
+use Rattle.std.specs.Prelude.{Option}
+use Rattle.std.specs.Option.{unwrap_or}
 use Rattle.sheet.specs.Table.{MISSING}
 use Rattle.base.specs.Lists.{Found, none, at}
 use Rattle.board.specs.Board.{Board, y_of}
 use Rattle.board.specs.Groups
 use Rattle.board.specs.Groups.{source_row}
 use Rattle.board.specs.Demands.{PageLanes}
+use Rattle.board.specs.Index.{found_of}
 use Rattle.board.specs.Tables.{held}
 use Rattle.routes.specs.Levels.{Level, dropped, shared, own}
 use Rattle.routes.specs.Bus
 use Rattle.routes.specs.Bus.{part_source, part_head, part_link, part_tap, part_gate_side, role_source, role_gutter, unfed}
+use Rattle.routes.specs.News.{begins_group, begins_row}
 use Rattle.routes.specs.Rerouters
 use Rattle.routes.specs.Rerouters.{TAP_RESERVE, source, row_rerouter, lane_rerouter, head_rerouter}
-use Rattle.routes.specs.Holding.{rerouter_of, BusHeld, Delivering}
+use Rattle.routes.specs.Holding.{turns_of, rerouter_of, BusHeld, Delivering}
 use Rattle.routes.specs.declared.bus.Rerouter.{Rerouter}
 use Rattle.routes.specs.declared.bus.BusCount.{BusCount}
 use Rattle.routes_taps.specs.Asking
 use Rattle.routes_taps.specs.Asking.{told_in, source_by, at_port, group_by, link_by, row_by, serve_by}
-use Rattle.routes_taps.specs.Taps.{LaneOf, RowHeld}
+use Rattle.routes_taps.specs.Taps.{LaneOf}
 use Rattle.routes_taps.specs.declared.taps.Lane.{Lane}
 use Rattle.routes_taps.specs.declared.taps.Tap.{Tap}
-use Rattle.routes_taps.specs.declared.taps.News.{News}
+use Rattle.routes.specs.declared.news.News.{News}
 use Rattle.routes_emit.specs.Emitting.{lane_rerouter_of, row_rerouter_of, EmissionHeld, Ready, Spends, Becomes, hung_on, tapped_off, chained_on, port_of, shared_tap, delivered_at, Delivered, gate_side_by, begin_group, begin_tap}
 use Rattle.routes_emit.specs.declared.chain.Emission.{Emission}
 
@@ -96,16 +100,16 @@ module _ (b : Board) (ts : List Groups.Tap) (ps : List PageLanes) (t : Groups.Ta
   row_rerouter_lem row row' x x' y y' rotation role part er ex ey =
       λ i. record { x = ex i; y = ey i; z = k.z i; rotation = rotation; role = role; part = part; colour = k.colour i; page = k.page i; lane = MISSING; row = er i; depth = unfed }
 
-  row_held : l.source_row ≡ held (source_row b t.group t.page)
-  row_held = go (source_row b t.group t.page) k.row
+  row_held : unwrap_or l.source_row MISSING ≡ held (source_row b t.group t.page)
+  row_held = ap (λ (o : Option ℕ). unwrap_or o MISSING) k.row ∙ go (source_row b t.group t.page)
     where
-      go : (f : Found) → RowHeld l.source_row f → l.source_row ≡ held f
-      go none h = h
-      go (at r) h = h.0
+      go : (f : Found) → unwrap_or (found_of f) MISSING ≡ held f
+      go none = refl
+      go (at r) = refl
 
   -- R6: a source rerouter.
   module _ (s : Rerouters.Emission) (so : Bool) where
-    pub source_stands : (new : Rerouter) → rerouter_of new ≡ row_rerouter_of l l.source_row l.source_x (l.source_y - TAP_RESERVE) 2 role_source part_source → so ≡ true → hung_on (rerouter_of new) s ≡ source_by b ts ps so s t
+    pub source_stands : (new : Rerouter) → rerouter_of new ≡ row_rerouter_of l (unwrap_or l.source_row MISSING) l.source_x (l.source_y - TAP_RESERVE) 2 role_source part_source → so ≡ true → hung_on (rerouter_of new) s ≡ source_by b ts ps so s t
     source_stands new e y =
         ap (λ x. hung_on x s) (e ∙ row_rerouter_lem _ _ _ _ (l.source_y - TAP_RESERVE) (y_of b (source b ts ps t) - TAP_RESERVE) 2 role_source part_source row_held k.source_x (ap (λ v. v - TAP_RESERVE) k.source_y))
         ∙ ap (λ v. source_by b ts ps v s t) (sym y)
@@ -128,7 +132,7 @@ module _ (b : Board) (ts : List Groups.Tap) (ps : List PageLanes) (t : Groups.Ta
     abbrev head_case : Bool → Rerouters.Emission
     head_case so = elim so [ true ↦ hung_on (head_rerouter b ts ps t) sourced | false ↦ at_port b ts ps s t ]
 
-    pub group_headed : (new : Rerouter) → rerouter_of new ≡ lane_rerouter_of l l.source_x l.rotation part_head → a.head ≡ true → hung_on (rerouter_of new) sourced ≡ group_by b ts ps a s t
+    pub group_headed : (new : Rerouter) → rerouter_of new ≡ lane_rerouter_of l l.source_x (turns_of l.rotation) part_head → a.head ≡ true → hung_on (rerouter_of new) sourced ≡ group_by b ts ps a s t
     unfolding group_by
     group_headed new e y = ap (λ x. hung_on x sourced) (e ∙ lane_rerouter_lem _ _ _ _ part_head k.source_x k.rotation) ∙ ap head_case (sym y)
 
@@ -138,7 +142,7 @@ module _ (b : Board) (ts : List Groups.Tap) (ps : List PageLanes) (t : Groups.Ta
 
   -- R8: a link.
   module _ (s : Rerouters.Emission) (level : ℕ) (so : Bool) where
-    pub link_stands : (new : Rerouter) → rerouter_of new ≡ lane_rerouter_of l (level + 2) l.rotation part_link → so ≡ true → hung_on (rerouter_of new) s ≡ link_by b ts ps so s t level
+    pub link_stands : (new : Rerouter) → rerouter_of new ≡ lane_rerouter_of l (level + 2) (turns_of l.rotation) part_link → so ≡ true → hung_on (rerouter_of new) s ≡ link_by b ts ps so s t level
     link_stands new e y = ap (λ x. hung_on x s) (e ∙ lane_rerouter_lem (level + 2) (level + 2) _ _ part_link refl k.rotation) ∙ ap (λ v. link_by b ts ps v s t level) (sym y)
 
   -- R7: a row by its level.
@@ -203,22 +207,22 @@ module _ (b : Board) (ts : List Groups.Tap) (ps : List PageLanes) (a : Asking.An
   unfolding serve_by
   serve_as level s = refl
 
-  abbrev group_case : Bool → Rerouters.Emission → Rerouters.Emission
+  abbrev pub group_case : Bool → Rerouters.Emission → Rerouters.Emission
   group_case g s = elim g [ true ↦ group_by b ts ps a s t | false ↦ s ]
 
-  pub group_new : (news : News) → news.group ≡ true → (s : Rerouters.Emission) → group_by b ts ps a s t ≡ begin_group b ts ps a t news s
+  pub group_new : (news : News) → begins_group news ≡ true → (s : Rerouters.Emission) → group_by b ts ps a s t ≡ begin_group b ts ps a t news s
   group_new news e s = ap (λ g. group_case g s) (sym e)
 
-  pub group_same : (news : News) → news.group ≡ false → (s : Rerouters.Emission) → s ≡ begin_group b ts ps a t news s
+  pub group_same : (news : News) → begins_group news ≡ false → (s : Rerouters.Emission) → s ≡ begin_group b ts ps a t news s
   group_same news e s = ap (λ g. group_case g s) (sym e)
 
-  abbrev row_case : Level → Bool → Rerouters.Emission → Rerouters.Emission
+  abbrev pub row_case : Level → Bool → Rerouters.Emission → Rerouters.Emission
   row_case level r s = elim r [ true ↦ row_by b ts ps a s t level | false ↦ s ]
 
-  pub row_new : (level : Level) (news : News) → news.row ≡ true → (s : Rerouters.Emission) → row_by b ts ps a (begin_group b ts ps a t news s) t level ≡ begin_tap b ts ps a t news level s
+  pub row_new : (level : Level) (news : News) → begins_row news ≡ true → (s : Rerouters.Emission) → row_by b ts ps a (begin_group b ts ps a t news s) t level ≡ begin_tap b ts ps a t news level s
   row_new level news e s = ap (λ r. row_case level r (begin_group b ts ps a t news s)) (sym e)
 
-  pub row_same : (level : Level) (news : News) → news.row ≡ false → (s : Rerouters.Emission) → begin_group b ts ps a t news s ≡ begin_tap b ts ps a t news level s
+  pub row_same : (level : Level) (news : News) → begins_row news ≡ false → (s : Rerouters.Emission) → begin_group b ts ps a t news s ≡ begin_tap b ts ps a t news level s
   row_same level news e s = ap (λ r. row_case level r (begin_group b ts ps a t news s)) (sym e)
 
   abbrev pub served : Level → Rerouters.Emission → Rerouters.Emission

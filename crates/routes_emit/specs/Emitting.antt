@@ -8,6 +8,7 @@ use Rattle.routes.specs.Levels
 use Rattle.routes.specs.Levels.{dropped, shared, own}
 use Rattle.routes.specs.Bus
 use Rattle.routes.specs.Bus.{Bus, place, placed_feed, deliver, role_gutter, unfed}
+use Rattle.routes.specs.News.{begins_group, begins_row}
 use Rattle.routes.specs.Rerouters
 use Rattle.routes.specs.Rerouters.{chain_on, gate_side_rerouter}
 use Rattle.routes.specs.Holding.{feed_of, BusHeld}
@@ -18,7 +19,7 @@ use Rattle.routes_taps.specs.Asking
 use Rattle.routes_taps.specs.Asking.{gate_side_item, group_by, row_by, serve_by}
 use Rattle.routes_taps.specs.declared.taps.Lane.{Lane}
 use Rattle.routes_taps.specs.declared.taps.Tap.{Tap}
-use Rattle.routes_taps.specs.declared.taps.News.{News}
+use Rattle.routes.specs.declared.news.News.{News}
 use Rattle.routes_emit.specs.declared.answers.Answers.{Answers}
 use Rattle.routes_emit.specs.declared.chain.Emission.{Emission}
 use Rattle.routes_emit.specs.declared.walk.Walk.{Walk}
@@ -98,12 +99,12 @@ module _ (b : Board) (ts : List Groups.Tap) (ps : List PageLanes) where
 
   -- A group begins with a tap that is its first.
   abbrev pub begin_group : Asking.Answers → Groups.Tap → News → Rerouters.Emission → Rerouters.Emission
-  begin_group a t news s = elim news.group [ true ↦ group_by b ts ps a s t | false ↦ s ]
+  begin_group a t news s = elim (begins_group news) [ true ↦ group_by b ts ps a s t | false ↦ s ]
 
   -- `tap_by`, of a tap of which it is known what it begins.
   module _ (a : Asking.Answers) (t : Groups.Tap) (news : News) (level : Levels.Level) where
     abbrev pub begin_tap : Rerouters.Emission → Rerouters.Emission
-    begin_tap s = let begun : Rerouters.Emission = begin_group a t news s in elim news.row [ true ↦ row_by b ts ps a begun t level | false ↦ begun ]
+    begin_tap s = let begun : Rerouters.Emission = begin_group a t news s in elim (begins_row news) [ true ↦ row_by b ts ps a begun t level | false ↦ begun ]
 
     abbrev pub tap_emitted : Rerouters.Emission → Rerouters.Emission
     tap_emitted s =

@@ -6,6 +6,7 @@ ghost use Rattle.routes_emit.specs.Emitting.{AnswersRoom, told};
 use base::rows::WorkRow;
 
 // Which of a tap's rerouters are placed.
+// Stays (no plainer): four questions, each with an answer of its own: columns answer the head's and the link's, rows the two others.
 #[derive(Clone, Copy)]
 pub struct Answers {
     pub head: bool,
@@ -15,6 +16,7 @@ pub struct Answers {
 }
 
 // The answers of the k-th tap.
+// Stays (no plainer): the answers of columns are numbers in the lent rows of questions, and the flags of rows are read beside them with the same test.
 pub(crate) fn answers_at(asked: &[WorkRow], flags: &[u8], bricks: usize, k: usize) -> Answers
     requires { AnswersRoom asked.now flags.now bricks k }
     ensures { told result ≡ told_in asked.now flags.now bricks k }

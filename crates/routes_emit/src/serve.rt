@@ -8,47 +8,47 @@ ghost use Rattle.routes_taps.specs.Taps.{LaneOf, tap_of, TapRanges, TapTarget};
 ghost use Rattle.routes_emit.specs.Emitting.{Ready, Spends, Becomes, Delivered, told, gate_side_by};
 
 use crate::answers::Answers;
-use crate::chain::{Emission, ROLE_GUTTER, chain_on, row_rerouter};
+use crate::chain::{Emission, row_rerouter};
 use base::ids::NodeId;
 use base::rows::{BusWireRow, RerouterRow};
-use routes::bus::push_delivery;
+use routes::bus::{Part, Role, Rotation, push_delivery};
 use routes_taps::taps::{Lane, TAP_RESERVE, Tap};
-
-const PART_GATE_SIDE: u32 = 5;
 
 // R10: a gate-side rerouter, where its answer says so.
 fn with_gate_side(
+    e: &mut Emission,
     rerouters: &mut [RerouterRow],
     bus_wires: &mut [BusWireRow],
-    e: Emission,
     l: Lane,
     t: Tap,
     level: u32,
     answers: Answers,
-) -> Emission
-    requires ready { Ready 1 1 rerouters.old bus_wires.old e }
+)
+    requires ready { Ready 1 1 rerouters.old bus_wires.old e.old }
     requires tap_ranges { TapRanges t }
-    ensures spends { Spends 1 1 rerouters.old bus_wires.old e rerouters.new bus_wires.new result }
-    ensures becomes { (b : Board) (ts : List LaidTap) (ps : List PageLanes) → LaneOf b ts ps (tap_of t) l → Becomes (λ s. gate_side_by b ts ps answers.gate_side s (tap_of t) level) rerouters.old bus_wires.old e rerouters.new bus_wires.new result }
+    ensures spends { Spends 1 1 rerouters.old bus_wires.old e.old rerouters.new bus_wires.new e.new }
+    ensures becomes { (b : Board) (ts : List LaidTap) (ps : List PageLanes) → LaneOf b ts ps (tap_of t) l → Becomes (λ s. gate_side_by b ts ps answers.gate_side s (tap_of t) level) rerouters.old bus_wires.old e.old rerouters.new bus_wires.new e.new }
 {
     if answers.gate_side {
-        let y = t.y - TAP_RESERVE;
-        return chain_on(
-            rerouters,
-            bus_wires,
-            e,
-            row_rerouter(l, t.row, level, y, 0, ROLE_GUTTER, PART_GATE_SIDE),
+        let new = row_rerouter(
+            l,
+            Some(t.row),
+            level,
+            t.y - TAP_RESERVE,
+            Rotation::Deg0,
+            Role::Gutter,
+            Part::GateSide,
         );
+        e.chain_on(rerouters, bus_wires, new);
     }
-    e
 }
 
 // R11: a delivery, from the end of the row's chain.
-fn deliver(bus_wires: &mut [BusWireRow], e: Emission, t: Tap) -> Emission
-    requires { e.count.wires < length bus_wires.old }
-    ensures { Delivered bus_wires.old e t bus_wires.new result }
+fn deliver(e: &mut Emission, bus_wires: &mut [BusWireRow], t: Tap)
+    requires { e.old.count.wires < length bus_wires.old }
+    ensures { Delivered bus_wires.old e.old t bus_wires.new e.new }
 {
-    let count = push_delivery(
+    e.count = push_delivery(
         bus_wires,
         e.count,
         e.row_end,
@@ -56,24 +56,23 @@ fn deliver(bus_wires: &mut [BusWireRow], e: Emission, t: Tap) -> Emission
         t.port,
         t.wire,
     );
-    Emission { count, ..e }
 }
 
 // A tap served: its gate-side rerouter first.
 pub(crate) fn serve(
+    e: &mut Emission,
     rerouters: &mut [RerouterRow],
     bus_wires: &mut [BusWireRow],
-    e: Emission,
     l: Lane,
     t: Tap,
     level: u32,
     answers: Answers,
-) -> Emission
-    requires ready { Ready 1 2 rerouters.old bus_wires.old e }
+)
+    requires ready { Ready 1 2 rerouters.old bus_wires.old e.old }
     requires tap_ranges { TapRanges t }
-    ensures spends { Spends 1 2 rerouters.old bus_wires.old e rerouters.new bus_wires.new result }
-    ensures becomes { (b : Board) (ts : List LaidTap) (ps : List PageLanes) → LaneOf b ts ps (tap_of t) l → TapTarget b t → Becomes (λ s. serve_by b ts ps (told answers) s (tap_of t) level) rerouters.old bus_wires.old e rerouters.new bus_wires.new result }
+    ensures spends { Spends 1 2 rerouters.old bus_wires.old e.old rerouters.new bus_wires.new e.new }
+    ensures becomes { (b : Board) (ts : List LaidTap) (ps : List PageLanes) → LaneOf b ts ps (tap_of t) l → TapTarget b t → Becomes (λ s. serve_by b ts ps (told answers) s (tap_of t) level) rerouters.old bus_wires.old e.old rerouters.new bus_wires.new e.new }
 {
-    let gated = with_gate_side(rerouters, bus_wires, e, l, t, level, answers);
-    deliver(bus_wires, gated, t)
+    with_gate_side(e, rerouters, bus_wires, l, t, level, answers);
+    deliver(e, bus_wires, t);
 }

@@ -14,74 +14,73 @@ use crate::row::start_row;
 use crate::serve::serve;
 use base::rows::{BusWireRow, RerouterRow};
 use routes::levels::Level;
-use routes_taps::taps::{Lane, News, Tap};
+use routes::news::News;
+use routes_taps::taps::{Lane, Tap};
 
 // A new group begins, where the tap is its first.
+// Stays (no plainer): a step takes of what is read of a tap only what it goes by, and its contract speaks of no more; a struct of the lane and the answers,
+// which most steps take, would stand before each of its parts in every contract.
 fn with_group(
+    e: &mut Emission,
     rerouters: &mut [RerouterRow],
     bus_wires: &mut [BusWireRow],
-    e: Emission,
     l: Lane,
     news: News,
     answers: Answers,
-) -> Emission
-    requires ready { Ready 2 2 rerouters.old bus_wires.old e }
+)
+    requires ready { Ready 2 2 rerouters.old bus_wires.old e.old }
     requires lane_ranges { LaneRanges l }
-    ensures spends { Spends 2 2 rerouters.old bus_wires.old e rerouters.new bus_wires.new result }
-    ensures becomes { (b : Board) (ts : List LaidTap) (ps : List PageLanes) (t : LaidTap) → LaneOf b ts ps t l → Becomes (begin_group b ts ps (told answers) t news) rerouters.old bus_wires.old e rerouters.new bus_wires.new result }
+    ensures spends { Spends 2 2 rerouters.old bus_wires.old e.old rerouters.new bus_wires.new e.new }
+    ensures becomes { (b : Board) (ts : List LaidTap) (ps : List PageLanes) (t : LaidTap) → LaneOf b ts ps t l → Becomes (begin_group b ts ps (told answers) t news) rerouters.old bus_wires.old e.old rerouters.new bus_wires.new e.new }
 {
-    if news.group {
-        start_group(rerouters, bus_wires, e, l, answers)
-    } else {
-        e
+    if news.begins_group() {
+        start_group(e, rerouters, bus_wires, l, answers);
     }
 }
 
 // A new group and a new row begin before the tap is served.
 fn begin(
+    e: &mut Emission,
     rerouters: &mut [RerouterRow],
     bus_wires: &mut [BusWireRow],
-    e: Emission,
     l: Lane,
     news: News,
     level: Level,
     answers: Answers,
-) -> Emission
-    requires ready { Ready 4 4 rerouters.old bus_wires.old e }
+)
+    requires ready { Ready 4 4 rerouters.old bus_wires.old e.old }
     requires lane_ranges { LaneRanges l }
     requires level_range { LevelRange level }
-    ensures spends { Spends 4 4 rerouters.old bus_wires.old e rerouters.new bus_wires.new result }
-    ensures becomes { (b : Board) (ts : List LaidTap) (ps : List PageLanes) (t : LaidTap) → LaneOf b ts ps t l → Becomes (begin_tap b ts ps (told answers) t news (stop_level_of level)) rerouters.old bus_wires.old e rerouters.new bus_wires.new result }
+    ensures spends { Spends 4 4 rerouters.old bus_wires.old e.old rerouters.new bus_wires.new e.new }
+    ensures becomes { (b : Board) (ts : List LaidTap) (ps : List PageLanes) (t : LaidTap) → LaneOf b ts ps t l → Becomes (begin_tap b ts ps (told answers) t news (stop_level_of level)) rerouters.old bus_wires.old e.old rerouters.new bus_wires.new e.new }
 {
-    let grouped = with_group(rerouters, bus_wires, e, l, news, answers);
-    if news.row {
-        start_row(rerouters, bus_wires, grouped, l, level, answers)
-    } else {
-        grouped
+    with_group(e, rerouters, bus_wires, l, news, answers);
+    if news.begins_row() {
+        start_row(e, rerouters, bus_wires, l, level, answers);
     }
 }
 
 // One tap: its group, its row, its gate-side rerouter, its delivery.
 pub(crate) fn emit_tap(
+    e: &mut Emission,
     rerouters: &mut [RerouterRow],
     bus_wires: &mut [BusWireRow],
-    e: Emission,
     l: Lane,
     t: Tap,
     news: News,
     level: Level,
     answers: Answers,
-) -> Emission
-    requires ready { Ready 5 6 rerouters.old bus_wires.old e }
+)
+    requires ready { Ready 5 6 rerouters.old bus_wires.old e.old }
     requires lane_ranges { LaneRanges l }
     requires tap_ranges { TapRanges t }
     requires level_range { LevelRange level }
-    ensures spends { Spends 5 6 rerouters.old bus_wires.old e rerouters.new bus_wires.new result }
-    ensures becomes { (b : Board) (ts : List LaidTap) (ps : List PageLanes) → LaneOf b ts ps (tap_of t) l → TapTarget b t → Becomes (tap_emitted b ts ps (told answers) (tap_of t) news (stop_level_of level)) rerouters.old bus_wires.old e rerouters.new bus_wires.new result }
+    ensures spends { Spends 5 6 rerouters.old bus_wires.old e.old rerouters.new bus_wires.new e.new }
+    ensures becomes { (b : Board) (ts : List LaidTap) (ps : List PageLanes) → LaneOf b ts ps (tap_of t) l → TapTarget b t → Becomes (tap_emitted b ts ps (told answers) (tap_of t) news (stop_level_of level)) rerouters.old bus_wires.old e.old rerouters.new bus_wires.new e.new }
 {
-    let begun = begin(rerouters, bus_wires, e, l, news, level, answers);
+    begin(e, rerouters, bus_wires, l, news, level, answers);
     match level {
-        Level::Dropped => begun,
-        Level::Shared(x) | Level::Own(x) => serve(rerouters, bus_wires, begun, l, t, x, answers),
+        Level::Dropped => {}
+        Level::Shared(x) | Level::Own(x) => serve(e, rerouters, bus_wires, l, t, x, answers),
     }
 }

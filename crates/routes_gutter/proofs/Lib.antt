@@ -4,5 +4,4 @@ pub mod Askable
 pub mod Emitted
 pub mod Heights
 pub mod Boards
-pub mod Loops
 pub mod Settling

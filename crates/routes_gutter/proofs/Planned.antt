@@ -3,7 +3,7 @@ use Prim.Native.Nat.{ℕ, ◌+◌, ◌*◌, ◌≤◌}
 use native.Mathlib.Omega.{arith}
 use mathlib.Core.Path.{◌≡◌, refl, sym, ap, ◌∙◌}
 use mathlib.Core.List.{List, [], ◌∷◌}
-use lib.ListN.{length}
+use lib.ListN.{length, take}
 use lib.Seq.{length-take-le}
 use borrow.Author.Tests.{le-leb}
 use Rattle.std.proofs.Common.{Ok, Err}
@@ -13,7 +13,9 @@ use Rattle.sheet.specs.Table.{library_most}
 use Rattle.board.specs.Board.{Board}
 use Rattle.board.specs.Demands.{PageLanes}
 use Rattle.board.specs.Planning.{refused, lanes_for, planning, records}
-use Rattle.board.specs.Walk.{WithinLibrary}
+use Rattle.board.specs.Accepted.{Accepted}
+use Rattle.board.specs.Sections.{SectionsIn, SectionsCut}
+use Rattle.board.specs.Walk.{WithinLibrary, counts_in}
 use Rattle.board.proofs.Accepting.{sheet_accepted}
 use Rattle.board.proofs.Planning.{lanes_from}
 use Rattle.board.specs.Tables.{tap_in}
@@ -48,7 +50,23 @@ work_again w n l p q r s t u =
 module _ (most : Counts) (text : List ℕ) (lent : Lent) (low : WithinLibrary most) (rows facts taps groups demands keys marks rerouters bus_wires ports : List (List ℕ))
     (n : ℕ) (work : WorkLent lent.work n facts taps groups demands keys marks) (bus : BusLent lent marks rerouters bus_wires ports) (c : Counts) (m : ℕ)
     (told : LanesTold rows facts taps groups (planning most (fits_lent lent) text) c m) where
-  pub rows_ready : RowsReady told.on_board told.lanes rows c m facts taps groups demands keys marks rerouters bus_wires × (length told.on_board.wires ≤ length ports)
+  -- Its records can be cut into sections.
+  pub rows_cut : SectionsIn told.on_board rows × (c ≡ counts_in told.on_board) × Accepted told.on_board
+  rows_cut =
+      let b = told.on_board in
+      (told.tables.sections, told.counted, sheet_accepted most text b low (lanes_from most text (fits_lent lent) b told.lanes told.is).accepted)
+
+  -- Its taps are the first of their slice.
+  pub taps_front : m ≤ length taps
+  unfolding records
+  taps_front =
+      let b = told.on_board in
+      let fw = (fits_all lent b (lanes_from most text (fits_lent lent) b told.lanes told.is).fitting).work in
+      let ts = work.taps_lent in
+      omega (arith, told.tables.few)
+
+  pub rows_ready : RowsReady told.on_board told.lanes told.on_board.pages told.on_board.nodes told.on_board.wires facts (take m taps) groups demands keys marks rerouters bus_wires
+      × (length told.on_board.wires ≤ length ports)
   unfolding records
   rows_ready =
       let b = told.on_board in
@@ -57,22 +75,18 @@ module _ (most : Counts) (text : List ℕ) (lent : Lent) (low : WithinLibrary mo
       let fit = fits_all lent b from.fitting in
       let fw = fit.work in let fr = fit.rerouters in let fb = fit.bus_wires in let fp = fit.ports in
       let fs = work.facts_lent in let ts = work.taps_lent in let gs = work.groups_lent in let ds = work.demands_lent in let ks = work.keys_lent in
-      let front : m ≤ length taps = omega (arith, t.few) in
       let ml = bus.marks_lent in let rl = bus.rerouters_lent in let bl = bus.wires_lent in let pl = bus.ports_lent in (
         record {
-          sections = t.sections;
-          front = front;
-          counted = told.counted;
           ready =
               record {
-                accepted = sheet_accepted most text b low from.accepted;
+                accepted = rows_cut.2;
                 pages_are = refl;
                 nodes_are = refl;
                 wires_are = refl;
                 nodes_known = t.nodes_known;
                 wires_known = t.wires_known;
-                count = omega (arith, t.few, length-take-le m taps front);
-                taps_are = view_front tap_in taps m front ∙ t.taps_are;
+                count = omega (arith, t.few, length-take-le m taps taps_front);
+                taps_are = view_front tap_in taps m taps_front ∙ t.taps_are;
                 plan = t.lanes_are;
                 groups_known = t.groups_known;
                 pages_known = t.pages_known;
@@ -85,6 +99,11 @@ module _ (most : Counts) (text : List ℕ) (lent : Lent) (low : WithinLibrary mo
         },
         omega arith,
       )
+
+-- A planned board by its sections as they are cut.
+pub ready_cut : {b : Board} {ps : List PageLanes} {pages nodes chips inner execs wires facts taps groups laid stops marks rerouters bus_wires : List (List ℕ)} → SectionsCut b pages nodes chips inner execs wires
+    → RowsReady b ps b.pages b.nodes b.wires facts taps groups laid stops marks rerouters bus_wires → RowsReady b ps pages nodes wires facts taps groups laid stops marks rerouters bus_wires
+ready_cut k r = rw (k.pages_cut, k.nodes_cut, k.wires_cut) r
 
 -- Buffers as long as is asked.
 pub bus_lent : {a : ℕ} (asked : Asked) (rows : List ℕ) (marks rerouters bus_wires ports : List (List ℕ)) → asked ≡ asked_for (length rerouters ∷ length bus_wires ∷ length ports ∷ a ∷ []) rows

@@ -30,7 +30,7 @@ use Rattle.routes_taps.specs.Taps.{LowLevel, LaneInRange, LaidInRange, Tables, T
 use Rattle.routes.specs.Plan.{bus_of, laid_groups, group_count}
 use Rattle.routes.specs.Rerouters.{TAP_RESERVE, emit}
 use Rattle.routes_levels.proofs.TapTables.{laid_facts, pages_rise}
-use Rattle.routes.proofs.Laid.{of_laid}
+use Rattle.routes.proofs.LaidTaps.{of_laid}
 use Rattle.routes_taps.proofs.Reaching.{stops_count}
 use Rattle.routes_gutter.specs.Lay.{LanesReady}
 use Rattle.board.proofs.Reach.{REACH_MOST, top_most}

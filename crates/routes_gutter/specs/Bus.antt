@@ -1,11 +1,8 @@
 -- A planned board in the tables, and its lanes' bus in the buffers. No rule stands here.
-use Rattle.std.specs.Prelude.{ℕ, ◌*◌, ◌≤◌, ◌≡◌, List, length, take}
-use Rattle.sheet.specs.declared.Counts.{Counts}
+use Rattle.std.specs.Prelude.{ℕ, ◌*◌, ◌≤◌, ◌≡◌, List, length}
 use Rattle.board.specs.Board.{Board}
 use Rattle.board.specs.Demands.{PageLanes}
-use Rattle.board.specs.Walk.{counts_in}
 use Rattle.board_plan.specs.declared.Lent.{Lent}
-use Rattle.board_plan.specs.TextPlan.{SectionsIn}
 use Rattle.routes.specs.Bus.{Bus}
 use Rattle.routes.specs.Buffers.{rerouter_row, wire_row}
 use Rattle.routes.specs.Tables.{written_over}
@@ -20,13 +17,10 @@ pub record BusLent (lent : Lent) (marks rerouters bus_wires ports : List (List �
   pub wires_lent : lent.bus_wires ≤ length bus_wires
   pub ports_lent : lent.ports ≤ length ports
 
--- A planned board whose records stand in rows, with room for its lanes.
-pub record RowsReady (b : Board) (ps : List PageLanes) (rows : List (List ℕ)) (counts : Counts) (m : ℕ) (facts taps groups laid stops marks rerouters bus_wires : List (List ℕ)) : Type 0 where
-  pub sections : SectionsIn b rows
-  pub front : m ≤ length taps
-  pub counted : counts ≡ counts_in b
-  pub ready : LanesReady b ps b.pages b.nodes b.wires facts groups (take m taps) rerouters bus_wires
-  pub room : LayingRoom b.nodes b.wires laid stops marks
+-- A planned board in tables, with room for its lanes.
+pub record RowsReady (b : Board) (ps : List PageLanes) (pages nodes wires facts taps groups laid stops marks rerouters bus_wires : List (List ℕ)) : Type 0 where
+  pub ready : LanesReady b ps pages nodes wires facts groups taps rerouters bus_wires
+  pub room : LayingRoom nodes wires laid stops marks
 
 -- The rows of a bus stand in the buffers, and so many they are.
 pub record BusStands (bus : Bus) (old old_wires oldPorts rerouters bus_wires ports : List (List ℕ)) (held : BusCounts) : Type 0 where

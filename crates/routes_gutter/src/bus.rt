@@ -6,9 +6,11 @@ ghost use Rattle.routes_gutter.specs.Calls.{bus_fits, lay_call, BusCalled};
 use crate::laying::{BusLaid, lay_and_settle};
 use base::refusal::Refusal;
 use base::rows::{BusWireRow, PortRow, Record, RerouterRow, WorkRow};
-use board_plan::{ANSWERS_MOST, MARK_ROWS, ask, plan_text};
+use board::sections::cut_sections;
+use board_plan::{ANSWERS_MOST, ask, plan_text, work_lengths};
 
 // The lanes of a sheet's board, laid, or a refusal. Each slice of work space has a row for each record, the marks five.
+// Stays (C interface): each slice of work space and each buffer that C lends goes by itself, here and below.
 pub fn lay_bus(
     text: &[u8],
     rerouters: &mut [RerouterRow],
@@ -26,28 +28,20 @@ pub fn lay_bus(
         (work_rows records.old facts.old taps.old groups.old demands.old keys.old marks.old)))
         rerouters.old bus_wires.old ports.old rerouters.new bus_wires.new ports.new result }
 {
+    let work = work_lengths(records, facts, taps, groups, demands, keys, marks);
     let asked = ask(
         [rerouters.len(), bus_wires.len(), ports.len(), ANSWERS_MOST],
-        [
-            records.len(),
-            facts.len(),
-            taps.len(),
-            groups.len(),
-            demands.len(),
-            keys.len(),
-            marks.len() / MARK_ROWS,
-        ],
+        work,
     );
     let planned = plan_text(
         text, asked, records, facts, taps, groups, demands, keys, marks,
     )?;
     let m = planned.taps?;
+    let s = cut_sections(records, planned.counts);
     Ok(lay_and_settle(
-        records,
-        planned.counts,
-        m,
+        s,
         facts,
-        taps,
+        &mut taps[..m],
         groups,
         demands,
         keys,

@@ -129,8 +129,8 @@ nothing_found q call oldHits old old_wires oldPorts oldAnswers e d =
     rw d (record { answer = refl; hits_are = refl; rerouters_are = refl; wires_are = refl; ports_are = refl; answers_are = refl })
 
 -- The finished plan in the buffers.
-module _ {b : Board} {ps : List PageLanes} {rows : List (List ℕ)} {c : Counts} {m : ℕ} {facts taps groups demands keys marks old old_wires oldPorts oldAnswers : List (List ℕ)}
-    (ready : PlanReady b ps rows c m facts taps groups demands keys marks old old_wires oldPorts oldAnswers) {rerouters bus_wires ports : List (List ℕ)} (held : BusCounts)
+module _ {b : Board} {ps : List PageLanes} {pages nodes wires facts taps groups demands keys marks old old_wires oldPorts oldAnswers : List (List ℕ)}
+    (ready : PlanReady b ps pages nodes wires facts taps groups demands keys marks old old_wires oldPorts oldAnswers) {rerouters bus_wires ports : List (List ℕ)} (held : BusCounts)
     (stands : BusStands (finished b ps) old old_wires oldPorts rerouters bus_wires ports held) where
   abbrev bus : Bus
   bus = finished b ps
@@ -143,7 +143,7 @@ module _ {b : Board} {ps : List PageLanes} {rows : List (List ℕ)} {c : Counts}
   rows_there lr lw =
       let t = ready.laying.ready in
       let f0 = few.0 in let f1 = few.1 in
-      let r0 = t.bus_room.0 in let r1 = t.bus_room.1 in
+      let r0 = t.bus_room.0 in let r1 = t.bus_room.1 in let lk = ap length t.wires_are in
       let n = stands.rerouter_count in let k = stands.wires in
       (omega arith, omega arith)
 
@@ -165,8 +165,9 @@ module _ {b : Board} {ps : List PageLanes} {rows : List (List ℕ)} {c : Counts}
   back : bus_held rerouters held.rerouters bus_wires held.bus_wires ports held.ports ≡ bus
   back =
       let t = ready.laying.ready in
+      let r0 = t.bus_room.0 in let r1 = t.bus_room.1 in let lk = ap length t.wires_are in
       (λ i. bus_held (stands.rerouters_are i) (stands.rerouter_count i) (stands.wires_are i) (stands.wires i) (stands.ports_are i) (stands.suppressed i))
-      ∙ done_back b t.accepted ps t.plan old old_wires oldPorts t.bus_room.0 t.bus_room.1 ready.port_room
+      ∙ done_back b t.accepted ps t.plan old old_wires oldPorts (omega arith) (omega arith) ready.port_room
 
   rerouters_back : view rerouter_in rerouters held.rerouters ≡ bus.rerouters
   unfolding bus_held

@@ -4,10 +4,11 @@ ghost use Rattle.base.specs.Views.{view};
 ghost use Rattle.routes.specs.Buffers.{rerouter_in, wire_in};
 ghost use Rattle.routes_hits.specs.Hits.{lifted as liftedOf, on_board, is_under, meets as meetsOf, run_under, wire_under};
 
-use base::numbers::MISSING;
+use base::numbers::{MISSING, REROUTER_SIZE};
 use base::rows::{BusWireRow, RerouterRow};
 
 // H1: a page, a range of x and a range of y. The four numbers of the ranges are in two's complement.
+// Stays (C interface): C hands the four over as numbers of 32 bits, like the coordinates in the rows that it reads.
 #[repr(C)]
 #[derive(Clone, Copy)]
 pub struct PageBox {
@@ -19,18 +20,16 @@ pub struct PageBox {
 }
 
 // What is added to a number in two's complement so that the least one is 0.
-const HALF: u64 = 2_147_483_648;
+const HALF: u32 = 2_147_483_648;
 
-const WHOLE: u64 = 4_294_967_296;
-
-// A rerouter's extent, `2 * REROUTER_HALF`.
-const SIZE: u64 = 2;
+// A rerouter's extent.
+const SIZE: u64 = REROUTER_SIZE as u64;
 
 // H1: a number in two's complement, counted from the least one.
 fn lifted(c: u32) -> u64
     ensures { result ≡ liftedOf c }
 {
-    (c as u64 + HALF) % WHOLE
+    u64::from(c.wrapping_add(HALF))
 }
 
 // H6: whether the box is on a board of so many pages.
@@ -80,10 +79,11 @@ pub(crate) fn is_wire_under(q: PageBox, rerouters: &[RerouterRow], wire: &BusWir
     if wire[1] != MISSING || wire[3] != MISSING {
         return false;
     }
-    let from = wire[0] as usize;
-    let to = wire[2] as usize;
-    if rerouters.len() <= from || rerouters.len() <= to {
+    let Some(from) = rerouters.get(wire[0] as usize) else {
         return false;
-    }
-    is_run_under(q, &rerouters[from], &rerouters[to])
+    };
+    let Some(to) = rerouters.get(wire[2] as usize) else {
+        return false;
+    };
+    is_run_under(q, from, to)
 }

@@ -7,7 +7,8 @@ use crate::boxes::{PageBox, is_on_board};
 use crate::list::{HitCounts, list_hits};
 use base::refusal::{Reason, Refusal};
 use base::rows::{BusWireRow, PageRow, PortRow, Record, RerouterRow, WorkRow};
-use board_plan::{MARK_ROWS, ask, plan_text};
+use board::sections::cut_sections;
+use board_plan::{ask, plan_text, work_lengths};
 use routes_calls::route::finish_plan;
 use routes_gutter::laying::BusLaid;
 
@@ -15,7 +16,8 @@ use routes_gutter::laying::BusLaid;
 pub const HITS_A_WIRE: usize = 21;
 
 // The counts of hits, how many rows of the plan there are, and how many groups were laid.
-#[derive(Clone, Copy)]
+#[repr(C)]
+#[derive(Clone, Copy, Default)]
 pub struct HitsFound {
     pub hits: HitCounts,
     pub laid: BusLaid,
@@ -23,6 +25,7 @@ pub struct HitsFound {
 
 // The hits of a box on the finished plan of a sheet's board, and that plan, or a refusal. Each slice of work space has a row for each record, the marks five; the
 // hit buffer has 21 numbers for each wire.
+// Stays (C interface): C lends each buffer and each slice of work space by itself; one struct of them all would tell what it left by nested pairs.
 pub fn find_hits(
     text: &[u8],
     q: PageBox,
@@ -50,30 +53,21 @@ pub fn find_hits(
             ports.len().min(hits.len() / HITS_A_WIRE),
             answers.len(),
         ],
-        [
-            records.len(),
-            facts.len(),
-            taps.len(),
-            groups.len(),
-            demands.len(),
-            keys.len(),
-            marks.len() / MARK_ROWS,
-        ],
+        work_lengths(records, facts, taps, groups, demands, keys, marks),
     );
     let planned = plan_text(
         text, asked, records, facts, taps, groups, demands, keys, marks,
     )?;
+    // Stays (no plainer): as in `route_within`, but 9 is tested between planning and laying, where nothing is written yet.
     let counts = planned.counts;
     let m = planned.taps?;
     if !is_on_board(q, counts.pages) {
-        return Err(Refusal {
-            reason: Reason::BadBox,
-            place: 0,
-        });
+        return Err(Reason::BadBox.at(0));
     }
+    let s = cut_sections(records, counts);
+    let taps = &mut taps[..m];
     let laid = finish_plan(
-        records, counts, m, facts, taps, groups, demands, keys, marks, rerouters, bus_wires, ports,
-        answers,
+        s, facts, taps, groups, demands, keys, marks, rerouters, bus_wires, ports, answers,
     );
     let bus = laid.bus;
     let found = list_hits(

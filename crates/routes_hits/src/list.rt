@@ -1,4 +1,6 @@
 // The list of hits: a run of numbers in the hit buffer, the rerouters first.
+// Stays (no plainer): what writes numbers takes the lent slice with the place to write at, and gives the place behind; a struct of the two would tell what it left
+// by nested pairs.
 ghost use Rattle.std.specs.Prelude.{◌≡◌, [], ◌∷◌, ℕ, List, ◌+◌, ◌*◌, ◌≤◌, ◌<◌, length};
 ghost use Rattle.sheet.specs.Written.{Wrote};
 ghost use Rattle.base.specs.Views.{view};
@@ -12,7 +14,7 @@ use base::rows::{BusWireRow, RerouterRow};
 
 // H5: how many rerouters and how many bus wires are hit.
 #[repr(C)]
-#[derive(Clone, Copy)]
+#[derive(Clone, Copy, Default)]
 pub struct HitCounts {
     pub rerouters: usize,
     pub wires: usize,

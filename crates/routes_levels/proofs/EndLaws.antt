@@ -14,23 +14,13 @@ use Rattle.board.specs.Board.{Board}
 use Rattle.board.specs.Rows.{row_top}
 use Rattle.board.specs.Groups.{Tap}
 use Rattle.base.proofs.Bools.{never, pick_true, pick_false}
-use Rattle.routes.specs.Stops.{near, stop_x}
 use Rattle.routes.specs.Levels.{Level, dropped, shared, own, Stop, kept_at, previous_stop, level_with_base, level_of, own_level, find_level}
-use Rattle.routes_levels.specs.Laying.{level_answer, stop_answer, no_end, kept_end, Ends}
+use Rattle.routes_levels.specs.Laying.{stop_answer, no_end, kept_end, Ends}
+use Rattle.board.specs.Index.{found_of}
 use Rattle.routes_levels.specs.declared.laying.GroupEnd.{GroupEnd}
 use Rattle.routes_levels.specs.declared.laying.KeptStop.{KeptStop}
 use Rattle.routes.specs.declared.levels.Level.TheVariants.{Dropped, Shared, Own}
 use Rattle.routes_levels.proofs.Searches.{found_at, found_none}
-
--- The x of a stop, by the previous one's.
-pub stop_shares : (p x : ℕ) (f : Found) → Some p ≡ level_answer f → near x p ≡ true → p ≡ stop_x f x
-stop_shares p x f e t = sym (ap (λ g. stop_x g x) (found_at f p e) ∙ pick_true (near x p) _ _ t)
-
-pub stop_apart : (p x : ℕ) (f : Found) → Some p ≡ level_answer f → near x p ≡ false → x ≡ stop_x f x
-stop_apart p x f e t = sym (ap (λ g. stop_x g x) (found_at f p e) ∙ pick_false (near x p) _ _ t)
-
-pub stop_first : (x : ℕ) (f : Found) → None ≡ level_answer f → x ≡ stop_x f x
-stop_first x f e = sym (ap (λ g. stop_x g x) (found_none f e))
 
 -- A stop's level is what its answer says.
 pub dropped_is : (v : Level) → Dropped ≡ stop_answer v → v ≡ dropped
@@ -73,10 +63,10 @@ module _ (b : Board) (ss : List Stop) (lane base top : ℕ) (end : GroupEnd) (t 
     found_level : level_of b ss lane base t ≡ own_level (find_level ss t.page lane t.row base top)
     found_level = by_kept none other ∙ ap (λ v. own_level (find_level ss t.page lane t.row base v)) (sym top_is)
 
-    pub level_own : (l : ℕ) → Some l ≡ level_answer (find_level ss t.page lane t.row base top) → Own l ≡ stop_answer (level_of b ss lane base t)
+    pub level_own : (l : ℕ) → Some l ≡ found_of (find_level ss t.page lane t.row base top) → Own l ≡ stop_answer (level_of b ss lane base t)
     level_own l e = sym (ap stop_answer (found_level ∙ ap own_level (found_at (find_level ss t.page lane t.row base top) l e)))
 
-    pub level_dropped : None ≡ level_answer (find_level ss t.page lane t.row base top) → Dropped ≡ stop_answer (level_of b ss lane base t)
+    pub level_dropped : None ≡ found_of (find_level ss t.page lane t.row base top) → Dropped ≡ stop_answer (level_of b ss lane base t)
     level_dropped e = sym (ap stop_answer (found_level ∙ ap own_level (found_none (find_level ss t.page lane t.row base top) e)))
 
 -- One more stop of group g changes that group's ends alone.
@@ -94,7 +84,7 @@ module _ {ends : List GroupEnd} {ss : List Stop} (x : Ends ends ss) (s : Stop) (
   others : (h : ℕ) → eqb s.group h ≡ false → h ≡ g → ⊥
   others h e z = eqb-false s.group h e (same ∙ sym z)
 
-  previous_more : (h : ℕ) → h < length ends → (t : Bool) → eqb s.group h ≡ t → (get_or (set ends g end) h no_end).previous ≡ level_answer (elim t [ true ↦ at s.base | false ↦ previous_stop ss h ])
+  previous_more : (h : ℕ) → h < length ends → (t : Bool) → eqb s.group h ≡ t → (get_or (set ends g end) h no_end).previous ≡ found_of (elim t [ true ↦ at s.base | false ↦ previous_stop ss h ])
   previous_more h l true e = ap (λ r. r.previous) (here h (this h e)) ∙ last
   previous_more h l false e = ap (λ r. r.previous) (there h (others h e)) ∙ x.previous h l
 
@@ -122,23 +112,3 @@ module _ {ends : List GroupEnd} {ss : List Stop} (x : Ends ends ss) (s : Stop) (
           (λ w. elim (found (v w)) [ true ↦ elim (eqb (sym b w) base) [ true ↦ v w | false ↦ none ] | false ↦ level_with_base ss h base ])
           ∙ sym (kept_is end k base is) ∙ ap (λ q. kept_end q base) (sym (here h (this h e)))
       step h base r false e = kept_there_lem h base r e
-
-  -- A dropped stop leaves the last kept one.
-  pub ends_dropped : kept_at s.level ≡ none → end.kept ≡ (get_or ends g no_end).kept → Ends (set ends g end) (s ∷ ss)
-  ends_dropped v is = more step
-    where
-      step : (h base : ℕ) → h < length ends → (t : Bool) → eqb s.group h ≡ t
-          → elim (t && found (kept_at s.level)) [ true ↦ elim (eqb s.base base) [ true ↦ kept_at s.level | false ↦ none ] | false ↦ level_with_base ss h base ]
-          ≡ kept_end (get_or (set ends g end) h no_end) base
-      step h base r true e =
-          let at_g : h ≡ g = this h e in
-          (λ w. elim (found (v w)) [ true ↦ elim (eqb s.base base) [ true ↦ kept_at s.level | false ↦ none ] | false ↦ level_with_base ss h base ])
-          ∙ x.kept h base r ∙ ap (λ i. kept_end (get_or ends i no_end) base) at_g
-          ∙ ap (λ q. elim q [ Some k ↦ elim (eqb k.base base) [ true ↦ at k.level | false ↦ none ] | None ↦ none ]) (sym is)
-          ∙ ap (λ q. kept_end q base) (sym (here h at_g))
-      step h base r false e = kept_there_lem h base r e
-
--- Stops that differ in nothing but how their level is written.
-pub stop_with_lem : (p lane g r base : ℕ) (u v : Level) → u ≡ v
-    → ◌≡◌ {A = Stop} (record { page = p; lane = lane; group = g; row = r; base = base; level = u }) (record { page = p; lane = lane; group = g; row = r; base = base; level = v })
-stop_with_lem p lane g r base u v e = λ w. record { page = p; lane = lane; group = g; row = r; base = base; level = e w }

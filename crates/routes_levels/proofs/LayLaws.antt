@@ -1,13 +1,11 @@
 -- Laying stops: one more stop keeps the ends and the runs, and is the definition's.
-use Prim.Native.Nat.{ℕ, suc, ◌+◌, ◌-◌, ◌≤◌, ◌<◌}
+use Prim.Native.Nat.{ℕ, ◌+◌, ◌≤◌, ◌<◌}
 use mathlib.Core.Path.{◌≡◌, refl, ap, sym, subst, ◌∙◌}
-use mathlib.Core.Bool.{true, false, not, ◌&&◌}
+use mathlib.Core.Bool.{true, false}
 use mathlib.Core.List.{List, [], ◌∷◌}
 use native.Mathlib.Numerals.{add-one}
 use native.Mathlib.Omega.{arith}
-use lib.Dec.{eqb}
 use lib.ListN.{length, get_or, set, replicate, length-replicate, get_or-replicate}
-use borrow.Author.Tests.{eq-eqb, ne_eqb}
 use Rattle.board.specs.Board.{Board, field}
 use Rattle.board.specs.Groups.{Tap}
 use Rattle.board.specs.Demands.{PageLanes}
@@ -19,7 +17,8 @@ use Rattle.routes.specs.Stops.{new_row, stop_x}
 use Rattle.routes.specs.Levels.{Level, Stop, kept_at, previous_stop, level_with_base, level_of, stop_for, stops_of, lane_for}
 use Rattle.routes.specs.Tables.{stop_in}
 use Rattle.routes.specs.Holding.{stop_level_of}
-use Rattle.routes_levels.specs.Laying.{level_answer, stop_answer, no_end, kept_end, Ends, StopIndex, WIRES_MOST}
+use Rattle.routes_levels.specs.Laying.{stop_answer, no_end, kept_end, Ends, StopIndex, WIRES_MOST}
+use Rattle.board.specs.Index.{found_of}
 use Rattle.routes_levels.specs.declared.laying.GroupEnd.{GroupEnd}
 use Rattle.routes_levels.specs.Pages.{lane_key, claim_of, levels_on, claims_on, Grown, Runs, PageRuns, RoomFor, Onward, StopLaid}
 use Rattle.routes_levels.proofs.PageLaws.{level_kept, claim_kept, none_later}
@@ -82,25 +81,11 @@ module _ {n : ℕ} {stops : List (List ℕ)} {ends : List GroupEnd} {s : ℕ} (x
   in_ends : t.group < length ends
   in_ends = let r = x.group_room in omega arith
 
-  pub end_previous : (get_or ends g no_end).previous ≡ level_answer (previous_stop (view stop_in stops s) t.group)
+  pub end_previous : (get_or ends g no_end).previous ≡ found_of (previous_stop (view stop_in stops s) t.group)
   end_previous = ap (λ h. (get_or ends h no_end).previous) is ∙ x.lasts.previous t.group in_ends
 
   pub end_kept : (base : ℕ) → level_with_base (view stop_in stops s) t.group base ≡ kept_end (get_or ends g no_end) base
   end_kept base = x.lasts.kept t.group base in_ends ∙ ap (λ h. kept_end (get_or ends h no_end) base) (sym is)
-
--- Whether a tap is the first of its group on its row, by the row before it.
-module _ (laid : List (List ℕ)) (k : ℕ) (t : Tap) (some : k ≡ 0 → ⊥) where
-  abbrev u : Tap
-  u = tap_in (get_or laid (k - 1) [])
-
-  after_one : new_row (view tap_in laid k) t ≡ not (eqb u.group t.group && eqb u.row t.row)
-  after_one = let e : k ≡ suc (k - 1) = omega arith in ap (λ i. new_row (view tap_in laid i) t) e
-
-  pub group_differs : (u.group ≡ t.group → ⊥) → true ≡ new_row (view tap_in laid k) t
-  group_differs d = sym (after_one ∙ ap (λ v. not (v && eqb u.row t.row)) (ne_eqb u.group t.group d))
-
-  pub row_decides : u.group ≡ t.group → not (eqb u.row t.row) ≡ new_row (view tap_in laid k) t
-  row_decides e = sym (after_one ∙ ap (λ v. not (v && eqb u.row t.row)) (eq-eqb u.group t.group e))
 
 -- A group's lane, by the number of its row.
 pub room_in_lane : (groups : List (List ℕ)) (row : ℕ) (starts nexts : List ℕ) (g : ℕ) {h : ℕ} → g ≡ h → RoomFor row (field groups h 4) starts nexts → RoomFor row (field groups g 4) starts nexts

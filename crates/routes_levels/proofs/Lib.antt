@@ -2,6 +2,7 @@ pub mod EndLaws
 pub mod LayLaws
 pub mod LevelLaws
 pub mod NearLaws
+pub mod PageEnds
 pub mod PageLaws
 pub mod Paging
 pub mod PickLaws

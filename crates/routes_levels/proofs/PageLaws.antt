@@ -7,19 +7,18 @@ use native.Mathlib.Omega.{arith}
 use native.Mathlib.Decide.{ℕ_discrete}
 use lib.Dec.{eqb}
 use lib.ListN.{length, get_or, take, drop, length-set, length-take, length-drop}
-use lib.Seq.{get_or-set_same, get_or-set_other, get_or-drop, get_or-take}
+use lib.Seq.{get_or-set_other, get_or-drop, get_or-take}
 use borrow.Author.Tests.{eq-eqb, ne_eqb}
 use Rattle.base.specs.Lists.{Found, none, at, any, keep}
 use Rattle.base.specs.Runs.{having}
 use Rattle.base.specs.Growing.{stretch, run_in, Growing, Put}
 use Rattle.base.proofs.Bools.{both, false_first, and_false, pick_true, pick_false}
 use Rattle.base.proofs.GrowLaws.{still_growing, run_more, run_same}
-use Rattle.board.specs.Board.{field}
 use Rattle.routes.specs.Stops.{near}
 use Rattle.routes.specs.Levels.{Level, dropped, shared, own, Stop, kept_at, kept_there, claim_near, load_at, unclaimed}
 use Rattle.routes_levels.specs.Laying.{ROWS_MOST, LANES_MOST}
 use Rattle.routes_levels.specs.Search.{near_one, load_in, open_in, Walked}
-use Rattle.routes_levels.specs.Pages.{KEYS, lane_key, on_top, claim_of, held_at, levels_on, claims_on, Grown, Runs, NoneFrom, PageRuns, RoomFor, Onward, OnePage}
+use Rattle.routes_levels.specs.Pages.{KEYS, lane_key, on_top, claim_of, held_at, levels_on, claims_on, Grown, Runs, NoneFrom, PageRuns, RoomFor, Onward}
 
 -- A stop more at its place, and at any other.
 module _ (place : Stop → ℕ) (holds : Level → Found) (s : Stop) (ss : List Stop) (p : ℕ) where
@@ -97,28 +96,10 @@ module _ {rows lanes : ℕ → List ℕ} {starts nexts xs : List ℕ} (x : Runs 
 pub put_beside : {r v : ℕ} {nexts xs nexts' xs' : List ℕ} → Put r v nexts xs nexts' xs' → (k : ℕ) → (k ≡ r → ⊥) → get_or nexts' k 0 ≡ get_or nexts k 0
 put_beside {r} {v} {nexts} p k e = rw p.onward (get_or-set_other nexts r k (suc (get_or nexts r 0)) 0 e)
 
-put_there : {r v : ℕ} {nexts xs nexts' xs' : List ℕ} → Put r v nexts xs nexts' xs' → r < length nexts → get_or nexts' r 0 ≡ suc (get_or nexts r 0)
-put_there {r} {v} {nexts} p h = rw p.onward (get_or-set_same nexts r (suc (get_or nexts r 0)) 0 h)
-
 pub onward_none : (r q : ℕ) (nexts : List ℕ) → Onward r q nexts nexts
 onward_none r q nexts = record { here = omega arith; there = omega arith; others = λ j a b. refl }
 
-pub onward_one : (r q : ℕ) {v : ℕ} {nexts xs nexts' xs' : List ℕ} → r < q → q < length nexts → Put r v nexts xs nexts' xs' → Onward r q nexts nexts'
-onward_one r q h l p = record { here = omega (arith, put_there p (omega arith)); there = omega (arith, put_beside p q (λ e. omega arith)); others = λ j a b. put_beside p j a }
-
-pub onward_two : (r q k : ℕ) {u v : ℕ} {nexts xs n x nexts' xs' : List ℕ} → k ≡ q → r < q → q < length nexts → length n ≡ length nexts → Put r u nexts xs n x → Put k v n x nexts' xs' → Onward r q nexts nexts'
-onward_two r q k {u} {v} {nexts} {xs} {n} {x} {nexts'} {xs'} is h l long p o' =
-    let o : Put q v n x nexts' xs' = rw is at o' in
-    record {
-      here = omega (arith, put_there p (omega arith), put_beside o r (λ e. omega arith));
-      there = omega (arith, put_there o (omega arith), put_beside p q (λ e. omega arith));
-      others = λ j a b. put_beside o j b ∙ put_beside p j a;
-    }
-
 module _ {row lane : ℕ} {starts nexts xs : List ℕ} {rows lanes rows' lanes' : ℕ → List ℕ} (x : Runs rows lanes starts nexts xs) (room : RoomFor row lane starts nexts) where
-  pub kept_none : (v : Level) → v ≡ dropped → Grown row (kept_at v) rows rows' → Grown lane (claim_of v) lanes lanes' → Runs rows' lanes' starts nexts xs
-  kept_none v e g h = runs_same x (subst (λ u. Grown row (kept_at u) rows rows') e g) (subst (λ u. Grown lane (claim_of u) lanes lanes') e h)
-
   pub kept_shared : {nexts' xs' : List ℕ} (v : Level) (l : ℕ) → v ≡ shared l → Put row l nexts xs nexts' xs'
       → Grown row (kept_at v) rows rows' → Grown lane (claim_of v) lanes lanes' → Runs rows' lanes' starts nexts' xs'
   kept_shared v l e p g h =
@@ -237,9 +218,6 @@ module _ {starts nexts xs : List ℕ} (g : Growing KEYS starts nexts xs) where
   pub run_inside : (k : ℕ) → k < KEYS → (get_or starts k 0 ≤ get_or nexts k 0) × (get_or nexts k 0 ≤ length xs)
   run_inside k h = let b = g.begun k h in let w = g.within k h in let r = g.rising (suc k) KEYS h (omega arith) in let i = g.inside in (b, omega arith)
 
-  pub room_inside : (k : ℕ) → k < KEYS → get_or nexts k 0 < get_or starts (suc k) 0 → get_or nexts k 0 < length xs
-  room_inside k h l = omega (arith, g.rising (suc k) KEYS h (omega arith), g.inside)
-
   abbrev part_of : ℕ → List ℕ
   part_of k = take (get_or nexts k 0 - get_or starts k 0) (drop (get_or starts k 0) xs)
 
@@ -253,10 +231,3 @@ module _ {starts nexts xs : List ℕ} (g : Growing KEYS starts nexts xs) where
         loads = λ x. load_held ss p r x ∙ ap (times x) (sym er) ∙ sym (part_load xs (get_or starts r 0) (get_or nexts r 0) i.0 i.1 x);
         claims = λ x. claims_held ss p l x ∙ ap (λ q. not (any (near x) q)) (sym ek) ∙ sym (part_open xs (get_or starts k 0) (get_or nexts k 0) j.0 j.1 x);
       }
-
--- The taps of one page, one after the other.
-pub page_one : (laid : List (List ℕ)) (a : ℕ) → OnePage laid a (a + 1)
-page_one laid a = record { same = λ i l h. let z : i ≡ a = omega arith in ap (λ j. field laid j 0) z }
-
-pub page_more : (laid : List (List ℕ)) (a e : ℕ) → OnePage laid a e → field laid e 0 ≡ field laid a 0 → OnePage laid a (e + 1)
-page_more laid a e o h = record { same = λ i l m. elim (ℕ_discrete i e) [ yes z ↦ ap (λ j. field laid j 0) z ∙ h | no z ↦ o.same i l (omega (arith, z)) ] }

@@ -10,39 +10,15 @@ use Rattle.board.specs.Demands.{PageLanes}
 use Rattle.routes.specs.Levels.{Stop}
 use Rattle.routes.specs.Tables.{stop_in}
 use Rattle.routes_levels.specs.declared.laying.GroupEnd.{GroupEnd}
-use Rattle.routes_levels.specs.Laying.{Ends, StopIndex, PlacesFit, LaidFits, LaidFacts}
+use Rattle.routes_levels.specs.Laying.{Ends, StopIndex, PlacesFit, LaidFacts}
 use Rattle.routes_levels.specs.Pages.{lane_key, NoneFrom, PageRuns, RoomFor, Onward, Wide, Used, OnePage}
 use Rattle.routes_levels.proofs.PageLaws.{none_above}
 use Rattle.routes_levels.proofs.ShareLaws.{room_for, used_next}
 
 -- Of fewer taps.
 module _ {m n : ℕ} (h : m ≤ n) where
-  pub places_fewer : {groups laid : List (List ℕ)} → PlacesFit groups laid n → PlacesFit groups laid m
-  places_fewer f =
-      record {
-        rows = omega (arith, f.rows);
-        most = omega (arith, f.most);
-        group = λ k l. f.group k (omega arith);
-        row = λ k l. f.row k (omega arith);
-        lane = λ k l. f.lane k (omega arith);
-        pages = λ k l. f.pages k (omega arith);
-      }
-
-  pub fits_fewer : {facts groups laid : List (List ℕ)} → LaidFits facts groups laid n → LaidFits facts groups laid m
-  fits_fewer f =
-      record {
-        places = places_fewer f.places;
-        first = λ k l. f.first k (omega arith);
-        wire = λ k l. f.wire k (omega arith);
-        target = λ k l. f.target k (omega arith);
-        x = λ k l. f.x k (omega arith);
-      }
-
   pub facts_fewer : {b : Board} {ps : List PageLanes} {facts groups laid : List (List ℕ)} → LaidFacts b ps facts groups laid n → LaidFacts b ps facts groups laid m
   facts_fewer f = record { lanes = λ k l. f.lanes k (omega arith); tops = λ k l. f.tops k (omega arith) }
-
-  pub index_fewer : {stops : List (List ℕ)} {ends : List GroupEnd} {s : ℕ} → StopIndex n stops ends s → StopIndex m stops ends s
-  index_fewer x = record { room = omega (arith, x.room); group_room = x.group_room; lasts = x.lasts }
 
 -- The index of tables that are as long as before.
 pub index_kept : {n : ℕ} {stops stops' : List (List ℕ)} {ends ends' : List GroupEnd} {s s' : ℕ} → StopIndex n stops ends s → length stops' ≡ length stops → length ends' ≡ length ends
@@ -73,9 +49,6 @@ module _ (groups laid : List (List ℕ)) (a k : ℕ) (starts nexts : List ℕ) (
       let n : suc (k - a) ≡ k + 1 - a = omega arith in
       let o' : Onward (row (a + (k - a))) (lane_key (lane (a + (k - a)))) nexts nexts' = subst (λ j. Onward (row j) (lane_key (lane j)) nexts nexts') (sym here) o in
       subst (λ i. Used groups laid a i starts nexts') n (used_next groups laid a (k - a) (lane (a + (k - a))) starts nexts nexts' refl u o')
-
-pub used_none : (groups laid : List (List ℕ)) (a : ℕ) (starts nexts : List ℕ) → Used groups laid a 0 starts nexts → Used groups laid a (a - a) starts nexts
-used_none groups laid a starts nexts u = let z : 0 ≡ a - a = omega arith in subst (λ i. Used groups laid a i starts nexts) z u
 
 -- The page that comes next is a later one.
 pub next_page : (groups laid : List (List ℕ)) (n a e : ℕ) (ss : List Stop) → PlacesFit groups laid n → OnePage laid a e → a < e → e < n → (field laid e 0 ≡ field laid a 0 → ⊥)

@@ -5,31 +5,13 @@ use mathlib.Core.Path.{◌≡◌, refl, ap, sym, ◌∙◌}
 use mathlib.Core.Bool.{Bool, true, false}
 use native.Mathlib.Omega.{arith}
 use lib.Dec.{leb}
-use borrow.Author.Tests.{le-leb, lt-leb, leb-true, leb-false}
+use borrow.Author.Tests.{le-leb, lt-leb}
 use Rattle.sheet.specs.Table.{MISSING}
 use Rattle.base.specs.Lists.{Found, none, at}
 use Rattle.base.proofs.Bools.{never, pick_true, pick_false}
-use Rattle.routes.specs.Levels.{STAGGER_STEP, lowest, lighter, lightest, levels_in}
-use Rattle.routes_levels.specs.Laying.{level_answer}
+use Rattle.routes.specs.Levels.{STAGGER_STEP, lighter, lightest}
+use Rattle.board.specs.Index.{found_of}
 pub use Rattle.routes_levels.specs.Search.{least_of, best_from, Best}
-
--- The levels from one on: none, or that one and those from the next on.
-levels_none : (x top : ℕ) → leb (x + STAGGER_STEP) top ≡ false → levels_in x top ≡ 0
-levels_none x top e = let h = leb-false (x + 2) top e in omega arith
-
-levels_more : (x top : ℕ) → leb (x + STAGGER_STEP) top ≡ true → levels_in x top ≡ suc (levels_in (x + STAGGER_STEP) top)
-levels_more x top e = let h = leb-true (x + 2) top e in omega arith
-
-module _ (free : ℕ → Bool) (x top : ℕ) where
-  pub lowest_none : leb (x + STAGGER_STEP) top ≡ false → lowest free x (levels_in x top) ≡ none
-  lowest_none e = ap (lowest free x) (levels_none x top e)
-
-  module _ (e : leb (x + STAGGER_STEP) top ≡ true) where
-    pub lowest_here : free x ≡ true → lowest free x (levels_in x top) ≡ at x
-    lowest_here f = ap (lowest free x) (levels_more x top e) ∙ pick_true (free x) _ _ f
-
-    pub lowest_next : free x ≡ false → lowest free x (levels_in x top) ≡ lowest free (x + STAGGER_STEP) (levels_in (x + STAGGER_STEP) top)
-    lowest_next f = ap (lowest free x) (levels_more x top e) ∙ pick_false (free x) _ _ f
 
 lighter_taken : (load : ℕ → ℕ) (x : ℕ) (f : Found) → load x ≤ least_of load f → lighter load x f ≡ at x
 lighter_taken load x none h = refl
@@ -55,7 +37,7 @@ module _ (ok : ℕ → Bool) (load : ℕ → ℕ) (base count k : ℕ) (best : O
       ∙ (λ w. elim (ok x) [ true ↦ lighter load x (lightest ok load (next w) (count - k)) | false ↦ lightest ok load (next w) (count - k) ])
 
   kept : best_from ok load base count (k - 1) ≡ before → Best ok load base count (k - 1) best least
-  kept e = record { level = h.level ∙ ap level_answer (sym e); lightly = h.lightly ∙ ap (least_of load) (sym e) }
+  kept e = record { level = h.level ∙ ap found_of (sym e); lightly = h.lightly ∙ ap (least_of load) (sym e) }
 
   pub best_passed : ok x ≡ false → Best ok load base count (k - 1) best least
   best_passed t = kept (unrolled ∙ pick_false (ok x) _ _ t)
@@ -73,28 +55,28 @@ module _ (ok : ℕ → Bool) (load : ℕ → ℕ) (base count k : ℕ) (best : O
         let e = h.lightly in
         let l' : load x ≤ least_of load before = omega arith in
         let this : best_from ok load base count (k - 1) ≡ at x = unrolled ∙ pick_true (ok x) _ _ t ∙ lighter_taken load x before l' in
-        record { level = sym (ap level_answer this); lightly = is ∙ sym (ap (least_of load) this) }
+        record { level = sym (ap found_of this); lightly = is ∙ sym (ap (least_of load) this) }
 
 pub best_start : (ok : ℕ → Bool) (load : ℕ → ℕ) (base count k : ℕ) → k ≡ count → Best ok load base count k None MISSING
 unfolding best_from
 best_start ok load base count k e =
     let z : count - k ≡ 0 = omega arith in
     let f : best_from ok load base count k ≡ none = ap (lightest ok load (base + STAGGER_STEP * k)) z in
-    record { level = sym (ap level_answer f); lightly = sym (ap (least_of load) f) }
+    record { level = sym (ap found_of f); lightly = sym (ap (least_of load) f) }
 
 pub best_all : (ok : ℕ → Bool) (load : ℕ → ℕ) (base count k : ℕ) (best : Option ℕ) (least : ℕ) → Best ok load base count k best least → k ≤ 0
-    → best ≡ level_answer (lightest ok load base count)
+    → best ≡ found_of (lightest ok load base count)
 unfolding best_from
 best_all ok load base count k best least h l =
     let from : base + STAGGER_STEP * k ≡ base = omega arith in
     let all : count - k ≡ count = omega arith in
-    h.level ∙ (λ w. level_answer (lightest ok load (from w) (all w)))
+    h.level ∙ (λ w. found_of (lightest ok load (from w) (all w)))
 
 -- What an answer says was found.
-pub found_at : (f : Found) (l : ℕ) → Some l ≡ level_answer f → f ≡ at l
+pub found_at : (f : Found) (l : ℕ) → Some l ≡ found_of f → f ≡ at l
 found_at none l e = never cc
 found_at (at y) l e = ap at (cc)
 
-pub found_none : (f : Found) → None ≡ level_answer f → f ≡ none
+pub found_none : (f : Found) → None ≡ found_of f → f ≡ none
 found_none none e = refl
 found_none (at y) e = never cc

@@ -2,6 +2,7 @@
 use Prim.Native.Nat.{ℕ, zero, suc, ◌+◌, ◌-◌, ◌*◌, ◌≤◌, ◌<◌}
 use mathlib.Core.Path.{◌≡◌, refl, ap, sym, subst, ◌∙◌}
 use mathlib.Core.List.{List}
+use native.Mathlib.Numerals.{add-one}
 use native.Mathlib.Omega.{arith}
 use native.Mathlib.Decide.{dec_lt, ℕ_discrete}
 use lib.ListN.{length, get_or, set, length-set}
@@ -10,7 +11,6 @@ use Rattle.base.specs.Runs.{having, sums}
 use Rattle.base.specs.Growing.{Growing}
 use Rattle.base.proofs.RunLaws.{having_more, having_other, having_most, having_le}
 use Rattle.base.proofs.GrowLaws.{growing_none}
-use Rattle.board.specs.Board.{field}
 use Rattle.routes_levels.specs.Laying.{WIRES_MOST, ROWS_MOST, LANES_MOST}
 use Rattle.routes_levels.specs.Pages.{KEYS, lane_key, RoomFor, Onward, row_at, lane_at, share, Wide, Used}
 
@@ -78,29 +78,22 @@ module _ (groups laid : List (List ℕ)) (a : ℕ) where
       second
 
   -- The counts of the taps from the a-th on, before the i-th and behind it.
-  pub counts_start : (l : List ℕ) → ((k : ℕ) → get_or l k 0 ≡ 0) → (k : ℕ) → get_or l k 0 ≡ share groups laid a k (a - a)
-  counts_start l z k = let e : a - a ≡ 0 = omega arith in z k ∙ sym (share_none k) ∙ ap (share groups laid a k) (sym e)
+  pub counts_start : (l : List ℕ) → ((k : ℕ) → get_or l k 0 ≡ 0) → (k : ℕ) → get_or l k 0 ≡ share groups laid a k 0
+  counts_start l z k = z k ∙ sym (share_none k)
 
-  pub sums_start : (l : List ℕ) → ((k : ℕ) → get_or l k 0 ≡ 0) → (n : ℕ) → sums (λ j. get_or l j 0) n ≤ 2 * (a - a)
+  pub sums_start : (l : List ℕ) → ((k : ℕ) → get_or l k 0 ≡ 0) → (n : ℕ) → sums (λ j. get_or l j 0) n ≤ 2 * 0
   sums_start l z zero = omega arith
   sums_start l z (suc n) = omega (arith, sums_start l z n, z n)
 
-  module _ (i : ℕ) (h : a ≤ i) (l one two : List ℕ) (r q : ℕ) (rl : r < length l) (ql : q < length l)
-      (re : r ≡ field laid i 2) (qe : q ≡ lane_key (field groups (field laid i 1) 4)) (oe : one ≡ set l r (suc (get_or l r 0))) (te : two ≡ set one q (suc (get_or one q 0))) where
-    here : a + (i - a) ≡ i
-    here = omega arith
-
+  module _ (i : ℕ) (l one two : List ℕ) (r q : ℕ) (rl : r < length l) (ql : q < length l)
+      (re : r ≡ row_at laid a i) (qe : q ≡ lane_at groups laid a i) (oe : one ≡ set l r (suc (get_or l r 0))) (te : two ≡ set one q (suc (get_or one q 0))) where
     both_set : two ≡ set (set l r (suc (get_or l r 0))) q (suc (get_or (set l r (suc (get_or l r 0))) q 0))
     both_set = te ∙ (λ w. set (oe w) q (suc (get_or (oe w) q 0)))
 
-    pub counts_turn : ((k : ℕ) → get_or l k 0 ≡ share groups laid a k (i - a)) → (k : ℕ) → get_or two k 0 ≡ share groups laid a k (i + 1 - a)
-    counts_turn c k =
-        let n : i + 1 - a ≡ suc (i - a) = omega arith in
-        ap (λ m. get_or m k 0) both_set
-        ∙ share_turn l (i - a) r q rl ql (re ∙ ap (λ j. field laid j 2) (sym here)) (qe ∙ ap (λ j. lane_key (field groups (field laid j 1) 4)) (sym here)) c k
-        ∙ ap (share groups laid a k) (sym n)
+    pub counts_turn : ((k : ℕ) → get_or l k 0 ≡ share groups laid a k i) → (k : ℕ) → get_or two k 0 ≡ share groups laid a k (i + 1)
+    counts_turn c k = ap (λ m. get_or m k 0) both_set ∙ share_turn l i r q rl ql re qe c k ∙ ap (share groups laid a k) (sym (add-one i))
 
-    pub sums_turn : ((n : ℕ) → sums (λ j. get_or l j 0) n ≤ 2 * (i - a)) → (n : ℕ) → sums (λ j. get_or two j 0) n ≤ 2 * (i + 1 - a)
+    pub sums_turn : ((n : ℕ) → sums (λ j. get_or l j 0) n ≤ 2 * i) → (n : ℕ) → sums (λ j. get_or two j 0) n ≤ 2 * (i + 1)
     sums_turn c n =
         let m : List ℕ = set l r (suc (get_or l r 0)) in
         let e : sums (λ j. get_or two j 0) n ≡ sums (λ j. get_or (set m q (suc (get_or m q 0))) j 0) n = λ w. sums (λ j. get_or (both_set w) j 0) n in

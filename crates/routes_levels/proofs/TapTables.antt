@@ -28,7 +28,7 @@ use Rattle.base.proofs.Views.{view_mem}
 use Rattle.routes.specs.Stops.{is_laid, laid_taps, tap_before}
 use Rattle.routes.specs.Levels.{lane_for}
 use Rattle.routes_levels.specs.Laying.{Tabled, LaidFacts}
-use Rattle.routes.proofs.Laid.{of_laid, laid_in}
+use Rattle.routes.proofs.LaidTaps.{of_laid, laid_in}
 
 -- An anchor is one of the nodes.
 found_below : (p : ℕ → Bool) (n i : ℕ) → newest p n ≡ at i → i < n

@@ -7,8 +7,8 @@ use mathlib.Core.List.{List}
 use native.Mathlib.Numerals.{add-one}
 use native.Mathlib.Omega.{arith}
 use lib.Dec.{eqb, ltb}
-use lib.ListN.{length, get_or, set, replicate, get_or-replicate}
-use lib.Seq.{get_or-set_same, get_or-set_other}
+use lib.ListN.{length, take, get_or, set}
+use lib.Seq.{length-take-le, get_or-take, get_or-set_same, get_or-set_other}
 use borrow.Author.Tests.{eq-eqb, ne_eqb, eqb-true, eqb-false, lt-ltb, ltb-true}
 use Rattle.sheet.specs.Table.{MISSING}
 use Rattle.base.specs.Lists.{none, at}
@@ -17,7 +17,7 @@ use Rattle.base.proofs.Bools.{never, both, and_left, and_right, and_false, pick_
 use Rattle.base.proofs.RunLaws.{having_most}
 use Rattle.routes.specs.Stops.{near}
 use Rattle.routes.specs.Levels.{Stop, STAGGER_STEP, levels_in, lowest, lightest, load_at, unclaimed, free_level}
-use Rattle.routes_levels.specs.Laying.{level_answer}
+use Rattle.board.specs.Index.{found_of}
 use Rattle.routes_levels.specs.Search.{CLAIMED, counted, weigh, near_one, load_in, open_in, free_in, Weighed, Walked, Best}
 use Rattle.routes_levels.proofs.Searches.{best_passed, best_heavier, best_lighter}
 
@@ -101,10 +101,6 @@ pub mark_two : (start claim j : ℕ) (m n o : ℕ) → start ≤ claim → m ≡
 mark_two start claim j m n o h e f =
     e ∙ ap (weigh (eqb j ((claim - start + 1) / 2))) f ∙ weigh_both (eqb j ((claim - start + 1) / 2)) (eqb j ((claim - start) / 2)) o
     ∙ ap (λ t. weigh t o) (claim_in start claim h j)
-
--- One claim more of a lane.
-pub claim_more : (lane : List ℕ) (x i m n o : ℕ) → m ≡ weigh (near x (get_or lane i 0)) n → n ≡ weigh (near_one lane x i) o → m ≡ weigh (near_one lane x (i + 1)) o
-claim_more lane x i m n o e f = e ∙ ap (weigh (near x (get_or lane i 0))) f ∙ weigh_both (near x (get_or lane i 0)) (near_one lane x i) o ∙ ap (λ k. weigh (near_one lane x k) o) (sym (add-one i))
 
 -- One level more of a row.
 pub count_more : (row : List ℕ) (x i m n : ℕ) → m ≡ counted (eqb (get_or row i 0) x) n → n ≡ having (λ k. get_or row k 0) x i → m ≡ having (λ k. get_or row k 0) x (i + 1)
@@ -213,10 +209,7 @@ past_more free base done size count h e =
 pub past_all : (free : ℕ → Bool) (base done count : ℕ) → count ≤ done → lowest free (base + STAGGER_STEP * done) (count - done) ≡ none
 past_all free base done count h = let z : count - done ≡ 0 = omega arith in ap (lowest free (base + 2 * done)) z
 
--- A window of zeros, and what its levels weigh once the row and the lane are walked.
-pub zero_window : (n j : ℕ) → j < n → ◌≡◌ {A = ℕ} (get_or (replicate n 0) j 0) 0
-zero_window n j h = get_or-replicate n j 0 0 h
-
+-- What the levels of a window weigh once the row and the lane are walked.
 pub weighed : (row lane loads more : List ℕ) (start : ℕ) → length more ≡ length loads
     → ((j : ℕ) → j < length loads → get_or loads j 0 ≡ load_in row (start + STAGGER_STEP * j))
     → ((j : ℕ) → j < length loads → get_or more j 0 ≡ weigh (near_one lane (start + STAGGER_STEP * j) (length lane)) (get_or loads j 0))
@@ -233,6 +226,12 @@ weighed row lane loads more start long counts marks = record { weights = each }
         let x : ℕ = start + STAGGER_STEP * j in
         let l : j < length loads = omega arith in
         marks j l ∙ (λ w. weigh (twice (near_one lane x (length lane)) w) (counts j l w))
+
+-- The front of a window weighs what the window does.
+pub weighed_front : (row lane loads : List ℕ) (start n : ℕ) → n ≤ length loads → Weighed row lane start loads → Weighed row lane start (take n loads)
+weighed_front row lane loads start n h w =
+    let long = length-take-le n loads h in
+    record { weights = λ j below. get_or-take n loads j 0 (omega arith) ∙ w.weights j (omega arith) }
 
 -- The lightest level along a window, from the highest down.
 module _ (row lane loads : List ℕ) (start base count k j : ℕ) (level : Option ℕ) (least : ℕ) (few : length row < MISSING) (w : Weighed row lane start loads)
@@ -281,8 +280,8 @@ module _ {row lane : List ℕ} {ss : List Stop} {p l r : ℕ} (h : Walked row la
   same_free = λ w x. eqb (h.loads x w) 0 && h.claims x w
 
   module _ (base top count : ℕ) (c : count ≡ levels_in base top) where
-    pub walked_low : level_answer (lowest (free_in row lane) base count) ≡ level_answer (lowest (free_level ss p l r) base (levels_in base top))
-    walked_low = λ w. level_answer (lowest (sym same_free w) base (c w))
+    pub walked_low : found_of (lowest (free_in row lane) base count) ≡ found_of (lowest (free_level ss p l r) base (levels_in base top))
+    walked_low = λ w. found_of (lowest (sym same_free w) base (c w))
 
-    pub walked_light : level_answer (lightest (open_in lane) (load_in row) base count) ≡ level_answer (lightest (unclaimed ss p l) (load_at ss p r) base (levels_in base top))
-    walked_light = λ w. level_answer (lightest (sym same_open w) (sym same_loads w) base (c w))
+    pub walked_light : found_of (lightest (open_in lane) (load_in row) base count) ≡ found_of (lightest (unclaimed ss p l) (load_at ss p r) base (levels_in base top))
+    walked_light = λ w. found_of (lightest (sym same_open w) (sym same_loads w) base (c w))

@@ -1,11 +1,12 @@
 -- How the code of stops and levels holds its taps and stops. No rule stands here.
-use Rattle.std.specs.Prelude.{ℕ, suc, ◌%◌, ◌≤◌, ◌<◌, ◌≡◌, true, false, eqb, length, get_or, Option, None, Some}
+use Rattle.std.specs.Prelude.{ℕ, suc, ◌%◌, ◌≤◌, ◌<◌, ◌≡◌, true, false, eqb, length, get_or, None, Some}
 use mathlib.Core.List.{List, [], Memᴰ}
 use Rattle.sheet.specs.Table.{MISSING}
 use Rattle.base.specs.Lists.{Found, none, at}
 use Rattle.lanes.specs.Lanes.{lane_most}
 use Rattle.board.specs.Board.{Board, field}
 use Rattle.board.specs.Groups.{Tap}
+use Rattle.board.specs.Index.{found_of}
 use Rattle.board.specs.Demands.{PageLanes, lane_of}
 use Rattle.board.specs.Rows.{row_top}
 use Rattle.base.specs.Views.{view}
@@ -55,11 +56,7 @@ pub record Tabled (b : Board) (ts : List Tap) (ps : List PageLanes) (nodes facts
   pub wired : (t : Tap) → Memᴰ t ts → t.group < length b.wires
   pub lanes_few : (p g l : ℕ) → lane_of ps p g ≡ at l → l < MISSING
 
--- A level that may not be there, and a stop's level, as the code answers them.
-abbrev pub level_answer : Found → Option ℕ
-level_answer none = None
-level_answer (at l) = Some l
-
+-- A stop's level, as the code answers it.
 abbrev pub stop_answer : Level → LevelHeld
 stop_answer dropped = Dropped
 stop_answer (shared l) = Shared l
@@ -75,7 +72,7 @@ kept_end end base = elim end.kept [ Some k ↦ elim (eqb k.base base) [ true ↦
 
 -- The last stops of each group, in the row of its first wire: the last stop's x, and the last kept one.
 pub record Ends (ends : List GroupEnd) (ss : List Stop) : Type 0 where
-  pub previous : (g : ℕ) → g < length ends → (get_or ends g no_end).previous ≡ level_answer (previous_stop ss g)
+  pub previous : (g : ℕ) → g < length ends → (get_or ends g no_end).previous ≡ found_of (previous_stop ss g)
   pub kept : (g base : ℕ) → g < length ends → level_with_base ss g base ≡ kept_end (get_or ends g no_end) base
 
 -- The first s stops with their groups' ends, and room for n stops.

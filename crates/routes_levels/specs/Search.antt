@@ -1,12 +1,13 @@
 -- How the code looks for a level: it walks the levels in use on a row and the claims of a lane once for a window of levels, and keeps what each of those weighs.
 -- No rule stands here.
-use Rattle.std.specs.Prelude.{ℕ, zero, suc, ◌+◌, ◌-◌, ◌*◌, ◌<◌, ◌≡◌, Bool, true, false, not, ◌&&◌, ◌||◌, List, eqb, length, get_or, Option}
+use Rattle.std.specs.Prelude.{ℕ, zero, suc, ◌+◌, ◌-◌, ◌*◌, ◌<◌, ◌≡◌, Bool, true, false, not, ◌&&◌, ◌||◌, List, eqb, length, get_or, Option, None, Some}
 use Rattle.sheet.specs.Table.{MISSING}
 use Rattle.base.specs.Lists.{Found, none, at}
 use Rattle.base.specs.Runs.{having}
 use Rattle.routes.specs.Stops.{near}
 use Rattle.routes.specs.Levels.{Stop, STAGGER_STEP, lowest, lightest, load_at, unclaimed}
-use Rattle.routes_levels.specs.Laying.{level_answer}
+use Rattle.board.specs.Index.{found_of}
+use Rattle.routes_levels.specs.declared.windows.Lightest.{Lightest}
 
 -- More than any load.
 abbrev pub CLAIMED : ℕ
@@ -59,6 +60,15 @@ least_of load (at x) = load x
 unfoldable pub best_from : (ℕ → Bool) → (ℕ → ℕ) → ℕ → ℕ → ℕ → Found
 best_from ok load base count k = lightest ok load (base + STAGGER_STEP * k) (count - k)
 
+-- The level of the lightest so far, and its load.
+abbrev pub level_of : Option Lightest → Option ℕ
+level_of None = None
+level_of (Some l) = Some l.level
+
+abbrev pub load_of : Option Lightest → ℕ
+load_of None = MISSING
+load_of (Some l) = l.load
+
 pub record Best (ok : ℕ → Bool) (load : ℕ → ℕ) (base count k : ℕ) (best : Option ℕ) (least : ℕ) : Type 0 where
-  pub level : best ≡ level_answer (best_from ok load base count k)
+  pub level : best ≡ found_of (best_from ok load base count k)
   pub lightly : least ≡ least_of load (best_from ok load base count k)

@@ -6,7 +6,7 @@ ghost use Rattle.routes.specs.Levels.{STAGGER_STEP, levels_in};
 use base::numbers::REROUTER_SIZE;
 
 // Levels go upward by this: a rerouter apart.
-pub const STAGGER_STEP: u32 = 2;
+pub const STAGGER_STEP: u32 = REROUTER_SIZE;
 
 // T4: whether two x are less than 2 apart.
 pub fn is_near(x: u32, p: u32) -> bool

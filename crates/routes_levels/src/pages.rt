@@ -1,12 +1,14 @@
-// The runs of a page: the levels in use on each of its rows stand side by side, and so do the claims of each of its lanes. The taps of the page tell before how much
-// room each needs.
-ghost use Rattle.std.specs.Prelude.{◌≡◌, List, ℕ, suc, ◌<◌, ◌≤◌, ◌+◌, ◌-◌, ◌*◌, length, get_or, set};
+// The runs of a page: the levels in use on each of its rows stand side by side, and so do the claims of each of its lanes. The taps of the page tell before how
+// much room each needs.
+ghost use Rattle.std.specs.Prelude.{◌≡◌, List, ℕ, suc, ◌<◌, ◌≤◌, ◌+◌, ◌-◌, ◌*◌, nat_eq, not, length, get_or, set};
+ghost use Rattle.std.specs.List.{position};
 ghost use Rattle.sheet.specs.Table.{MISSING};
 ghost use Rattle.base.specs.Runs.{sums};
 ghost use Rattle.base.specs.Growing.{run_in, Growing};
 ghost use Rattle.board.specs.Board.{field};
+ghost use Rattle.board.specs.Index.{found_of};
 ghost use Rattle.routes.specs.Levels.{Level as StopsLevel, Stop, kept_at, find_level};
-ghost use Rattle.routes_levels.specs.Laying.{level_answer, stop_answer, PlacesFit, ROWS_MOST, LANES_MOST};
+ghost use Rattle.routes_levels.specs.Laying.{stop_answer, PlacesFit, ROWS_MOST, LANES_MOST};
 ghost use Rattle.routes_levels.specs.Pages.{KEYS, lane_key, claim_of, levels_on, claims_on, Grown, Runs, RoomFor, Onward, share, OnePage};
 
 use crate::finding::find_level;
@@ -14,13 +16,15 @@ use crate::laying::WIRES_MOST;
 use crate::stops::group_of;
 use base::growing::put;
 use base::rows::WorkRow;
+use lanes::table::LANE_MOST;
+use routes::laid::Laid;
 use routes::levels::Level;
 
 // The most rows of a page.
 pub const ROWS_MOST: usize = 4_096;
 
 // The most runs: those of the lanes come behind those of the rows.
-pub const KEYS: usize = 4_608;
+pub const KEYS: usize = ROWS_MOST + LANE_MOST;
 
 // The run of a lane.
 pub fn lane_key(lane: u32) -> usize
@@ -38,18 +42,23 @@ fn count_key(counts: &mut [u32], k: usize)
 }
 
 // Counts the taps from the a-th up to the e-th by row and by lane.
-pub fn count_taps(groups: &[WorkRow], laid: &[WorkRow], a: usize, e: usize, counts: &mut [u32])
-    requires places_fit { PlacesFit groups.now laid.now e }
+pub fn count_taps(laid: Laid<'_>, a: usize, e: usize, counts: &mut [u32])
+    requires places_fit { PlacesFit laid.groups.now laid.taps.now e }
     requires a_le_e { (a ≤ e) × (KEYS < length counts.old) × ((k : ℕ) → get_or counts.old k 0 ≡ 0) }
-    ensures by_index { (k : ℕ) → get_or counts.new k 0 ≡ share groups.now laid.now a k (e - a) }
+    ensures by_index { (k : ℕ) → get_or counts.new k 0 ≡ share laid.entry.groups.now laid.entry.taps.now a k (e - a) }
     ensures by_index_2 { (n : ℕ) → sums (λ j. get_or counts.new j 0) n ≤ 2 * (e - a) }
 {
-    for i in a..e {
-        let tap = laid[i];
-        let g = group_of(tap);
+    for tap in &laid.taps[a..e] {
         count_key(counts, tap[2] as usize);
-        count_key(counts, lane_key(groups[g][4]));
+        count_key(counts, lane_key(laid.groups[group_of(*tap)][4]));
     }
+}
+
+// Which of the taps is the first of another page.
+fn first_elsewhere(taps: &[WorkRow], page: u32) -> Option<usize>
+    ensures { result ≡ position (λ tap. not (nat_eq (get_or tap 0 0) page)) taps.now }
+{
+    taps.iter().position(|tap| tap[0] != page)
 }
 
 // Where the page of the a-th tap ends.
@@ -57,13 +66,11 @@ pub fn page_end(laid: &[WorkRow], a: usize) -> usize
     requires { a < length laid.now }
     ensures { (a < result) × (result ≤ length laid.now) × OnePage laid.now a result × (result < length laid.now → field laid.now result 0 ≡ field laid.now a 0 → ⊥) }
 {
-    let page = laid[a][0];
-    for e in a + 1..laid.len() {
-        if laid[e][0] != page {
-            return e;
-        }
+    // Stays (unproved): through a map_or the check did not find what its closure gives.
+    match first_elsewhere(&laid[a..], laid[a][0]) {
+        Some(n) => a + n,
+        None => laid.len(),
     }
-    laid.len()
 }
 
 // The runs of a page: where each starts, where its next level goes, and the levels.
@@ -80,7 +87,7 @@ impl LevelRuns {
         requires growing { Growing KEYS self.now.starts self.now.nexts self.now.xs }
         requires row_bound { (row < ROWS_MOST) × (lane < LANES_MOST) }
         ensures { (ss : List Stop) (p : ℕ) → run_in self.now.starts self.now.nexts self.now.xs row ≡ levels_on ss p row
-            → run_in self.now.starts self.now.nexts self.now.xs (lane_key lane) ≡ claims_on ss p lane → result ≡ level_answer (find_level ss p lane row base top) }
+            → run_in self.now.starts self.now.nexts self.now.xs (lane_key lane) ≡ claims_on ss p lane → result ≡ found_of (find_level ss p lane row base top) }
     {
         let r = row as usize;
         let k = lane_key(lane);

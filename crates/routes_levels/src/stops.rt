@@ -11,7 +11,8 @@ ghost use Rattle.board.specs.Tables.{tap_in, tap_row};
 ghost use Rattle.routes.specs.Stops.{long_enough, is_laid, laid_taps};
 ghost use Rattle.routes_levels.specs.Laying.{GroupFits, TapsFit, Tabled, WIRES_MOST, row_at, Numbered};
 
-use base::keys::sort_keys;
+use crate::laying::WIRES_MOST;
+use base::keys::{number_behind, sort_keys, with_number};
 use base::numbers::MISSING;
 use base::rows::{Record, WorkRow};
 use base::sort::sort_rows;
@@ -19,6 +20,8 @@ use base::sort::sort_rows;
 // A lane whose source and taps span less is already a short hop.
 pub const MIN_LANE_TRAVEL: u32 = 6;
 
+// Stays (no plainer): nodes, facts and groups stand side by side in four functions; what holds of the three is named (`GroupFits`, `TapsFit`, `Tabled`), and a
+// struct of them would be opened again where they are read.
 // T1: whether the source anchor of group `g` is unplaced, or taps and source lie far enough apart.
 pub fn long_enough(nodes: &[Record], facts: &[WorkRow], groups: &[WorkRow], g: usize) -> bool
     requires { GroupFits nodes.now facts.now groups.now g }
@@ -47,7 +50,7 @@ fn is_laid(nodes: &[Record], facts: &[WorkRow], groups: &[WorkRow], g: usize) ->
 }
 
 // The group of a tap's row, which has eight numbers.
-pub fn group_of(tap: [u32; 8]) -> usize
+pub fn group_of(tap: WorkRow) -> usize
     ensures { (result ≡ (tap_in tap).group) × (length tap ≡ 8) }
 {
     tap[1] as usize
@@ -69,29 +72,26 @@ fn pick_laid(
         → take result laid.new ≡ map tap_row (keep (is_laid b (view tap_in taps.now (length taps.now)) ps) (view tap_in taps.now (length taps.now))) }
 {
     let mut n: usize = 0;
-    for k in (0..taps.len()).rev() {
-        let tap = taps[k];
-        if is_laid(nodes, facts, groups, group_of(tap)) {
-            laid[n] = tap;
+    for tap in taps.iter().rev() {
+        if is_laid(nodes, facts, groups, group_of(*tap)) {
+            laid[n] = *tap;
             n += 1;
         }
     }
     n
 }
 
-// A row's number stands behind its packed place.
-const NUMBERS: u64 = 8192;
-
 // Page, group and row of tap i in one number, 6, 13 and 12 bits, then i. The tap's row is the one with number i, whatever the bits in front of it say.
-fn pack_place(tap: [u32; 8], i: usize) -> u64
+fn pack_place(tap: WorkRow, i: usize) -> u64
     requires { i < WIRES_MOST }
     ensures { result % WIRES_MOST ≡ i }
 {
     let group = (tap[0] % 64) as u64 * 8_192 + (tap[1] % 8_192) as u64;
-    (group * 4_096 + (tap[2] % 4_096) as u64) * NUMBERS + i as u64
+    with_number(group * 4_096 + (tap[2] % 4_096) as u64, i)
 }
 
 // The packed places of the rows.
+// Stays (no plainer): each crate that sorts by packed keys has one of its own: the loop is one line, and what differs between the crates is the key.
 fn fill_keys(rows: &[WorkRow], keys: &mut [u64])
     requires { (length rows.now ≡ length keys.old) × (length rows.now ≤ WIRES_MOST) }
     ensures { Numbered keys.new (length rows.now) }
@@ -108,7 +108,7 @@ fn copy_along(keys: &[u64], from: &[WorkRow], to: &mut [WorkRow])
     ensures { take (length keys.now) to.new ≡ map (row_at from.now) keys.now }
 {
     for (i, key) in keys.iter().enumerate() {
-        to[i] = from[(*key % NUMBERS) as usize];
+        to[i] = from[number_behind(*key)];
     }
 }
 
@@ -117,8 +117,8 @@ fn bring_near(from: &[WorkRow], to: &mut [WorkRow])
     requires { (length from.now ≤ length to.old) × (length from.now ≤ WIRES_MOST) }
     ensures { sorted_rows (take (length from.now) to.new) ≡ sorted_rows from.now }
 {
-    let mut places = [0u64; 8192];
-    let mut spare = [0u64; 8192];
+    let mut places = [0u64; WIRES_MOST];
+    let mut spare = [0u64; WIRES_MOST];
     let keys = &mut places[..from.len()];
     fill_keys(from, keys);
     sort_keys(keys, &mut spare);

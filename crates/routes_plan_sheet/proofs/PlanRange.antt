@@ -17,7 +17,7 @@ use Rattle.routes.specs.Bus.{Bus, Rerouter, port_feed, deliver, empty_bus, muted
 use Rattle.routes.specs.Rerouters.{Emission, column_free, level_here, source, chain_rotation, lane_rerouter, row_rerouter, head_rerouter, link_rerouter, tap_rerouter, source_rerouter, gate_side_rerouter, clear_for, hang_on, tap_off, chain_on, with_source, start_group, with_link, start_row, with_gate_side, serve, emit_tap, emit}
 use Rattle.routes.specs.Corners.{Cornering, turns_down, turn_wire, with_corner, corner_level, corner_clear, sink_load, corner_rerouter, corners}
 use Rattle.routes.specs.Plan.{bus_of, finished}
-use Rattle.routes.proofs.Laid.{of_laid}
+use Rattle.routes.proofs.LaidTaps.{of_laid}
 use Rattle.routes.proofs.Claims.{stops_before_lem}
 use Rattle.routes.proofs.Room.{room_finished}
 use Rattle.board.proofs.Reach.{All, all_none, REACH_MOST, row_most_lem, end_most}

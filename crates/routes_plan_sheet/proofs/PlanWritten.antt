@@ -1,5 +1,5 @@
 -- The tables of a finished plan give its plan sheet.
-use Rattle.std.proofs.Common.{◌≡◌, ℕ, zero, suc, ◌+◌, ◌*◌, ◌<◌, ◌≤◌, List, [], ◌∷◌, ◌++◌, map, reverse, length, take, count_by, sym, refl, ap, ◌∙◌, subst, arith, length-append, length-set}
+use Rattle.std.proofs.Common.{◌≡◌, ℕ, zero, suc, ◌<◌, ◌≤◌, List, [], ◌∷◌, ◌++◌, map, reverse, length, take, count_by, sym, refl, ap, ◌∙◌, subst, arith, length-append, length-set}
 use lib.ListN.{length-map, length-reverse}
 use Rattle.sheet.specs.Table.{MISSING}
 use Rattle.sheet.specs.Written.{Wrote}
@@ -21,7 +21,7 @@ use Rattle.routes_plan_sheet.specs.declared.plan_sheet.Totals.{Totals}
 use Rattle.routes.proofs.Views.{rows_written}
 use Rattle.routes.proofs.Rows.{RerouterFits, EndFit, CarriesFit, WireFits}
 use Rattle.routes_plan_sheet.proofs.PlanText.{Holds, plan_text_lem}
-use Rattle.routes.proofs.Laid.{laid_short}
+use Rattle.routes.proofs.LaidTaps.{laid_short}
 use Rattle.routes_plan_sheet.specs.Held.{names_wire, totals_of, PlanHeld}
 use Rattle.board.proofs.Reach.{All}
 use Rattle.routes_plan_sheet.proofs.InRange.{RerouterInRange, EndInRange, CarriesInRange, WireInRange, PlanInRange}

@@ -1,5 +1,5 @@
 -- How the code holds the fields of a line before they are written: each says how it is written and what. No rule stands here.
-use Rattle.std.specs.Prelude.{ℕ, ◌+◌, ◌*◌, ◌<◌, ◌≤◌, true, false, List, [], ◌∷◌, ◌++◌, length, take, ◌==◌, slice_index}
+use Rattle.std.specs.Prelude.{ℕ, ◌+◌, ◌*◌, ◌≤◌, true, false, List, [], ◌∷◌, ◌++◌, take, ◌==◌, slice_index}
 use Prim.Native.Char.{code}
 use Rattle.sheet.specs.Table.{MISSING}
 use Rattle.sheet.specs.Written.{decimal, coordinate_text, number_text, Wrote}

@@ -2,7 +2,7 @@
 #![tactic(auto)]
 
 use base::numbers::MISSING;
-use base::rows::{BusWireRow, PageRow, PortRow, RerouterRow};
+use base::rows::BusWireRow;
 
 pub mod plan_sheet;
 
@@ -15,7 +15,7 @@ ghost use Rattle.routes.specs.Plan.{finished, laid_groups};
 ghost use Rattle.routes.specs.PlanSheet.{plan_sheet};
 ghost use Rattle.routes_plan_sheet.specs.Held.{names_wire, totals_of, PlanHeld};
 
-use crate::plan_sheet::{Totals, put_plan};
+use crate::plan_sheet::{PlanRows, Totals, put_plan};
 
 // How many bus wires are deliveries: those that name a wire.
 fn count_deliveries(bus_wires: &[BusWireRow]) -> usize
@@ -38,24 +38,17 @@ fn totals(n: usize, k: usize, deliveries: usize, wires: usize, groups: usize) ->
     }
 }
 
-// Writes the plan sheet of the finished plan that the tables hold: how many bytes it has.
-pub fn write_plan(
-    out: &mut [u8],
-    answers: &[PageRow],
-    rerouters: &[RerouterRow],
-    bus_wires: &[BusWireRow],
-    ports: &[PortRow],
-    wires: usize,
-    groups: usize,
-) -> usize
-    requires room { 128 * length answers.now + 128 * length rerouters.now + 128 * length bus_wires.now + 128 * length ports.now + 128 ≤ length out.old }
-    requires few { (length answers.now < 4294967295) × (length rerouters.now < 4294967295) × (length bus_wires.now < 4294967295) × (length ports.now < 4294967295) }
+// Writes the plan sheet of the finished plan that the rows hold: how many bytes it has.
+pub fn write_plan(out: &mut [u8], rows: PlanRows<'_>, wires: usize, groups: usize) -> usize
+    requires room { 128 * length rows.pages.now + 128 * length rows.rerouters.now + 128 * length rows.bus_wires.now + 128 * length rows.ports.now + 128 ≤ length out.old }
+    requires few { (length rows.pages.now < 4294967295) × (length rows.rerouters.now < 4294967295) × (length rows.bus_wires.now < 4294967295) × (length rows.ports.now < 4294967295) }
     requires wires_bound { (wires < 4294967295) × (groups < 4294967295) }
     ensures { (b : Board) (ps : List PageLanes)
-        → PlanHeld b ps answers.now rerouters.now bus_wires.now ports.now wires groups
+        → PlanHeld b ps rows.entry.pages.now rows.entry.rerouters.now rows.entry.bus_wires.now rows.entry.ports.now wires groups
         → Wrote out.old 0 (plan_sheet b ps (finished b ps) (laid_groups b ps)) out.new result }
 {
-    let deliveries = count_deliveries(bus_wires);
-    let t = totals(rerouters.len(), bus_wires.len(), deliveries, wires, groups);
-    put_plan(out, answers, rerouters, bus_wires, ports, t)
+    let n = rows.rerouters.len();
+    let k = rows.bus_wires.len();
+    let deliveries = count_deliveries(rows.bus_wires);
+    put_plan(out, rows, totals(n, k, deliveries, wires, groups))
 }

@@ -1,16 +1,19 @@
 // The plan sheet: the buffers as text, line by line.
+// Stays (no plainer): a writer takes the lent bytes with the place to write at: a struct of the lent slice and the place would tell what it left by nested pairs.
 ghost use Rattle.std.specs.Prelude.{◌≡◌, ℕ, ◌+◌, ◌*◌, ◌<◌, ◌≤◌, List, [], ◌∷◌, ◌++◌, map, length};
+ghost use Rattle.base.specs.Refusal.{number_of};
 ghost use Rattle.sheet.specs.Text.{NEWLINE};
 ghost use Rattle.sheet.specs.Written.{Wrote, tabbed};
 ghost use Rattle.routes.specs.PlanSheet.{line as lineText, numbered, refusal_sheet};
-ghost use Rattle.routes.specs.Buffers.{inward as held};
 ghost use Rattle.routes_plan_sheet.specs.Fields.{field_text, lane_line_in, rerouter_line_in, port_line_in, letter_of, wire_text_in, total_text, rows_text};
 
-use base::numbers::{MISSING, NEWLINE, ORIGIN, TAB};
+use base::numbers::{MISSING, NEWLINE, TAB};
+use base::refusal::Refusal;
 use base::rows::{BusWireRow, PageRow, PortRow, RerouterRow};
+use routes::bus::inward;
 use sheet::write::{put_byte, put_coordinate, put_decimal, put_number};
 
-// A field of a line.
+// A field of a line: a number, a coordinate as it is held, a number of a row that may be missing, or the letter of an end.
 #[derive(Clone, Copy)]
 pub(crate) enum Field {
     Decimal(u32),
@@ -19,27 +22,29 @@ pub(crate) enum Field {
     Letter(u8),
 }
 
-// What a field says, without the tab before it.
-fn put_text(out: &mut [u8], at: usize, field: Field) -> usize
-    requires { at + 11 ≤ length out.old }
-    ensures { Wrote out.old at (field_text field) out.new result }
-{
-    match field {
-        Field::Decimal(n) => put_decimal(out, at, n),
-        Field::Coordinate(c) => put_coordinate(out, at, c),
-        Field::Number(n) => put_number(out, at, n),
-        Field::Letter(letter) => put_byte(out, at, letter),
+impl Field {
+    // What the field says, without the tab before it.
+    fn put_text(self, out: &mut [u8], at: usize) -> usize
+        requires { at + 11 ≤ length out.old }
+        ensures { Wrote out.old at (field_text self) out.new result }
+    {
+        match self {
+            Field::Decimal(n) => put_decimal(out, at, n),
+            Field::Coordinate(c) => put_coordinate(out, at, c),
+            Field::Number(n) => put_number(out, at, n),
+            Field::Letter(letter) => put_byte(out, at, letter),
+        }
     }
-}
 
-// A field: a tab, and what it says.
-fn put_field(out: &mut [u8], at: usize, field: Field) -> usize
-    requires { at + 12 ≤ length out.old }
-    ensures wrote { Wrote out.old at (tabbed (field_text field)) out.new result }
-    ensures upper_bound { result ≤ at + 11 }
-{
-    let next = put_byte(out, at, TAB);
-    put_text(out, next, field)
+    // A tab, and what the field says.
+    fn put(self, out: &mut [u8], at: usize) -> usize
+        requires { at + 12 ≤ length out.old }
+        ensures wrote { Wrote out.old at (tabbed (field_text self)) out.new result }
+        ensures upper_bound { result ≤ at + 11 }
+    {
+        let next = put_byte(out, at, TAB);
+        self.put_text(out, next)
+    }
 }
 
 // A line: its letter, its fields, byte 10.
@@ -50,7 +55,7 @@ fn put_line(out: &mut [u8], at: usize, letter: u8, fields: &[Field]) -> usize
 {
     let mut next = put_byte(out, at, letter);
     for field in fields {
-        next = put_field(out, next, *field);
+        next = field.put(out, next);
     }
     put_byte(out, next, NEWLINE)
 }
@@ -83,13 +88,6 @@ impl RowLine for PageLine {
         ];
         put_line(out, at, b'L', &fields)
     }
-}
-
-// A coordinate of 32 bits, as it is held.
-fn inward(c: u32) -> u32
-    ensures { result ≡ held c }
-{
-    c.wrapping_add(ORIGIN)
 }
 
 // P3: a rerouter's line.
@@ -202,30 +200,35 @@ fn put_total_line(out: &mut [u8], at: usize, t: Totals) -> usize
 }
 
 // E12: the E line.
-pub fn put_refusal(out: &mut [u8], at: usize, number: u32, place: u32) -> usize
-    requires { at + 128 ≤ length out.old }
-    ensures { Wrote out.old at (refusal_sheet number place) out.new result }
+pub fn put_refusal(out: &mut [u8], at: usize, refusal: Refusal) -> usize
+    requires { (at + 128 ≤ length out.old) × (refusal.place < 4294967296) }
+    ensures { Wrote out.old at (refusal_sheet (number_of refusal.reason) refusal.place) out.new result }
 {
-    let fields = [Field::Decimal(number), Field::Decimal(place)];
+    let fields = [
+        Field::Decimal(refusal.reason.number() as u32),
+        Field::Decimal(refusal.place as u32),
+    ];
     put_line(out, at, b'E', &fields)
 }
 
-// The plan sheet of the plan that the tables hold.
-pub(crate) fn put_plan(
-    out: &mut [u8],
-    pages: &[PageRow],
-    rerouters: &[RerouterRow],
-    wires: &[BusWireRow],
-    ports: &[PortRow],
-    t: Totals,
-) -> usize
-    requires room { 128 * length pages.now + 128 * length rerouters.now + 128 * length wires.now + 128 * length ports.now + 128 ≤ length out.old }
-    requires few { (length pages.now < 4294967295) × (length rerouters.now < 4294967295) × (length wires.now < 4294967295) × (length ports.now < 4294967295) }
-    ensures { Wrote out.old 0 (rows_text pages.now rerouters.now wires.now ports.now t) out.new result }
+// The rows of a plan: its pages' answers, its rerouters, its bus wires and its suppressed ports.
+#[derive(Clone, Copy)]
+pub struct PlanRows<'a> {
+    pub pages: &'a [PageRow],
+    pub rerouters: &'a [RerouterRow],
+    pub bus_wires: &'a [BusWireRow],
+    pub ports: &'a [PortRow],
+}
+
+// The plan sheet of the plan that the rows hold.
+pub(crate) fn put_plan(out: &mut [u8], rows: PlanRows<'_>, t: Totals) -> usize
+    requires room { 128 * length rows.pages.now + 128 * length rows.rerouters.now + 128 * length rows.bus_wires.now + 128 * length rows.ports.now + 128 ≤ length out.old }
+    requires few { (length rows.pages.now < 4294967295) × (length rows.rerouters.now < 4294967295) × (length rows.bus_wires.now < 4294967295) × (length rows.ports.now < 4294967295) }
+    ensures { Wrote out.old 0 (rows_text rows.entry.pages.now rows.entry.rerouters.now rows.entry.bus_wires.now rows.entry.ports.now t) out.new result }
 {
-    let rerouters_at = put_rows::<PageLine>(out, 0, pages);
-    let wires_at = put_rows::<RerouterLine>(out, rerouters_at, rerouters);
-    let ports_at = put_rows::<BusWireLine>(out, wires_at, wires);
-    let total_at = put_rows::<PortLine>(out, ports_at, ports);
+    let rerouters_at = put_rows::<PageLine>(out, 0, rows.pages);
+    let wires_at = put_rows::<RerouterLine>(out, rerouters_at, rows.rerouters);
+    let ports_at = put_rows::<BusWireLine>(out, wires_at, rows.bus_wires);
+    let total_at = put_rows::<PortLine>(out, ports_at, rows.ports);
     put_total_line(out, total_at, t)
 }

@@ -7,17 +7,15 @@ use mathlib.Core.Bool.{Bool, true, false, not, ◌&&◌}
 use mathlib.Core.List.{List, [], ◌∷◌, ◌++◌, map, map-id, map-append, append-nil, append_assoc}
 use lib.Dec.{eqb}
 use lib.ListN.{length, get_or, take, drop, set, length-set, length-drop, length-map, take-append-drop, drop_of_length-le}
-use lib.Seq.{take-suc-set, drop-set-lt, drop-drop, length-take-le, drop-cons, get_or-take, get_or-drop, take-suc}
+use Rattle.std.proofs.lemmas.List.{length_push, get_or_push, take-append-le}
+use lib.Seq.{take-append_seam, take-length, take-suc-set, drop-set-lt, drop-drop, length-take-le, get_or-take, get_or-drop}
 use Rattle.sheet.specs.Table.{MISSING}
-use borrow.Author.Tests.{eq-eqb, ne_eqb, not-true, not-false}
 use Rattle.base.proofs.Bools.{clash}
-use Rattle.base.proofs.Views.{map_snoc}
 use Rattle.base.specs.Views.{view}
 use Rattle.routes.specs.Bus.{BusWire, port, rerouter, onward, delivery, Port}
-use Rattle.routes.specs.Buffers.{port_row, wire_in, port_in}
-use Rattle.routes_ports.specs.Ports.{sent_to, targets}
-use Rattle.routes_ports.specs.Settling.{delivers_in, wires_from, key_port, again, unique, ports_over, Settleable}
-use Rattle.routes_ports.proofs.SetLaws.{unique_again, unique_last, keys_same}
+use Rattle.routes.specs.Buffers.{port_row, wire_in, port_in, ports_held}
+use Rattle.routes_ports.specs.Ports.{sent_to, targets, ports_set, ports_with}
+use Rattle.routes_ports.specs.Settling.{delivers_in, wires_from, key_port, unique, ports_over, settled, Settleable, Settled}
 
 -- n entries are written over `old`, which are read as the first of `front`, and `rest` is still to be.
 pub record Filled {A B : Type 0} (read : A → B) (front : List B) (old now : List A) (n : ℕ) (rest : List B) : Type 0 where
@@ -93,21 +91,44 @@ module _ (table : List (List ℕ)) where
   abbrev pub sent_below : ℕ → List Port
   sent_below left = targets (view wire_in table left)
 
-  module _ (left : ℕ) (h : 0 < left) where
-    abbrev row : List ℕ
-    row = get_or table (left - 1) []
+-- What is left of the bus wires, walked from the newest on: the first of them, whose keys are still to come.
+pub record SentLeft (table : List (List ℕ)) (old now : List ℕ) (n : ℕ) (rest : List (List ℕ)) : Type 0 where
+  pub first : rest ≡ take (length rest) table
+  pub filled : Filled key_port (sent_below table (length table)) old now n (sent_below table (length rest))
 
-    unrolled : view wire_in table left ≡ wire_in row ∷ view wire_in table (left - 1)
-    unrolled = let e : left ≡ suc (left - 1) = omega arith in ap (view wire_in table) e
+pub sent_start : (table rest : List (List ℕ)) (old : List ℕ) → rest ≡ table → length (sent_below table (length table)) ≤ length old → SentLeft table old old 0 rest
+sent_start table rest old e h = rw e (record { first = sym (take-length table); filled = filled_none key_port (sent_below table (length table)) old h })
 
-    pub sent_next : delivers_in row ≡ true → (key : ℕ) → key_port key ≡ port_in (get_or row 2 0 ∷ get_or row 3 0 ∷ []) → sent_below left ≡ key_port key ∷ sent_below (left - 1)
-    sent_next d key e = ap targets unrolled ∙ (row_sent row (view wire_in table (left - 1)) d ∙ ap {B = List Port} (λ p. p ∷ sent_below (left - 1)) (sym e))
+module _ {table : List (List ℕ)} (new : List (List ℕ)) (wire : List ℕ) {old now : List ℕ} {n : ℕ} (s : SentLeft table old now n (new ++ (wire ∷ []))) where
+  more : length (new ++ (wire ∷ [])) ≡ length new + 1
+  more = length_push new wire
 
-    pub sent_same : delivers_in row ≡ false → sent_below left ≡ sent_below (left - 1)
-    sent_same d = ap targets unrolled ∙ row_kept row (view wire_in table (left - 1)) d
+  last : get_or table (length new) [] ≡ wire
+  last =
+      sym (get_or-take (length (new ++ (wire ∷ []))) table (length new) [] (omega (arith, more))) ∙ ap (λ (l : List (List ℕ)). get_or l (length new) []) (sym s.first)
+      ∙ get_or_push new wire [] (length new) refl
 
-  pub sent_done : (left : ℕ) → left ≤ 0 → sent_below left ≡ []
-  sent_done left h = let e : left ≡ 0 = omega arith in ap sent_below e
+  front : new ≡ take (length new) table
+  front =
+      sym (take-append_seam new (wire ∷ [])) ∙ ap (take (length new)) s.first
+      ∙ sym (take-append-le (length new) (take (length (new ++ (wire ∷ []))) table) (drop (length (new ++ (wire ∷ []))) table) (omega (arith, ap length s.first, more)))
+      ∙ ap (take (length new)) (take-append-drop (length (new ++ (wire ∷ []))) table)
+
+  here : sent_below table (length (new ++ (wire ∷ []))) ≡ targets (wire_in wire ∷ view wire_in table (length new))
+  here = ap (sent_below table) (more ∙ add-one (length new)) ∙ ap (λ (r : List ℕ). targets (wire_in r ∷ view wire_in table (length new))) last
+
+  pub sent_pass : delivers_in wire ≡ false → SentLeft table old now n new
+  sent_pass d = record { first = front; filled = filled_same s.filled _ (here ∙ row_kept wire (view wire_in table (length new)) d) }
+
+  module _ (d : delivers_in wire ≡ true) (key : ℕ) (e : key_port key ≡ port_in (get_or wire 2 0 ∷ get_or wire 3 0 ∷ [])) where
+    comes : sent_below table (length (new ++ (wire ∷ []))) ≡ key_port key ∷ sent_below table (length new)
+    comes = here ∙ row_sent wire (view wire_in table (length new)) d ∙ ap {B = List Port} (λ p. p ∷ sent_below table (length new)) (sym e)
+
+    pub sent_room : n < length now
+    sent_room = filled_room s.filled _ _ comes
+
+    pub sent_more : SentLeft table old (set now n key) (n + 1) new
+    sent_more = record { first = front; filled = filled_more s.filled key _ _ comes refl }
 
 -- The bus wires of a part of the table.
 part_below : (table : List (List ℕ)) (from n k : ℕ) → k ≤ n → view wire_in (take n (drop from table)) k ≡ wires_from table from k
@@ -116,64 +137,47 @@ part_below table from n (suc k) h =
     let row : get_or (take n (drop from table)) k [] ≡ get_or table (from + k) [] = get_or-take n (drop from table) k [] (omega arith) ∙ get_or-drop from table k [] in
     let below = part_below table from n k (omega arith) in λ w. wire_in (row w) ∷ below w
 
-pub part_gathered : {table : List (List ℕ)} {from to : ℕ} {ports : List (List ℕ)} {u : ℕ} → Settleable table from to ports u
-    → targets (view wire_in (take (to - from) (drop from table)) (length (take (to - from) (drop from table)))) ≡ targets (wires_from table from (to - from))
-part_gathered {table} {from} {to} s =
+-- A slice of bus wires, all of it.
+all_below : (table : List (List ℕ)) (n : ℕ) → view wire_in table n ≡ wires_from table 0 n
+all_below table zero = refl
+all_below table (suc n) = let below = all_below table n in let place : n ≡ 0 + n = omega arith in λ w. wire_in (get_or table (place w) []) ∷ below w
+
+pub wires_all : (table : List (List ℕ)) → view wire_in table (length table) ≡ wires_from table 0 (length table - 0)
+wires_all table = let e : length table ≡ length table - 0 = omega arith in all_below table (length table) ∙ ap (wires_from table 0) e
+
+-- The wires of a part of a table, and of its front.
+pub part_wires : (table : List (List ℕ)) (from to : ℕ) → from ≤ to → to ≤ length table
+    → wires_from (take (to - from) (drop from table)) 0 (length (take (to - from) (drop from table)) - 0) ≡ wires_from table from (to - from)
+part_wires table from to h k =
     let n : ℕ = to - from in
-    let long : length (take n (drop from table)) ≡ n = length-take-le n (drop from table) (omega (arith, length-drop from table, s.rising, s.written)) in
-    ap targets (ap (view wire_in (take n (drop from table))) long ∙ part_below table from n n (omega arith))
+    let long : length (take n (drop from table)) ≡ n = length-take-le n (drop from table) (omega (arith, length-drop from table, h, k)) in
+    sym (wires_all (take n (drop from table))) ∙ ap (view wire_in (take n (drop from table))) long ∙ part_below table from n n (omega arith)
 
--- What the tests of a row say.
-pub sent_nowhere : (r : List ℕ) → get_or r 3 0 ≡ MISSING → false ≡ delivers_in r
-sent_nowhere r h = rw (eq-eqb (get_or r 3 0) MISSING h)
+-- What is asked and told of a slice is asked and told of its part of the table.
+module _ {table slice : List (List ℕ)} {from to : ℕ} (same : wires_from slice 0 (length slice - 0) ≡ wires_from table from (to - from)) {ports : List (List ℕ)} {u : ℕ} where
+  pub settleable_slice : Settleable table from to ports u → Settleable slice 0 (length slice) ports u
+  settleable_slice s =
+      let is : settled slice 0 (length slice) ports u ≡ settled table from to ports u = ap (ports_with (ports_set (ports_held ports u))) same in
+      record {
+        rising = omega arith;
+        written = omega arith;
+        given = s.given;
+        few = omega (arith, s.few, ap length (ap targets same));
+        fits = omega (arith, s.fits, ap length is);
+      }
 
-module _ (r : List ℕ) (h : get_or r 3 0 ≡ MISSING → ⊥) where
-  pub sent_named : (get_or r 4 0 ≡ MISSING → ⊥) → true ≡ delivers_in r
-  sent_named k = rw (ne_eqb (get_or r 3 0) MISSING h, ne_eqb (get_or r 4 0) MISSING k)
-
-  pub sent_far : get_or r 4 0 ≡ MISSING → not (eqb (get_or r 5 0) MISSING) ≡ delivers_in r
-  sent_far k = rw (ne_eqb (get_or r 3 0) MISSING h, eq-eqb (get_or r 4 0) MISSING k)
-
-drop_next : {A : Type 0} (l : List A) (i : ℕ) (d : A) → i < length l → drop i l ≡ get_or l i d ∷ drop (i + 1) l
-drop_next l i d h = rw (add-one i) (drop-cons l i d h)
-
--- One port more has its key.
-pub keyed_more : (ports : List (List ℕ)) (keys : List ℕ) (i key : ℕ) → i < length ports → i < length keys
-    → key_port key ≡ port_in (get_or (get_or ports i []) 0 0 ∷ get_or (get_or ports i []) 1 0 ∷ []) → map key_port (take i keys) ≡ map port_in (take i ports)
-    → map key_port (take (i + 1) (set keys i key)) ≡ map port_in (take (i + 1) ports)
-keyed_more ports keys i key inside room e so_far =
-    rw (add-one i, take-suc-set keys i key room, take-suc ports i [] inside, map_snoc key_port (take i keys) key, map_snoc port_in (take i ports) (get_or ports i []), so_far)
-    (ap {B = List Port} (λ p. map port_in (take i ports) ++ (p ∷ [])) e)
+  pub settled_slice : {after : List (List ℕ)} {r : ℕ} → Settled slice 0 (length slice) ports u after r → Settled table from to ports u after r
+  settled_slice s =
+      let is : settled slice 0 (length slice) ports u ≡ settled table from to ports u = ap (ports_with (ports_set (ports_held ports u))) same in
+      record { count = s.count ∙ ap length is; rows = s.rows ∙ ap (λ l. ports_over l ports) is }
 
 -- The keys in order, each port once.
 module _ (keys : List ℕ) where
   abbrev pub once_from : ℕ → List (List ℕ)
   once_from i = map port_row (unique (map key_port (drop i keys)))
 
-  abbrev pub again_at : ℕ → Bool
-  again_at i = again (key_port (get_or keys i 0)) (map key_port (drop (i + 1) keys))
-
-  pub once_last : (i : ℕ) → i < length keys → not (again_at i) ≡ true → once_from i ≡ port_row (key_port (get_or keys i 0)) ∷ once_from (i + 1)
-  once_last i h t =
-      ap (λ r. map port_row (unique (map key_port r))) (drop_next keys i 0 h)
-      ∙ ap (map port_row) (unique_last (key_port (get_or keys i 0)) (map key_port (drop (i + 1) keys)) (not-true (again_at i) t))
-
-  pub once_again : (i : ℕ) → i < length keys → not (again_at i) ≡ false → once_from i ≡ once_from (i + 1)
-  once_again i h t =
-      ap (λ r. map port_row (unique (map key_port r))) (drop_next keys i 0 h)
-      ∙ ap (map port_row) (unique_again (key_port (get_or keys i 0)) (map key_port (drop (i + 1) keys)) (not-false (again_at i) t))
-
   pub once_done : (i : ℕ) → length keys ≤ i → once_from i ≡ []
   once_done i h = ap (λ r. map port_row (unique (map key_port r))) (drop_of_length-le keys h)
-
-  -- What the test of the next key says.
-  pub none_next : (i : ℕ) → i + 1 ≡ length keys → true ≡ not (again_at i)
-  none_next i h = let outside : length keys ≤ i + 1 = omega arith in rw (drop_of_length-le keys outside)
-
-  pub other_next : (i : ℕ) → i + 1 < length keys → not (eqb (get_or keys i 0) (get_or keys (i + 1) 0)) ≡ not (again_at i)
-  other_next i h =
-      ap not
-      (sym (ap (λ r. again (key_port (get_or keys i 0)) (map key_port r)) (drop_next keys (i + 1) 0 h) ∙ keys_same (get_or keys i 0) (get_or keys (i + 1) 0)))
 
 -- Rows of ports written over a table.
 pub filled_ports : {old now : List (List ℕ)} {n : ℕ} {rest : List (List ℕ)} (l : List Port) → Filled (λ (r : List ℕ). r) (map port_row l) old now n rest → rest ≡ []

@@ -9,6 +9,9 @@ use base::keys::sort_keys;
 use base::numbers::MISSING;
 use base::rows::{BusWireRow, PortRow};
 
+// So many ports are sorted at most: no wire is delivered twice, and a board has no more wires.
+const PORTS_MOST: usize = 8_192;
+
 // Whether a bus wire is a delivery to a port.
 fn delivers(row: BusWireRow) -> bool
     ensures { result ≡ delivers_in row }
@@ -38,9 +41,8 @@ fn gather_targets(bus_wires: &[BusWireRow], keys: &mut [u64]) -> usize
     ensures keys_after { map key_port (take result keys.new) ≡ targets (view wire_in bus_wires.now (length bus_wires.now)) }
 {
     let mut n: usize = 0;
-    for k in (0..bus_wires.len()).rev() {
-        let wire = bus_wires[k];
-        if delivers(wire) {
+    for wire in bus_wires.iter().rev() {
+        if delivers(*wire) {
             keys[n] = port_key(wire[2], wire[3]);
             n += 1;
         }
@@ -82,20 +84,15 @@ fn write_once_each(keys: &[u64], ports: &mut [PortRow]) -> usize
     n
 }
 
-// The first `u` ports, in any order, and the targets of the deliveries among the bus wires from..to, ascending and each once: how many there are.
-pub fn settle_ports(
-    bus_wires: &[BusWireRow],
-    from: usize,
-    to: usize,
-    ports: &mut [PortRow],
-    u: usize,
-) -> usize
-    requires { Settleable bus_wires.now from to ports.old u }
-    ensures { Settled bus_wires.now from to ports.old u ports.new result }
+// The first `u` ports, in any order, and the targets of the deliveries among the bus wires, ascending and each once: how many there are.
+// Stays (no plainer): the slice of ports is not cut to the first `u`, since what is settled may be more and goes over it.
+pub fn settle_ports(bus_wires: &[BusWireRow], ports: &mut [PortRow], u: usize) -> usize
+    requires { Settleable bus_wires.now 0 (length bus_wires.now) ports.old u }
+    ensures { Settled bus_wires.now 0 (length bus_wires.now) ports.old u ports.new result }
 {
-    let mut keys = [0u64; 8192];
-    let mut spare = [0u64; 8192];
-    let n = gather_targets(&bus_wires[from..to], &mut keys);
+    let mut keys = [0u64; PORTS_MOST];
+    let mut spare = [0u64; PORTS_MOST];
+    let n = gather_targets(bus_wires, &mut keys);
     add_ports(&ports[..u], &mut keys[n..]);
     let keys = &mut keys[..n + u];
     sort_keys(keys, &mut spare);

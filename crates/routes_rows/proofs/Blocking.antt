@@ -12,7 +12,8 @@ use borrow.Author.Tests.{eqb-true, eqb-false, ltb-true, ltb-false, lt-ltb, le-lt
 use Rattle.board.specs.Rows.{cells_overlap}
 use Rattle.base.proofs.Bools.{and_right, and_false, both, false_first}
 use Rattle.routes_levels.proofs.LevelLaws.{same_test}
-use Rattle.routes_rows.specs.Blocked.{count_in, level_no, beyond, blocked, Blocks, cell_meets, Spread}
+use Rattle.routes_rows.specs.Booking.{no_cell, first_cells}
+use Rattle.routes_rows.specs.Blocked.{count_in, level_no, beyond, blocked, Blocks, cell_meets, Spread, cells_meet}
 use Rattle.routes_rows.specs.declared.book.Cell.{Cell}
 
 pub or_no : (a : Bool) → a || false ≡ a
@@ -139,20 +140,21 @@ module _ (l cell : Cell) (first count : ℕ) (is : first ≡ (cell.x0 - l.x0) / 
   pub cell_passed : (ends : List ℕ) → within ≡ false → Blocks l (cell_meets cell l) ends ends
   cell_passed ends e = blocks_none l ends (cell_meets cell l) (λ k low. meets k low ∙ ap (λ t. t && (ltb first (suc k) && ltb (level_no l k) cell.x1)) e)
 
--- Cells that block one after the other: what is blocked by all is what is blocked by one of them.
-or_turn : (a b c : Bool) → (a || b) || c ≡ a || (c || b)
-or_turn true b c = refl
-or_turn false true true = refl
-or_turn false true false = refl
-or_turn false false c = sym (or_no c)
+-- Cells taken in one after the other, the newest first: what is blocked so far, with the first k cells that are left, is what all n block.
+pub record Blocking (l : Cell) (cells : List Cell) (n : ℕ) (ends : List ℕ) (k : ℕ) (ends' : List ℕ) : Type 0 where
+  pub long : length ends' ≡ length ends
+  pub same : (j : ℕ) → j < count_in l → blocked l ends j || cells_meet (first_cells cells n) l j ≡ blocked l ends' j || cells_meet (first_cells cells k) l j
+  pub rest : (j : ℕ) → count_in l ≤ j → get_or ends' j 0 ≡ get_or ends j 0
 
-pub blocks_more : {l : Cell} {test test' : ℕ → Bool} {ends ends' ends'' : List ℕ} → Blocks l test ends ends' → Blocks l test' ends' ends'' → Blocks l (λ k. test' k || test k) ends ends''
-blocks_more {l = l} {test = test} {test' = test'} {ends = ends} b h =
-    record {
-      long = h.long ∙ b.long;
-      more = λ k low. h.more k low ∙ ap (λ t. t || test' k) (b.more k low) ∙ or_turn (blocked l ends k) (test k) (test' k);
-      rest = λ k high. h.rest k high ∙ b.rest k high;
-    }
+module _ (l : Cell) (cells : List Cell) (n : ℕ) (ends : List ℕ) where
+  pub blocking_next : (k : ℕ) (ends' ends'' : List ℕ) → Blocking l cells n ends (suc k) ends' → Blocks l (cell_meets (get_or cells k no_cell) l) ends' ends'' → Blocking l cells n ends k ends''
+  blocking_next k ends' ends'' b h =
+      record {
+        long = h.long ∙ b.long;
+        same = λ j low.
+            b.same j low ∙ sym (or_both (blocked l ends' j) (cell_meets (get_or cells k no_cell) l j) (cells_meet (first_cells cells k) l j)) ∙ sym (ap (λ t. t || cells_meet (first_cells cells k) l j) (h.more j low));
+        rest = λ j high. h.rest j high ∙ b.rest j high;
+      }
 
 -- The ends being spread: those before k are, and `furthest` is the furthest of them.
 pub record Spreading (ends : List ℕ) (furthest k : ℕ) (ends' : List ℕ) : Type 0 where

@@ -2,6 +2,7 @@
 use Prim.Native.Nat.{ℕ, zero, suc, ◌+◌, ◌-◌, ◌*◌, ◌≤◌, ◌<◌}
 use mathlib.Core.Path.{◌≡◌, refl, ap, sym, subst, ◌∙◌}
 use Rattle.std.proofs.Common.{Option, None, Some, unwrap_or, take, drop, length-take-le, ltb-true, ltb-false}
+use Rattle.std.specs.Option.{MatchOption}
 use mathlib.Core.Bool.{Bool, true, false, not, ◌&&◌}
 use mathlib.Core.List.{List, ◌∷◌, ◌++◌}
 use native.Mathlib.Omega.{arith}
@@ -18,7 +19,8 @@ use Rattle.routes_rows.specs.Booking.{cell_of, item_cell, order_at, no_cell}
 use Rattle.routes_rows.specs.Blocked.{count_in, level_no, Spread, NoEnds, NoEndsPast}
 use Rattle.routes_rows.specs.Notes.{CLASSES, row_no, Noted, NotesFit, Begun}
 use Rattle.routes_rows.specs.Turning.{Entry, corner_y, sink_in, class_in, clear_at, load_at, of_class, level_at, answer_if}
-use Rattle.routes_rows.specs.Entries.{LEVELS_END, level_in, cell_entry, corner_box, corner_entry, entry_for, row_before, span_of, span_for, BlockedBy, BlockedFor, RowFits, level_by, level_told, TellsClear, Askable, Sought, Turnable, Weighed, Laid, Decidable, Decided}
+use Rattle.board.specs.Index.{found_of}
+use Rattle.routes_rows.specs.Entries.{LEVELS_END, level_in, cell_entry, corner_box, corner_entry, entry_for, row_before, span_of, span_for, BlockedBy, BlockedFor, RowFits, level_by, TellsClear, Askable, Sought, Turnable, Weighed, Laid, Decidable, Decided}
 use Rattle.routes_rows.specs.declared.book.Cell.{Cell}
 use Rattle.routes_rows.proofs.Blocking.{leb-not, part_all, part_first, part_rest, spread_in}
 use Rattle.routes_rows.proofs.Searching.{found_at, found_none, lowest_closed, lightest_closed}
@@ -67,16 +69,20 @@ module _ (booked : List Entry) (span : Cell) (sink class : ℕ) where
   unfolding level_by
   taken o = pick_true (of_class booked class) none _ o
 
-  pub level_taken : {r : Bool} → r ≡ of_class booked class → r ≡ true → None ≡ level_told (level_by booked span sink class)
-  level_taken is o = sym (ap level_told (taken (sym is ∙ o)))
+  pub level_taken : {r : Bool} → r ≡ of_class booked class → r ≡ true → None ≡ found_of (level_by booked span sink class)
+  level_taken is o = sym (ap found_of (taken (sym is ∙ o)))
 
-  pub level_lowest : {r : Bool} {found : Option ℕ} {l : ℕ} → r ≡ of_class booked class → r ≡ false → found ≡ level_told low → found ≡ Some l → Some l ≡ level_told (level_by booked span sink class)
-  level_lowest {l = l} is o e q = sym (ap level_told (ways (at l) (sym is ∙ o) (found_at low l (sym q ∙ e))))
+  pub level_lowest : {r : Bool} {found : Option ℕ} {l : ℕ} → r ≡ of_class booked class → r ≡ false → found ≡ found_of low → found ≡ Some l → Some l ≡ found_of (level_by booked span sink class)
+  level_lowest {l = l} is o e q = sym (ap found_of (ways (at l) (sym is ∙ o) (found_at low l (sym q ∙ e))))
 
-  pub level_lightest : {r : Bool} {found best : Option ℕ} → r ≡ of_class booked class → r ≡ false → found ≡ level_told low → found ≡ None → best ≡ level_told light → best ≡ level_told (level_by booked span sink class)
-  level_lightest is o e q f = f ∙ sym (ap level_told (ways none (sym is ∙ o) (found_none low (sym q ∙ e))))
+  pub level_lightest : {r : Bool} {found best : Option ℕ} → r ≡ of_class booked class → r ≡ false → found ≡ found_of low → found ≡ None → best ≡ found_of light → best ≡ found_of (level_by booked span sink class)
+  level_lightest is o e q f = f ∙ sym (ap found_of (ways none (sym is ∙ o) (found_none low (sym q ∙ e))))
 
-  level_within : (l : ℕ) → Some l ≡ level_told (level_by booked span sink class) → l + 2 ≤ span.x1
+  pub level_either : {found : Option ℕ} {r : Option ℕ} {P : Type 0} → of_class booked class ≡ false → found ≡ found_of low → MatchOption found P (λ x. r ≡ Some x) → (P → r ≡ found_of light) → r ≡ found_of (level_by booked span sink class)
+  level_either {found = Some l} o e m f = m ∙ level_lowest (sym o) refl e refl
+  level_either {found = None} o e m f = level_lightest (sym o) refl e refl (f m)
+
+  level_within : (l : ℕ) → Some l ≡ found_of (level_by booked span sink class) → l + 2 ≤ span.x1
   level_within l e = go (of_class booked class) refl low refl (found_at (level_by booked span sink class) l e)
     where
       inside : (l + 2 ≤ span.x0 + 2 * count_in span) × (0 < count_in span) → l + 2 ≤ span.x1
@@ -88,7 +94,7 @@ module _ (booked : List Entry) (span : Cell) (sink class : ℕ) where
       go false o (at k) q is = inside (lowest_within (λ l. eqb (load_at booked sink l) 0 && clear_at booked span.y0 l) span.x0 (count_in span) l (q ∙ sym (ways (at k) o q) ∙ is))
 
 -- where no level is clear none is found
-pub level_closed : (booked : List Entry) (span : Cell) (sink class : ℕ) → ((k : ℕ) → k < count_in span → clear_at booked span.y0 (level_no span k) ≡ false) → None ≡ level_told (level_by booked span sink class)
+pub level_closed : (booked : List Entry) (span : Cell) (sink class : ℕ) → ((k : ℕ) → k < count_in span → clear_at booked span.y0 (level_no span k) ≡ false) → None ≡ found_of (level_by booked span sink class)
 level_closed booked span sink class h = go (of_class booked class) refl
   where
     free : ℕ → Bool
@@ -100,9 +106,9 @@ level_closed booked span sink class h = go (of_class booked class) refl
     light : lightest (clear_at booked span.y0) (load_at booked sink) span.x0 (count_in span) ≡ none
     light = lightest_closed (clear_at booked span.y0) (load_at booked sink) span.x0 (count_in span) h
 
-    go : (t : Bool) → of_class booked class ≡ t → None ≡ level_told (level_by booked span sink class)
+    go : (t : Bool) → of_class booked class ≡ t → None ≡ found_of (level_by booked span sink class)
     go true o = level_taken booked span sink class (sym o) refl
-    go false o = level_lightest booked span sink class (sym o) refl (ap level_told (sym low)) refl (ap level_told (sym light))
+    go false o = level_lightest booked span sink class (sym o) refl (ap found_of (sym low)) refl (ap found_of (sym light))
 
 level_by_lem : (items : List (List ℕ)) (booked : List Entry) (i : ℕ) → level_at items booked i ≡ level_by booked (span_of items i) (sink_in items i) (class_in items i)
 unfolding level_at level_by
@@ -113,10 +119,6 @@ pub ends_tell : (span : Cell) (booked : List Entry) (ends ends' : List ℕ) (cou
 ends_tell span booked ends ends' count high counts b s k low =
     leb-not (get_or ends' k 0) (level_no span k) ∙ ap not (s.tells k (level_no span k) (omega (arith, low, counts)) ∙ b k low)
     ∙ (λ i. not (any (λ e. cells_overlap e.cell (record { x0 = level_no span k; x1 = level_no span k + 2; y0 = span.y0; y1 = high i })) booked))
-
--- The same ends tell the same.
-pub clear_kept : (span : Cell) (clear : ℕ → Bool) (notes notes' : List ℕ) → count_in span ≤ 1000 → ((k : ℕ) → k < 1000 → get_or notes' k 0 ≡ get_or notes k 0) → TellsClear span clear notes → TellsClear span clear notes'
-clear_kept span clear notes notes' few same h k low = ap (λ e. leb e (level_no span k)) (same k (omega (arith, low, few))) ∙ h k low
 
 -- ---- no end past the levels of a question
 past_corner : (items : List (List ℕ)) (first i : ℕ) (ends : List ℕ) → first ≤ i → NoEndsPast (count_in (span_for items first i)) ends → NoEndsPast (count_in (span_of items i)) ends
@@ -135,19 +137,19 @@ module _ (items : List (List ℕ)) (p first : ℕ) (answers : List ℕ) where
   abbrev answer : Found
   answer = level_at items (row_before items first answers p) here
 
-  pub weighed_by : (notes notes' : List ℕ) (span : Cell) (found : Option ℕ) (level : ℕ) → span ≡ span_of items here → span.x1 ≤ MISSING
-      → found ≡ level_told (level_by (row_before items first answers p) span (sink_in items here) (class_in items here)) → ((g : Found) → found ≡ level_told g → level ≡ held g)
-      → length notes' ≡ length notes → NoEnds notes' → row_no notes' ≡ row_no notes → Noted (row_before items first answers p) (order_at items p - first) notes' → Weighed items p first answers notes notes' level
-  weighed_by notes notes' span found level spans top by told long zeros rows noted =
-      record { told = told answer is; within = few; long = long; no_ends = zeros; rows = rows; noted = noted }
+  pub weighed_by : (notes notes' : List ℕ) (span : Cell) (found : Option ℕ) → span ≡ span_of items here → span.x1 ≤ MISSING
+      → found ≡ found_of (level_by (row_before items first answers p) span (sink_in items here) (class_in items here))
+      → length notes' ≡ length notes → NoEnds notes' → row_no notes' ≡ row_no notes → Noted (row_before items first answers p) (order_at items p - first) notes' → Weighed items p first answers notes notes' found
+  weighed_by notes notes' span found spans top by long zeros rows noted =
+      record { told = is; within = few; long = long; no_ends = zeros; rows = rows; noted = noted }
     where
-      is : found ≡ level_told answer
-      is = by ∙ ap (λ (s : Cell). level_told (level_by (row_before items first answers p) s (sink_in items here) (class_in items here))) spans ∙ sym (ap level_told (level_by_lem items (row_before items first answers p) here))
+      is : found ≡ found_of answer
+      is = by ∙ ap (λ (s : Cell). found_of (level_by (row_before items first answers p) s (sink_in items here) (class_in items here))) spans ∙ sym (ap found_of (level_by_lem items (row_before items first answers p) here))
 
       few : (k : ℕ) → answer ≡ at k → k < LEVELS_END
-      few k q = let h = level_within (row_before items first answers p) span (sink_in items here) (class_in items here) k (sym (ap level_told q) ∙ sym is ∙ by) in omega (arith, h, top)
+      few k q = let h = level_within (row_before items first answers p) span (sink_in items here) (class_in items here) k (sym (ap found_of q) ∙ sym is ∙ by) in omega (arith, h, top)
 
-  answer_held : (f : Found) → unwrap_or (level_told f) MISSING ≡ held f
+  answer_held : (f : Found) → unwrap_or (found_of f) MISSING ≡ held f
   answer_held none = refl
   answer_held (at l) = refl
 
@@ -221,10 +223,10 @@ module _ (items : List (List ℕ)) (p first : ℕ) (answers : List ℕ) where
                 let f = ap count_in spans in
                 left i b ∙ sought.ends i few_i ∙ past₂ i (omega (arith, b, counts)) ∙ able.past i (omega (arith, b, f, counts)) few_i
 
-        pub weighed : {level : ℕ} → level ≡ unwrap_or found MISSING → span.x1 ≤ MISSING → Weighed items p first answers notes ends₄ level
-        weighed {level = level} is top =
+        pub weighed : span.x1 ≤ MISSING → Weighed items p first answers notes ends₄ found
+        weighed top =
             let h = few in
-            weighed_by notes ends₄ span found level spans top (sought.tells booked (here - first) noted₂ clear₂) (λ g e. is ∙ ap (λ r. unwrap_or r MISSING) e ∙ answer_held g)
+            weighed_by notes ends₄ span found spans top (sought.tells booked (here - first) noted₂ clear₂)
             (part_all ends₃ count zeros room same ∙ sought.long ∙ spread₂.long ∙ long) ended (left 9192 (omega (arith, h, counts)) ∙ sought.rows ∙ past₂ 9192 (omega (arith, h)))
             (noted_same (part_all ends₃ count zeros room same) (λ i high. left i (omega (arith, h, high, counts))) (sought.noted booked (here - first) noted₂))
 
@@ -258,23 +260,25 @@ module _ (items : List (List ℕ)) (p first : ℕ) (answers : List ℕ) where
           within = λ h. absurd (omega (arith, h, l));
         }
 
-    pub decided_turn : {notes' answers' : List ℕ} {c : Cell} → Decided items p first notes₁ answers notes' answers' c → row_no notes' ≡ row_no notes₁ → Decided items p first notes answers notes' answers' c
-    decided_turn d same = let r = begun.rows in record { cell = d.cell; long = d.long ∙ begun.long; no_ends = d.no_ends; rows = omega (arith, same, r); noted = d.noted; told = d.told; within = d.within }
+  -- a level found is one that a corner can stand at
+  pub level_fits : {notes notes₁ : List ℕ} {found : Option ℕ} → Weighed items p first answers notes notes₁ found → (l : ℕ) → found ≡ Some l → l < LEVELS_END
+  level_fits w l e = w.within l (found_at answer l (sym e ∙ w.told))
 
-  pub decided_corner : (notes notes₁ notes' : List ℕ) (c : Cell) (level : ℕ) → first ≤ order_at items p → Weighed items p first answers notes notes₁ level → Laid (sink_in items (order_at items p)) (class_in items (order_at items p)) level notes₁ notes'
-      → cell_of c ≡ corner_box (corner_y items (order_at items p)) (level_in level) → Decided items p first notes answers notes' (set answers (order_at items p - first) level) c
-  decided_corner notes notes₁ notes' c level l w laid e =
+  pub decided_corner : (notes notes₁ notes' : List ℕ) (c : Cell) (found : Option ℕ) (level : ℕ) → level ≡ unwrap_or found MISSING → first ≤ order_at items p → Weighed items p first answers notes notes₁ found
+      → ((f : Found) → found ≡ found_of f → Laid (sink_in items (order_at items p)) (class_in items (order_at items p)) f notes₁ notes') → ((f : Found) → found ≡ found_of f → cell_of c ≡ corner_box (corner_y items (order_at items p)) f)
+      → Decided items p first notes answers notes' (set answers (order_at items p - first) level) c
+  decided_corner notes notes₁ notes' c found level kept l w lays cells =
       let b : ltb here first ≡ false = le-ltb here first l in
       let is : entry_for items first here answer ≡ corner_entry items here answer = pick_false (ltb here first) (cell_entry items here) (corner_entry items here answer) b in
-      let told : level_in level ≡ answer = ap level_in w.told ∙ told_back answer w.within in
+      let laid = lays answer w.told in
       let rows = w.rows in
       let more = laid.rows in
       record {
-        cell = e ∙ ap (corner_box (corner_y items here)) told ∙ sym (ap (λ (x : Entry). x.cell) is);
+        cell = cells answer w.told ∙ sym (ap (λ (x : Entry). x.cell) is);
         long = laid.long ∙ w.long;
         no_ends = ends_kept notes₁ notes' laid.ends w.no_ends;
         rows = omega (arith, rows, more);
-        noted = noted_more (omega (arith, l)) (subst (λ (x : Entry). Noted (x ∷ row_before items first answers p) (suc (here - first)) notes') (ap (corner_entry items here) told ∙ sym is) (laid.noted (corner_y items here) (row_before items first answers p) (here - first) w.noted));
-        told = ap (set answers (here - first)) w.told ∙ sym (ap (λ t. answer_if t answers (here - first) (held answer)) b);
+        noted = noted_more (omega (arith, l)) (subst (λ (x : Entry). Noted (x ∷ row_before items first answers p) (suc (here - first)) notes') (sym is) (laid.noted (corner_y items here) (row_before items first answers p) (here - first) w.noted));
+        told = ap (set answers (here - first)) (kept ∙ ap (λ r. unwrap_or r MISSING) w.told ∙ answer_held answer) ∙ sym (ap (λ t. answer_if t answers (here - first) (held answer)) b);
         within = λ _. w.within;
       }

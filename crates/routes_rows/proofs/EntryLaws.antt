@@ -8,19 +8,19 @@ use native.Mathlib.Numerals.{add-one}
 use lib.Dec.{eqb, ltb}
 use lib.ListN.{length, get_or, set}
 use lib.Seq.{get_or-set_other}
-use borrow.Author.Tests.{eqb-true, ne_eqb, ltb-false, lt-ltb, le-ltb}
+use borrow.Author.Tests.{eqb-true, ne_eqb, ltb-false}
 use Rattle.sheet.specs.Table.{MISSING}
 use Rattle.base.specs.Lists.{keep}
-use Rattle.base.proofs.Bools.{false_first, neither, clash, pick_true, pick_false}
+use Rattle.base.proofs.Bools.{false_first, neither, clash}
 use Rattle.board.specs.Rows
 use Rattle.board.specs.Rows.{cells_overlap}
 use Rattle.routes_rows.specs.Booking.{cell_of, key_of, order_at, begins, count_after}
 use Rattle.routes_rows.specs.Blocked.{count_in, corner_cell, blocked, Blocks, cell_meets}
 use Rattle.routes_rows.specs.Notes.{AllPlain}
 use Rattle.routes_rows.specs.Turning.{Entry, load_at, of_class, entries_on}
-use Rattle.routes_rows.specs.Entries.{level_in, cell_entry, corner_entry, entry_at, seen, row_before, follows_row, entries_meet, BlockedBy, BlockedFor, RowFits}
+use Rattle.routes_rows.specs.Entries.{level_in, cell_entry, corner_entry, entry_at, seen, row_before, follows_row, entries_meet, RowFits}
 use Rattle.routes_rows.specs.declared.book.Cell.{Cell}
-use Rattle.routes_rows.proofs.Blocking.{or_no, or_both, or_more}
+use Rattle.routes_rows.proofs.Blocking.{or_no, or_both}
 
 -- ---- the whole row blocks, entry by entry: what is blocked so far, with the entries that are left, is what all block
 pub record Barring (span : Cell) (booked : List Entry) (ends : List ℕ) (left : List Entry) (ends' : List ℕ) : Type 0 where
@@ -42,10 +42,6 @@ module _ {span : Cell} {booked : List Entry} {ends : List ℕ} where
   pub barring_end : {left : List Entry} {ends' : List ℕ} → left ≡ [] → Barring span booked ends left ends' → Blocks span (entries_meet booked span) ends ends'
   barring_end {left} {ends'} is b =
       record { long = b.long; more = λ j low. sym (b.same j low ∙ ap (λ (l : List Entry). blocked span ends' j || entries_meet l span j) is ∙ or_no (blocked span ends' j)); rest = b.rest }
-
-  -- what blocked already blocks twice
-  pub blocks_twice : {n : ℕ} {ends' : List ℕ} → BlockedFor n span booked ends → Blocks span (entries_meet booked span) ends ends' → BlockedBy span booked ends'
-  blocks_twice b h k low = h.more k low ∙ sym (or_more (blocked span ends k) (entries_meet booked span k) (b.some k low))
 
 -- ---- entries that are no corners
 pub plain_class : (l : List Entry) (class : ℕ) → (class ≡ MISSING → ⊥) → AllPlain l → of_class l class ≡ false
@@ -75,14 +71,6 @@ follows_at items (suc k) key h = let e : k ≡ suc k - 1 = omega arith in ap (λ
 pub follows_some : (items : List (List ℕ)) (k key : ℕ) → follows_row items k key ≡ true → 0 < k
 follows_some items zero key t = clash t refl
 follows_some items (suc k) key t = omega arith
-
--- what a cell, and what a question has booked
-module _ (items : List (List ℕ)) (first : ℕ) (answers : List ℕ) (k : ℕ) where
-  pub cell_at : order_at items k < first → entry_at items first answers k ≡ cell_entry items (order_at items k)
-  cell_at h = pick_true (ltb (order_at items k) first) (cell_entry items (order_at items k)) _ (lt-ltb (order_at items k) first h)
-
-  pub corner_at : first ≤ order_at items k → entry_at items first answers k ≡ corner_entry items (order_at items k) (level_in (get_or answers (order_at items k - first) 0))
-  corner_at h = pick_false (ltb (order_at items k) first) (cell_entry items (order_at items k)) _ (le-ltb (order_at items k) first h)
 
 -- ---- a row read back from its p-th item, as far as the k-th
 pub record Back (items : List (List ℕ)) (p key k : ℕ) : Type 0 where

@@ -1,6 +1,6 @@
 -- What the notes tell of the row at hand: kept by what writes ends only, begun anew with a row, and of one corner more. Assumes nothing.
 use Prim.Native.Nat.{ℕ, zero, suc, ◌+◌, ◌*◌, ◌≤◌, ◌<◌}
-use mathlib.Core.Path.{◌≡◌, refl, ap, ap₂, sym, subst, ◌∙◌}
+use mathlib.Core.Path.{◌≡◌, refl, ap, ap₂, sym, ◌∙◌}
 use mathlib.Core.Bool.{Bool, true, false, ◌&&◌, ◌||◌}
 use mathlib.Core.List.{List, ◌∷◌}
 use native.Mathlib.Omega.{arith}
@@ -8,18 +8,18 @@ use native.Mathlib.Numerals.{add-one}
 use lib.Dec.{eqb, ltb}
 use lib.ListN.{length, get_or, set, length-set}
 use lib.Seq.{get_or-set_same, get_or-set_other}
-use borrow.Author.Tests.{eqb-true, eqb-false, eq-eqb, ne_eqb, lt-ltb, le-ltb}
+use borrow.Author.Tests.{eqb-true, eqb-false, eq-eqb, ne_eqb}
 use Rattle.sheet.specs.Table.{MISSING}
-use Rattle.base.specs.Lists.{Found, none, at}
-use Rattle.base.proofs.Bools.{either_left, false_first, pick_true, pick_false}
+use Rattle.base.specs.Lists.{none, at}
+use Rattle.base.proofs.Bools.{either_left, false_first}
 use Rattle.routes_rows.specs.Blocked.{count_in, level_no, beyond, blocked, NoEnds, NoEndsPast}
 use Rattle.routes_rows.specs.Booking.{count_after}
 use Rattle.routes_rows.specs.Notes.{NOTES, CLASSES, stamp_of, row_no, listed, owner_of, owner_x, load_no, pair_load, Owned, Plain, NotesLow, Noted, NotesFit, SamePast, Begun, Owns, Raised, Listed}
 use Rattle.routes_rows.specs.Turning.{Entry, load_at, of_class}
-use Rattle.routes_rows.specs.Entries.{LEVELS_END, corner_for, BlockedFor, TellsLoads, Laid}
+use Rattle.routes_rows.specs.Entries.{corner_for, BlockedFor, Laid}
 use Rattle.routes_rows.specs.declared.book.Cell.{Cell}
 use Rattle.routes_rows.proofs.EntryLaws.{plain_class, plain_load, load_more}
-use Rattle.routes_rows.proofs.LoadLaws.{pair_few, pair_same}
+use Rattle.routes_rows.proofs.LoadLaws.{pair_same}
 
 -- ---- what is written to the ends leaves the rest
 module _ {notes notes' : List ℕ} (long : length notes' ≡ length notes) (same : SamePast notes notes') where
@@ -83,9 +83,6 @@ notes_fit l h = let f = h.few in record { long = h.low.long; few = omega (arith,
 
 -- ---- a row begins where no cell counts
 module _ (notes : List ℕ) (n : ℕ) where
-  pub begun_already : (n ≡ 0 → ⊥) → Begun n notes notes
-  begun_already some = record { long = refl; ends = λ k low. refl; rows = omega arith; noted = λ booked most before plain. before (omega (arith, some)) }
-
   pub begun_anew : n ≡ 0 → NotesLow notes → Begun n notes (set (set (set notes 9192 (row_no notes + 1)) 9193 0) 9194 4294967295)
   begun_anew z low =
       record {
@@ -138,27 +135,6 @@ module _ (notes : List ℕ) (n : ℕ) where
 module _ {sink x0 : ℕ} {notes notes' : List ℕ} (o : Owns sink x0 notes notes') where
   owns_pairs : (s level : ℕ) → pair_load notes' (listed notes') s level ≡ pair_load notes (listed notes) s level
   owns_pairs s level = ap (λ n. pair_load notes' n s level) (o.before 9193 (omega arith)) ∙ pair_same notes notes' (listed notes) (λ k high low. o.behind k high) s level
-
-  pub noted_owns : {booked : List Entry} {most : ℕ} → Noted booked most notes → Noted booked most notes'
-  noted_owns h =
-      record {
-        low =
-            record {
-              long = let l = h.low.long in let e = o.long in omega (arith, l, e);
-              stamped = λ c few. let s = h.low.stamped c few in let a = o.before (1000 + c) (omega (arith, few)) in let b = o.before 9192 (omega arith) in omega (arith, s, a, b);
-            };
-        classes = λ c few. ap₂ eqb (o.before (1000 + c) (omega (arith, few))) (o.before 9192 (omega arith)) ∙ h.classes c few;
-        few = let f = h.few in let e = o.before 9193 (omega arith) in omega (arith, f, e);
-        loads = λ s level has. owns_pairs s level ∙ h.loads s level has;
-        owned = λ has k low. o.loads k low ∙ sym (owns_pairs (owner_of notes') (owner_x notes' + 2 * k) ∙ ap₂ (λ s x. pair_load notes (listed notes) s (x + 2 * k)) o.owner o.from);
-      }
-
-  pub tells_loads : {booked : List Entry} {most : ℕ} (span : Cell) → span.x0 ≡ x0 → count_in span ≤ 1000 → (sink ≡ MISSING → ⊥) → listed notes ≤ CLASSES → Noted booked most notes → TellsLoads span (load_at booked sink) notes'
-  tells_loads {booked} span is few has small h k low =
-      let e : load_no notes' k ≡ pair_load notes (listed notes) sink (level_no span k) = o.loads k (omega (arith, low, few)) ∙ ap (λ x. pair_load notes (listed notes) sink (x + 2 * k)) (sym is) in
-      let f : pair_load notes (listed notes) sink (level_no span k) ≡ load_at booked sink (level_no span k) = h.loads sink (level_no span k) has in
-      let g = pair_few notes (listed notes) sink (level_no span k) in
-      (e ∙ f, omega (arith, f, g, small))
 
 -- ---- a corner is laid
 module _ (sink class level : ℕ) (notes notes₁ notes₂ : List ℕ) (few : class < CLASSES) (long : NOTES ≤ length notes) (raised : Raised sink level notes notes₁) (added : Listed sink level notes₁ notes₂) where
@@ -237,22 +213,20 @@ module _ (sink class level : ℕ) (notes notes₁ notes₂ : List ℕ) (few : cl
         owned = owned_more h.owned;
       }
 
-  pub laid_corner : level < 4294967294 → Laid sink class level notes (set notes₂ (1000 + class) (get_or notes₂ 9192 0))
-  laid_corner is =
+  pub laid_corner : Laid sink class (at level) notes (set notes₂ (1000 + class) (get_or notes₂ 9192 0))
+  laid_corner =
       record {
         long = length-set notes₂ (1000 + class) (get_or notes₂ 9192 0) ∙ long₂;
         ends = λ k low. others k (λ q. omega (arith, q, low)) ∙ kept k (omega (arith, low)) (λ q. omega (arith, q, low));
         rows = row;
-        noted = λ y booked most h. subst (λ (f : Found). Noted (corner_for y sink class f ∷ booked) (suc most) laid_in_lem) (sym (pick_true (ltb level LEVELS_END) (at level) none (lt-ltb level LEVELS_END is))) (noted_corner y booked most h);
+        noted = noted_corner;
       }
 
-pub laid_none : (sink class level : ℕ) (notes : List ℕ) → LEVELS_END ≤ level → Laid sink class level notes notes
-laid_none sink class level notes high =
+pub laid_none : (sink class : ℕ) (notes : List ℕ) → Laid sink class none notes notes
+laid_none sink class notes =
     record {
       long = refl;
       ends = λ k low. refl;
       rows = refl;
-      noted = λ y booked most h.
-          subst (λ (f : Found). Noted (corner_for y sink class f ∷ booked) (suc most) notes) (sym (pick_false (ltb level LEVELS_END) (at level) none (le-ltb level LEVELS_END high)))
-          (noted_plain (corner_for y sink class none) (refl, refl) (noted_more (omega arith) h));
+      noted = λ y booked most h. noted_plain (corner_for y sink class none) (refl, refl) (noted_more (omega arith) h);
     }

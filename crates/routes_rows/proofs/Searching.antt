@@ -1,5 +1,5 @@
 -- The levels of a span gone through upward or downward: the lowest that passes a test, and the least loaded. Assumes nothing.
-use Rattle.std.proofs.Common.{◌≡◌, ℕ, zero, suc, ◌+◌, ◌-◌, ◌*◌, ◌≤◌, ◌<◌, Bool, true, false, ◌&&◌, eqb, leb, List, get_or, Option, None, Some, refl, sym, ap, ap₂, ◌∙◌, subst, arith, le-leb}
+use Rattle.std.proofs.Common.{◌≡◌, ℕ, zero, suc, ◌+◌, ◌-◌, ◌*◌, ◌≤◌, ◌<◌, Bool, true, false, ◌&&◌, eqb, ltb, leb, ltb-true, List, get_or, Option, None, Some, refl, sym, ap, ap₂, ◌∙◌, subst, arith, le-leb}
 use Rattle.std.proofs.lemmas.Bool.{lt-leb}
 use Rattle.sheet.specs.Table.{MISSING}
 use Rattle.base.specs.Lists.{Found, none, at}
@@ -7,17 +7,29 @@ use Rattle.base.proofs.Bools.{never, pick_true, pick_false}
 use Rattle.routes.specs.Levels.{lowest, lighter, lightest}
 use Rattle.routes_rows.specs.Blocked.{count_in, level_no}
 use Rattle.routes_rows.specs.Notes.{load_no}
-use Rattle.routes_rows.specs.Entries.{TellsClear, TellsLoads, level_told}
+use Rattle.board.specs.Index.{found_of}
+use Rattle.routes_rows.specs.Entries.{LEVELS_END, level_in, TellsClear, TellsLoads}
 use Rattle.routes_rows.specs.declared.book.Cell.{Cell}
 
+at_same : (a l : ℕ) → at a ≡ at l → a ≡ l
+at_same a l e = cc
+
 -- What a level told says was found.
-pub found_at : (f : Found) (l : ℕ) → Some l ≡ level_told f → f ≡ at l
+pub found_at : (f : Found) (l : ℕ) → Some l ≡ found_of f → f ≡ at l
 found_at none l e = never cc
 found_at (at y) l e = ap at (cc)
 
-pub found_none : (f : Found) → None ≡ level_told f → f ≡ none
+pub found_none : (f : Found) → None ≡ found_of f → f ≡ none
 found_none none e = refl
 found_none (at y) e = never cc
+
+-- A level that an answer tells is one that a corner can stand at.
+pub level_low : (a l : ℕ) → found_of (level_in a) ≡ Some l → l < LEVELS_END
+level_low a l e = go (ltb a LEVELS_END) refl (found_at (level_in a) l (sym e))
+  where
+    go : (t : Bool) → ltb a LEVELS_END ≡ t → level_in a ≡ at l → l < LEVELS_END
+    go true q is = let low = ltb-true a LEVELS_END q in let same : at a ≡ at l = sym (pick_true (ltb a LEVELS_END) (at a) none q) ∙ is in omega (arith, low, at_same a l same)
+    go false q is = let z : none ≡ at l = sym (pick_false (ltb a LEVELS_END) (at a) none q) ∙ is in never cc
 
 -- What the code asks of a level, by its end and its load.
 pub open_at : (span : Cell) (clear : ℕ → Bool) (load : ℕ → ℕ) (notes : List ℕ) (k : ℕ) {r : Bool} → TellsClear span clear notes → TellsLoads span load notes → k < count_in span
@@ -70,14 +82,14 @@ lighter_left load x (at y) few h = pick_false (leb (load x) (load y)) _ _ (lt-le
 
 -- The best of the levels from the k-th on, of so many, and its load.
 pub record Best (ok : ℕ → Bool) (load : ℕ → ℕ) (x count k : ℕ) (best : Option ℕ) (least : ℕ) : Type 0 where
-  pub level : best ≡ level_told (lightest ok load (x + 2 * k) (count - k))
+  pub level : best ≡ found_of (lightest ok load (x + 2 * k) (count - k))
   pub lightly : least ≡ weight load (lightest ok load (x + 2 * k) (count - k))
 
-pub best_all : {ok : ℕ → Bool} {load : ℕ → ℕ} {x count : ℕ} {best : Option ℕ} {least : ℕ} → Best ok load x count 0 best least → best ≡ level_told (lightest ok load x count)
+pub best_all : {ok : ℕ → Bool} {load : ℕ → ℕ} {x count : ℕ} {best : Option ℕ} {least : ℕ} → Best ok load x count 0 best least → best ≡ found_of (lightest ok load x count)
 best_all {ok = ok} {load = load} {x = x} {count = count} h =
     let z : x + 2 * 0 ≡ x = omega arith in
     let all : count - 0 ≡ count = omega arith in
-    h.level ∙ ap₂ (λ (l n : ℕ). level_told (lightest ok load l n)) z all
+    h.level ∙ ap₂ (λ (l n : ℕ). found_of (lightest ok load l n)) z all
 
 module _ {ok : ℕ → Bool} {load : ℕ → ℕ} {x count k : ℕ} {best : Option ℕ} {least : ℕ} (h : Best ok load x count k best least) (some : 0 < k) (in_reach : k ≤ count) where
   abbrev level : ℕ
@@ -94,7 +106,7 @@ module _ {ok : ℕ → Bool} {load : ℕ → ℕ} {x count k : ℕ} {best : Opti
       ∙ (λ w. elim (ok level) [ true ↦ lighter load level (lightest ok load (next w) (count - k)) | false ↦ lightest ok load (next w) (count - k) ])
 
   kept : lightest ok load level (count - (k - 1)) ≡ before → Best ok load x count (k - 1) best least
-  kept e = record { level = h.level ∙ ap level_told (sym e); lightly = h.lightly ∙ ap (weight load) (sym e) }
+  kept e = record { level = h.level ∙ ap found_of (sym e); lightly = h.lightly ∙ ap (weight load) (sym e) }
 
   pub best_passed : ok level ≡ false → Best ok load x count (k - 1) best least
   best_passed t = kept (unrolled ∙ pick_false (ok level) _ _ t)
@@ -111,4 +123,4 @@ module _ {ok : ℕ → Bool} {load : ℕ → ℕ} {x count k : ℕ} {best : Opti
         let e = h.lightly in
         let l' : load level ≤ weight load before = omega (arith, l, is, e) in
         let this : lightest ok load level (count - (k - 1)) ≡ at level = unrolled ∙ pick_true (ok level) _ _ t ∙ lighter_taken load level before l' in
-        record { level = sym (ap level_told this); lightly = is ∙ sym (ap (weight load) this) }
+        record { level = sym (ap found_of this); lightly = is ∙ sym (ap (weight load) this) }

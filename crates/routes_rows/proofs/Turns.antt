@@ -90,10 +90,6 @@ pub flag_byte : (t : Bool) → bool_byte t ≡ flag t
 flag_byte true = refl
 flag_byte false = refl
 
-pub byte_few : (t : Bool) → bool_byte t ≤ 1
-byte_few true = omega arith
-byte_few false = omega arith
-
 pub byte_counted : (t : Bool) (n : ℕ) → n + bool_byte t ≡ count_after t n
 byte_counted true n = refl
 byte_counted false n = add-zero n

@@ -11,6 +11,10 @@ use Rattle.routes_rows.specs.declared.book.Cell.{Cell}
 abbrev pub cell_of : Cell → Rows.Cell
 cell_of c = record { x0 = c.x0; x1 = c.x1; y0 = c.y0; y1 = c.y1 }
 
+-- The cell of an item: its first four columns.
+abbrev pub row_cell : List ℕ → Rows.Cell
+row_cell r = record { x0 = get_or r 0 0; x1 = get_or r 1 0; y0 = get_or r 2 0; y1 = get_or r 3 0 }
+
 abbrev pub item_cell : List (List ℕ) → ℕ → Rows.Cell
 item_cell items i = record { x0 = field items i 0; x1 = field items i 1; y0 = field items i 2; y1 = field items i 3 }
 

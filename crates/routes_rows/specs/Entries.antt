@@ -1,11 +1,12 @@
 -- How the code decides corners. What is booked on the row at hand is read off the items and the answers; the cells of it that can overlap something stand in a slice besides, as many as it holds. A question
 -- without a corner books a blank, which overlaps nothing and is of no sink and no class. No rule stands here.
-use Rattle.std.specs.Prelude.{ℕ, zero, suc, ◌+◌, ◌-◌, ◌≤◌, ◌<◌, ◌≡◌, Bool, true, false, ◌&&◌, List, [], ◌∷◌, Option, None, Some, min, eqb, ltb, leb, length, get_or}
+use Rattle.std.specs.Prelude.{ℕ, zero, suc, ◌+◌, ◌-◌, ◌≤◌, ◌<◌, ◌≡◌, Bool, true, false, ◌&&◌, List, [], ◌∷◌, Option, min, eqb, ltb, leb, length, get_or}
 use Rattle.sheet.specs.Table.{MISSING}
 use Rattle.base.specs.Lists.{Found, none, at, any}
 use Rattle.board.specs.Rows
 use Rattle.board.specs.Rows.{cells_overlap, rerouter_cell, REROUTER_SIZE}
 use Rattle.board.specs.Tables.{held}
+use Rattle.board.specs.Index.{found_of}
 use Rattle.routes.specs.Levels.{levels_in, lowest, lightest}
 use Rattle.routes_rows.specs.Blocked.{count_in, level_no, corner_cell, blocked, NoEnds, NoEndsPast}
 use Rattle.routes_rows.specs.Booking.{cell_of, item_cell, key_of, order_at, begins, no_cell}
@@ -19,10 +20,6 @@ SLICE_MOST = 12800
 
 abbrev pub in_slice : ℕ → ℕ
 in_slice n = min n SLICE_MOST
-
--- The cell of an item that is a cell.
-abbrev pub row_cell : List ℕ → Rows.Cell
-row_cell r = record { x0 = get_or r 0 0; x1 = get_or r 1 0; y0 = get_or r 2 0; y1 = get_or r 3 0 }
 
 -- The level that an answer tells: one whose corner ends within the numbers, or none.
 abbrev pub LEVELS_END : ℕ
@@ -101,11 +98,6 @@ level_by booked span sink class =
           [ at l ↦ at l | none ↦ lightest (clear_at booked span.y0) (load_at booked sink) span.x0 (count_in span) ]
     ]
 
--- A level, or none, as the code says it.
-abbrev pub level_told : Found → Option ℕ
-level_told none = None
-level_told (at l) = Some l
-
 -- A level is clear where its end does not lie beyond it.
 abbrev pub TellsClear : Cell → (ℕ → Bool) → List ℕ → Type 0
 TellsClear span clear ends = (k : ℕ) → k < count_in span → leb (get_or ends k 0) (level_no span k) ≡ clear (level_no span k)
@@ -142,7 +134,7 @@ pub record Sought (span : Cell) (sink class : ℕ) (notes notes' : List ℕ) (r 
   pub ends : (k : ℕ) → k < 1000 → get_or notes' k 0 ≡ get_or notes k 0
   pub rows : row_no notes' ≡ row_no notes
   pub noted : (booked : List Entry) (most : ℕ) → Noted booked most notes → Noted booked most notes'
-  pub tells : (booked : List Entry) (most : ℕ) → Noted booked most notes → TellsClear span (clear_at booked span.y0) notes → r ≡ level_told (level_by booked span sink class)
+  pub tells : (booked : List Entry) (most : ℕ) → Noted booked most notes → TellsClear span (clear_at booked span.y0) notes → r ≡ found_of (level_by booked span sink class)
 
 -- What is asked for to answer the question that comes p-th, behind n cells of its row.
 pub record Turnable (items : List (List ℕ)) (p first n : ℕ) (notes answers : List ℕ) : Type 0 where
@@ -153,8 +145,8 @@ pub record Turnable (items : List (List ℕ)) (p first n : ℕ) (notes answers :
   pub noted : Noted (row_before items first answers p) (order_at items p - first) notes
 
 -- Its level, and the notes that are then left behind.
-pub record Weighed (items : List (List ℕ)) (p first : ℕ) (answers notes notes' : List ℕ) (level : ℕ) : Type 0 where
-  pub told : level ≡ held (level_at items (row_before items first answers p) (order_at items p))
+pub record Weighed (items : List (List ℕ)) (p first : ℕ) (answers notes notes' : List ℕ) (found : Option ℕ) : Type 0 where
+  pub told : found ≡ found_of (level_at items (row_before items first answers p) (order_at items p))
   pub within : (l : ℕ) → level_at items (row_before items first answers p) (order_at items p) ≡ at l → l < LEVELS_END
   pub long : length notes' ≡ length notes
   pub no_ends : NoEnds notes'
@@ -162,11 +154,11 @@ pub record Weighed (items : List (List ℕ)) (p first : ℕ) (answers notes note
   pub noted : Noted (row_before items first answers p) (order_at items p - first) notes'
 
 -- A corner is noted, where the level is one.
-pub record Laid (sink class level : ℕ) (notes notes' : List ℕ) : Type 0 where
+pub record Laid (sink class : ℕ) (f : Found) (notes notes' : List ℕ) : Type 0 where
   pub long : length notes' ≡ length notes
   pub ends : (k : ℕ) → k < 1000 → get_or notes' k 0 ≡ get_or notes k 0
   pub rows : row_no notes' ≡ row_no notes
-  pub noted : (y : ℕ) (booked : List Entry) (most : ℕ) → Noted booked most notes → Noted (corner_for y sink class (level_in level) ∷ booked) (suc most) notes'
+  pub noted : (y : ℕ) (booked : List Entry) (most : ℕ) → Noted booked most notes → Noted (corner_for y sink class f ∷ booked) (suc most) notes'
 
 -- What is asked for to decide the item that comes p-th, behind n cells of its row.
 pub record Decidable (items : List (List ℕ)) (p first n : ℕ) (notes answers : List ℕ) : Type 0 where

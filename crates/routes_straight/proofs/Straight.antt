@@ -24,7 +24,7 @@ use Rattle.routes.specs.Corners.{corner_rerouter, corners, turns}
 use Rattle.routes.specs.Plan.{bus_of, finished}
 use Rattle.routes.specs.Route.{plan, routed, routed_by}
 use Rattle.routes.proofs.Made.{Grown, place_grows, deliver_grows}
-use Rattle.routes.proofs.Laid.{LaidIn, laid_in, laid_tail, row_of_group, new_group_lem}
+use Rattle.routes.proofs.LaidTaps.{LaidIn, laid_in, laid_tail, row_of_group, new_group_lem}
 use Rattle.routes.proofs.Claims.{stops_more, stops_same, stops_before_lem, stop_group}
 use Rattle.routes.proofs.Turned.{with_turn, turned}
 use Rattle.routes_straight.specs.Straight.{InLine, Straight}

@@ -1,6 +1,7 @@
--- What is read of a lane in the tables is what the rules say of it; and what a tap begins.
-use Prim.Native.Nat.{ℕ, zero, suc, ◌-◌, ◌<◌, min}
-use mathlib.Core.Path.{◌≡◌, refl, ap, sym, subst, ◌∙◌}
+-- What is read of a lane in the tables is what the rules say of it.
+use Rattle.std.specs.Prelude.{None, Some as Known}
+use Prim.Native.Nat.{ℕ, zero, ◌<◌, min}
+use mathlib.Core.Path.{◌≡◌, refl, ap, sym, ◌∙◌}
 use mathlib.Core.Bool.{Bool, true, false, not, ◌&&◌, ◌||◌}
 use mathlib.Core.List.Memᴰ
 use mathlib.Core.List.{List, [], ◌∷◌, map, Memᴰ}
@@ -12,17 +13,19 @@ use borrow.Author.Tests.{eq-eqb, ne_eqb, eqb-true, lt-ltb, le-ltb, ltb-true, ltb
 use Rattle.sheet.specs.Table.{MISSING}
 use Rattle.base.specs.Lists.{Found, none, at, any, keep, least}
 use Rattle.board.specs.Board.{Board, field, has_row, page_of, x_of, source_node}
+use Rattle.board.specs.Index.{found_of}
 use Rattle.board.specs.Rows.{row_of}
 use Rattle.board.specs.Groups
 use Rattle.board.specs.Groups.{anchor_of, source_anchor, source_row, taps_in}
 use Rattle.board.specs.Demands.{PageLanes, no_lanes, lane_of, lane_in, lane_y}
-use Rattle.base.specs.Views.{view}
-use Rattle.board.specs.Tables.{held, tap_in}
+use Rattle.board.specs.Tables.{held}
 use Rattle.base.proofs.Bools.{pick_true, pick_false}
-use Rattle.routes.specs.Stops.{new_group, new_row, new_column}
 use Rattle.routes.specs.Levels.{lane_for}
 use Rattle.routes.specs.Rerouters.{source, chain_rotation}
-use Rattle.routes_taps.specs.Taps.{LaneOf, LaneRanges, RowHeld, LaneInRange, lane_read, rotation_over, row_on_page, NewsOf, Tables}
+use Rattle.routes.specs.Holding.{turns_of}
+use Rattle.routes.specs.declared.bus.Rotation.{Rotation}
+use Rattle.routes.specs.declared.bus.Rotation.TheVariants.{Deg90, Deg270}
+use Rattle.routes_taps.specs.Taps.{LaneOf, LaneRanges, LaneInRange, lane_read, rotation_over, row_on_page, Tables}
 
 -- The least is over x exactly when all are.
 ltb-min : (x a b : ℕ) → not (ltb x (min a b)) ≡ not (ltb x a) || not (ltb x b)
@@ -64,8 +67,12 @@ over_least : (x : ℕ) (l : List Groups.Tap) → Some l → not (any (λ u. not 
 over_least x [] h = elim h [ ]
 over_least x (u ∷ l) h = ap not (over_all x u.x l) ∙ not-not (ltb x (min u.x (least u.x (map (λ v. v.x) l))))
 
-abbrev pick13 : Bool → ℕ
-pick13 c = elim c [ true ↦ 3 | false ↦ 1 ]
+abbrev turned : Bool → Rotation
+turned c = elim c [ true ↦ Deg270 | false ↦ Deg90 ]
+
+turns : (c : Bool) → turns_of (turned c) ≡ elim c as (λ _. ℕ) [ true ↦ 3 | false ↦ 1 ]
+turns true = refl
+turns false = refl
 
 -- A number held for an index that is there.
 held_at : (f : Found) (v : ℕ) → v ≡ held f → v < MISSING → elim f as (λ _. ℕ) [ at s ↦ s | none ↦ zero ] ≡ v
@@ -95,43 +102,42 @@ module _ (b : Board) (ts : List Groups.Tap) (ps : List PageLanes) (pages nodes w
           let z : field groups t.group 4 ≡ MISSING = k.groups.lanes t mem ∙ ap held gone in
           let small = r.lane_small in absurd (omega arith)
 
-  rotation_is : rotation_over (field nodes (field facts t.group 2) 8) (field groups t.group 5) ≡ chain_rotation b ts ps t
+  rotation_is : turns_of (rotation_over (field nodes (field facts t.group 2) 8) (field groups t.group 5)) ≡ chain_rotation b ts ps t
   unfolding chain_rotation taps_in
   rotation_is =
       let x : ℕ = x_of b (source b ts ps t) in
       let ex : field nodes (field facts t.group 2) 8 ≡ x = λ i. field (sym k.nodes i) (sym anchor_is i) 8 in
       let low : field groups t.group 5 ≡ least 0 (map (λ u. u.x) (keep (λ u. eqb u.group t.group) ts)) = k.groups.lows t mem in
-      (λ i. rotation_over (ex i) (low i))
-      ∙ ap (λ c. pick13 (not (eqb x MISSING) && c))
+      (λ i. turns_of (rotation_over (ex i) (low i)))
+      ∙ turns _
+      ∙ ap (λ c. elim (not (eqb x MISSING) && c) as (λ _. ℕ) [ true ↦ 3 | false ↦ 1 ])
       (sym (over_least x (keep (λ u. eqb u.group t.group) ts) (kept_some (λ u. eqb u.group t.group) t ts (eq-eqb t.group t.group refl) mem)))
 
-  row_is : RowHeld (row_on_page nodes facts (field facts t.group 2) t.page) (source_row b t.group t.page)
+  row_is : row_on_page nodes facts (field facts t.group 2) t.page ≡ found_of (source_row b t.group t.page)
   unfolding source_row
   row_is = go (eqb (page_of b (source_anchor b t.group)) t.page) refl
     where
       on_page : field nodes (field facts t.group 2) 10 ≡ page_of b (source_anchor b t.group)
       on_page = λ i. field (sym k.nodes i) (sym anchor_is i) 10
 
+      row : Bool → Bool → Found
+      row has here = elim (has && here) [ true ↦ at (row_of b (source_anchor b t.group)) | false ↦ none ]
+
       go : (c : Bool) → eqb (page_of b (source_anchor b t.group)) t.page ≡ c
-          → RowHeld (row_on_page nodes facts (field facts t.group 2) t.page) (elim (has_row b (source_anchor b t.group) && c) [ true ↦ at (row_of b (source_anchor b t.group)) | false ↦ none ])
+          → row_on_page nodes facts (field facts t.group 2) t.page ≡ found_of (row (has_row b (source_anchor b t.group)) c)
       go true e =
           let here : field nodes (field facts t.group 2) 10 ≡ t.page = on_page ∙ eqb-true _ t.page e in
           let small = r.page_small in
           let has : has_row b (source_anchor b t.group) ≡ true = ap not (ne_eqb _ MISSING (λ z. let q : t.page ≡ MISSING = sym (eqb-true (page_of b (source_anchor b t.group)) t.page e) ∙ z in omega arith)) in
           let long : length b.nodes ≡ length nodes = ap length k.nodes in
           let inside : source_anchor b t.group < length b.nodes = let a = anchor_is in let q = r.anchor in omega arith in
-          let row : field facts (field facts t.group 2) 0 ≡ row_of b (source_anchor b t.group) = ap (λ v. field facts v 0) (sym anchor_is) ∙ k.facts.rows (source_anchor b t.group) inside has in
-          let small' = r.row_small here in
-          subst (λ (c : Bool). RowHeld (row_on_page nodes facts (field facts t.group 2) t.page) (elim (c && true) as (λ _. Found) [ true ↦ at (row_of b (source_anchor b t.group)) | false ↦ none ])) (sym has)
-          (pick_true (eqb (field nodes (field facts t.group 2) 10) t.page) _ _ (eq-eqb _ t.page here) ∙ row, λ z. omega arith)
-      go false e =
-          let away : eqb (field nodes (field facts t.group 2) 10) t.page ≡ false = ap (λ v. eqb v t.page) on_page ∙ e in
-          either (has_row b (source_anchor b t.group)) (pick_false (eqb (field nodes (field facts t.group 2) 10) t.page) _ _ away)
+          let known : field facts (field facts t.group 2) 0 ≡ row_of b (source_anchor b t.group) = ap (λ v. field facts v 0) (sym anchor_is) ∙ k.facts.rows (source_anchor b t.group) inside has in
+          pick_true (eqb (field nodes (field facts t.group 2) 10) t.page) _ _ (eq-eqb _ t.page here) ∙ ap Known known ∙ ap (λ c. found_of (row c true)) (sym has)
+      go false e = pick_false (eqb (field nodes (field facts t.group 2) 10) t.page) _ _ (ap (λ v. eqb v t.page) on_page ∙ e) ∙ away (has_row b (source_anchor b t.group))
         where
-          either : (c : Bool) → row_on_page nodes facts (field facts t.group 2) t.page ≡ MISSING
-              → RowHeld (row_on_page nodes facts (field facts t.group 2) t.page) (elim (c && false) as (λ _. Found) [ true ↦ at (row_of b (source_anchor b t.group)) | false ↦ none ])
-          either true h = h
-          either false h = h
+          away : (c : Bool) → None ≡ found_of (row c false)
+          away true = refl
+          away false = refl
 
   pub lane_of_lem : LaneOf b ts ps t (lane_read pages nodes wires facts groups t.page t.group)
   lane_of_lem =
@@ -152,20 +158,3 @@ module _ (b : Board) (ts : List Groups.Tap) (ps : List PageLanes) (pages nodes w
 pub lane_ranges : (pages nodes wires facts groups : List (List ℕ)) (page group : ℕ) → LaneInRange pages nodes wires facts groups page group → LaneRanges (lane_read pages nodes wires facts groups page group)
 lane_ranges pages nodes wires facts groups page group r =
     record { page = λ z. let h = r.page_small in omega arith; lane = λ z. let h = r.lane_small in omega arith; source_y = r.source_room }
-
--- What a tap begins that is not the first: the one before it stands in front of the others.
-pub news_after : (laid : List (List ℕ)) (k : ℕ) → (k ≡ 0 → ⊥)
-    → NewsOf (view tap_in laid k) (tap_in (get_or laid k []))
-    (record {
-      group = not (eqb (field laid (k - 1) 1) (field laid k 1));
-      row = not (eqb (field laid (k - 1) 1) (field laid k 1) && eqb (field laid (k - 1) 2) (field laid k 2));
-      column = not (eqb (field laid (k - 1) 1) (field laid k 1) && eqb (field laid (k - 1) 2) (field laid k 2) && eqb (field laid (k - 1) 3) (field laid k 3));
-    })
-news_after laid k nz =
-    let e : k ≡ suc (k - 1) = omega (arith, nz) in
-    let t = tap_in (get_or laid k []) in
-    record {
-      group = ap (λ j. new_group (view tap_in laid j) t) (sym e);
-      row = ap (λ j. new_row (view tap_in laid j) t) (sym e);
-      column = ap (λ j. new_column (view tap_in laid j) t) (sym e);
-    }

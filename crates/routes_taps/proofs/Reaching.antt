@@ -16,11 +16,12 @@ use Rattle.base.proofs.Bools.{pick_true}
 use Rattle.routes.specs.Stops.{new_row}
 use Rattle.routes.specs.Levels.{Stop, stops_of, stop_for, lane_for}
 use Rattle.routes.specs.Rerouters.{stops_before}
+use Rattle.routes.specs.News.{begins_row, NewsOf}
+use Rattle.routes.specs.declared.news.News.{News}
 use Rattle.routes.specs.Tables.{stop_in}
-use Rattle.routes_taps.specs.Taps.{LaneInRange, lane_read, tap_read, tap_of, Tables, TapOn, TapTarget, LaneOf, NewsOf, AtStop, ReachedNext, NextInRange, WentOn, rows_begun, LaidInRange}
+use Rattle.routes_taps.specs.Taps.{LaneInRange, lane_read, tap_read, tap_of, Tables, TapOn, TapTarget, LaneOf, AtStop, ReachedNext, NextInRange, WentOn, rows_begun, LaidInRange}
 use Rattle.routes_taps.specs.declared.taps.Lane.{Lane}
 use Rattle.routes_taps.specs.declared.taps.Tap.{Tap}
-use Rattle.routes_taps.specs.declared.taps.News.{News}
 use Rattle.routes_taps.specs.declared.taps.Reached.{Reached}
 use Rattle.routes_taps.proofs.Lanes.{lane_of_lem}
 
@@ -37,7 +38,7 @@ pub target_next : (b : Board) (ts : List Groups.Tap) (row : List ℕ) (t : Tap) 
 target_next b ts row t on et = subst (TapTarget b) (sym et) (record { node = on.node; port = on.port })
 
 -- The stop that was reached.
-pub went_on : (laid : List (List ℕ)) (k : ℕ) (stops : List (List ℕ)) (r r' : Reached) (news : News) → NewsOf (view tap_in laid k) (tap_in (get_or laid k [])) news → NextInRange laid k stops r → ReachedNext stops r news.row r'
+pub went_on : (laid : List (List ℕ)) (k : ℕ) (stops : List (List ℕ)) (r r' : Reached) (news : News) → NewsOf (view tap_in laid k) (tap_in (get_or laid k [])) news → NextInRange laid k stops r → ReachedNext stops r (begins_row news) r'
     → WentOn laid k stops r r'
 went_on laid k stops r r' news n range next =
     record {

@@ -1,9 +1,9 @@
 -- How the code holds the laid taps, their lanes and their stops on a walk. No rule stands here.
-use Rattle.std.specs.Prelude.{ℕ, suc, ◌+◌, ◌*◌, ◌-◌, ◌<◌, ◌≤◌, ◌≡◌, Bool, true, false, not, ◌&&◌, eqb, ltb, length, get_or}
+use Rattle.std.specs.Prelude.{ℕ, suc, ◌+◌, ◌*◌, ◌-◌, ◌<◌, ◌≤◌, ◌≡◌, Bool, true, false, not, ◌&&◌, eqb, ltb, length, get_or, Option, None, Some}
 use mathlib.Core.List.{List, [], ◌∷◌, Memᴰ}
 use Rattle.sheet.specs.Table.{MISSING}
-use Rattle.base.specs.Lists.{Found, none, at}
 use Rattle.board.specs.Board.{Board, field, id_of, x_of, y_of, z_of, min_y_of, source_node, source_port, target_node, target_port}
+use Rattle.board.specs.Index.{found_of}
 use Rattle.board.specs.Groups
 use Rattle.board.specs.Groups.{source_row}
 use Rattle.board.specs.Demands.{PageLanes, no_lanes, lane_y, LANE_PITCH, BUS_BAND_GUTTER}
@@ -12,23 +12,19 @@ use Rattle.board.specs.Tables.{tap_in, NodeFacts, WireFacts, PageFacts}
 use Rattle.routes.specs.Levels
 use Rattle.routes.specs.Levels.{lane_for, dropped, shared, own}
 use Rattle.routes.specs.Rerouters.{TAP_RESERVE, source, chain_rotation, level_here}
-use Rattle.routes.specs.Stops.{new_group, new_row, new_column}
+use Rattle.routes.specs.Stops.{new_row}
 use Rattle.routes.specs.Tables.{stop_in, GroupFacts}
-use Rattle.routes.specs.Holding.{stop_level_of}
+use Rattle.routes.specs.Holding.{turns_of, stop_level_of}
+use Rattle.routes.specs.declared.bus.Rotation.{Rotation}
+use Rattle.routes.specs.declared.bus.Rotation.TheVariants.{Deg90, Deg270}
 use Rattle.routes.specs.declared.levels.Level.{Level}
 use Rattle.routes_taps.specs.declared.taps.Lane.{Lane}
 use Rattle.routes_taps.specs.declared.taps.Tap.{Tap}
-use Rattle.routes_taps.specs.declared.taps.News.{News}
 use Rattle.routes_taps.specs.declared.taps.Reached.{Reached}
 
 -- What the code's values stand for.
 abbrev pub tap_of : Tap → Groups.Tap
 tap_of t = record { page = t.page; group = t.group; row = t.row; y = t.y; x = t.x; node = t.node; port = t.port; wire = t.wire }
-
--- A row that may not be known, as one number.
-abbrev pub RowHeld : ℕ → Found → Type 0
-RowHeld v none = v ≡ MISSING
-RowHeld v (at r) = (v ≡ r) × (r ≡ MISSING → ⊥)
 
 -- The lane of a tap's group holds what the rules say of it.
 pub record LaneOf (b : Board) (ts : List Groups.Tap) (ps : List PageLanes) (t : Groups.Tap) (l : Lane) : Type 0 where
@@ -37,12 +33,12 @@ pub record LaneOf (b : Board) (ts : List Groups.Tap) (ps : List PageLanes) (t : 
   pub y : l.y ≡ lane_y (min_y_of b t.page) (get_or ps t.page no_lanes).count (lane_for ps t)
   pub z : l.z ≡ z_of b t.page
   pub colour : l.colour.0 ≡ id_of b (source b ts ps t)
-  pub rotation : l.rotation ≡ chain_rotation b ts ps t
+  pub rotation : turns_of l.rotation ≡ chain_rotation b ts ps t
   pub node : l.node.0 ≡ source_node b t.group
   pub port : l.port ≡ source_port b t.group
   pub source_x : l.source_x ≡ x_of b (source b ts ps t)
   pub source_y : l.source_y ≡ y_of b (source b ts ps t)
-  pub row : RowHeld l.source_row (source_row b t.group t.page)
+  pub row : l.source_row ≡ found_of (source_row b t.group t.page)
 
 -- The numbers of a lane are in range: it is on a page, and has a number; a rerouter's place left of its source is no negative number.
 pub record LaneRanges (l : Lane) : Type 0 where
@@ -69,12 +65,12 @@ pub record TapTarget (b : Board) (t : Tap) : Type 0 where
   pub node : t.node ≡ target_node b t.wire
   pub port : t.port ≡ target_port b t.wire
 
--- What the code reads of a lane in the tables: 3 where the source is placed and the least tap is over it; the row where the source is on the page.
-abbrev pub rotation_over : ℕ → ℕ → ℕ
-rotation_over x low = elim (not (eqb x MISSING) && ltb x low) [ true ↦ 3 | false ↦ 1 ]
+-- What the code reads of a lane in the tables: three quarter turns where the source is placed and the least tap is over it; the row where the source is on the page.
+abbrev pub rotation_over : ℕ → ℕ → Rotation
+rotation_over x low = elim (not (eqb x MISSING) && ltb x low) [ true ↦ Deg270 | false ↦ Deg90 ]
 
-abbrev pub row_on_page : List (List ℕ) → List (List ℕ) → ℕ → ℕ → ℕ
-row_on_page nodes facts s page = elim (eqb (field nodes s 10) page) [ true ↦ field facts s 0 | false ↦ MISSING ]
+abbrev pub row_on_page : List (List ℕ) → List (List ℕ) → ℕ → ℕ → Option ℕ
+row_on_page nodes facts s page = elim (eqb (field nodes s 10) page) [ true ↦ Some (field facts s 0) | false ↦ None ]
 
 abbrev pub lane_read : (pages nodes wires facts groups : List (List ℕ)) → ℕ → ℕ → Lane
 lane_read pages nodes wires facts groups page group =
@@ -113,12 +109,6 @@ pub record LaneInRange (pages nodes wires facts groups : List (List ℕ)) (page 
   pub lane_room : BUS_BAND_GUTTER + LANE_PITCH * (field facts page 6 - field groups group 4) ≤ field pages page 1
   pub source_room : TAP_RESERVE ≤ field nodes (field facts group 2) 9
   pub row_small : field nodes (field facts group 2) 10 ≡ page → field facts (field facts group 2) 0 < MISSING
-
--- What a tap begins, in the rules' words.
-pub record NewsOf (l : List Groups.Tap) (t : Groups.Tap) (news : News) : Type 0 where
-  pub group : news.group ≡ new_group l t
-  pub row : news.row ≡ new_row l t
-  pub column : news.column ≡ new_column l t
 
 -- The stops reached: the level is that of the newest.
 pub record AtStop (stops : List (List ℕ)) (r : Reached) : Type 0 where

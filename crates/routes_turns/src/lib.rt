@@ -1,2 +1,2 @@
-// Corners decided before they are written, row by row.
+// Corners decided before they are written, row by row. No code stands here: `specs/` says it, and `proofs/` has the theorems.
 #![tactic(auto)]

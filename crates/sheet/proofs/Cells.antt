@@ -1,5 +1,5 @@
 -- What a field holds: the tests of the code are those of the rules.
-use Rattle.std.proofs.Common.{◌≡◌, ℕ, ◌+◌, ◌-◌, ◌^◌, ◌<◌, ◌≤◌, min, Bool, true, false, ◌&&◌, leb, List, length, get_or, sym, refl, ap, ◌∙◌, arith, get_or-set_same, ne_eqb, le-leb, leb-true, leb-false}
+use Rattle.std.proofs.Common.{◌≡◌, ℕ, ◌+◌, ◌-◌, ◌<◌, ◌≤◌, Bool, true, false, ◌&&◌, leb, List, length, get_or, sym, refl, ap, ◌∙◌, arith, get_or-set_same, ne_eqb, le-leb, leb-true}
 use Rattle.std.specs.Prelude.{Option, Some, Result, Ok, Err}
 use Rattle.sheet.specs.declared.number.Scanned.{Scanned}
 use borrow.Author.Tests.{lt-leb}
@@ -28,14 +28,6 @@ module _ (low high v : ℕ) where
       go : (b : Bool) → Err OutOfRange ≡ elim (b && false) as (λ _. Result ℕ CellFault) [ true ↦ Ok v | false ↦ Err OutOfRange ]
       go true = refl
       go false = refl
-
--- a number that would not fit in 64 bits is out of range either way
-pub within_most : (low high v w : ℕ) → high < 2 ^ 32 → w ≡ min v (2 ^ 64 - 1) → within low high true w ≡ within low high true v
-within_most low high v w h e = go (leb v (2 ^ 64 - 1)) refl
-  where
-    go : (b : Bool) → leb v (2 ^ 64 - 1) ≡ b → within low high true w ≡ within low high true v
-    go true q = let same : w ≡ v = omega (arith, e, leb-true v (2 ^ 64 - 1) q) in rw same
-    go false q = sym (within_high low high w (omega (arith, e, h, leb-false v (2 ^ 64 - 1) q))) ∙ within_high low high v (omega (arith, h, leb-false v (2 ^ 64 - 1) q))
 
 -- a number taken away from the origin
 module _ (low high origin v : ℕ) where

@@ -4,12 +4,11 @@ use borrow.Author.Tests.{lt-leb}
 use Rattle.sheet.specs.declared.line.CellFault.{CellFault}
 use Rattle.sheet.specs.declared.line.CellFault.TheVariants.{OutOfRange, Malformed}
 use Rattle.sheet.specs.declared.table.Column.{Column}
-use Rattle.std.specs.Prelude.{Option, Result, Ok, Err}
-use Rattle.sheet.specs.declared.number.Scanned.{Scanned}
+use Rattle.std.specs.Prelude.{Result, Ok, Err}
 use Rattle.sheet.specs.Text.{TAB, NEWLINE, parts, part_of, line_of}
 use Rattle.sheet.specs.Number.{bad, number}
 use Rattle.sheet.specs.Record.{Line, unread, row, is_missing, allowed, present, cell_of, fields_read}
-use Rattle.sheet.specs.Walk.{has, ended, fields_of, fields_from, line_end, number_in, is_malformed, fits_after, row_after}
+use Rattle.sheet.specs.Walk.{has, ended, fields_of, fields_from, line_end, is_malformed, fits_after, row_after}
 use Rattle.base.proofs.Bools.{never}
 use Rattle.sheet.proofs.Parts.{Cut, whole, cut, cut_at, has_goes, has-append, has_there, drop_past, parts_free, parts_cut, parts_some, part_free, part_cut, part_goes, part_past}
 use Rattle.sheet.proofs.Numbers.{number_broken}
@@ -236,8 +235,8 @@ opens (d ∷ cs) text at next e n p o =
     let x = ended_field at (drop at text) n (ap ended p ∙ o) in
     (x.0, x.1 ∙ rw (p, e, add-one (at + length (part_of TAB (drop at text)))))
 
-module _ (col : Column) (cs : List Column) (before fits : Bool) (k : ℕ) (r : List ℕ) (text : List ℕ) (at : ℕ) (n : Option Scanned) (held : Result ℕ CellFault) (next : ℕ)
-    (scanned : number_in n ≡ number (field_in cs (drop at text))) (cell : held ≡ cell_of col before (number_in n)) (behind : next ≡ at + length (field_in cs (drop at text)) + 1) where
+module _ (col : Column) (cs : List Column) (before fits : Bool) (k : ℕ) (r : List ℕ) (text : List ℕ) (at : ℕ) (held : Result ℕ CellFault) (next : ℕ)
+    (cell : held ≡ cell_of col before (number (field_in cs (drop at text)))) (behind : next ≡ at + length (field_in cs (drop at text)) + 1) where
   abbrev front : List ℕ
   front = drop at text
 
@@ -257,20 +256,20 @@ module _ (col : Column) (cs : List Column) (before fits : Bool) (k : ℕ) (r : L
       go false e = sym (lt-leb next (length text) (omega (arith, ltb-false m (length front) e, length-drop at text)))
 
   turned : fields_from (col ∷ cs) front before fits k r
-      ≡ cond (is_malformed held) unread (rest_read cs (leb next (length text)) (drop next text) (is_missing (number_in n)) (fits_after held fits) (suc k) (row_after held r k))
-  turned = rw (sym past_place, sym there_place, cell, scanned) (turn_here col before fits k r cs front)
+      ≡ cond (is_malformed held) unread (rest_read cs (leb next (length text)) (drop next text) (is_missing (number (field_in cs front))) (fits_after held fits) (suc k) (row_after held r k))
+  turned = rw (sym past_place, sym there_place, cell) (turn_here col before fits k r cs front)
 
   pub turn_malformed : is_malformed held ≡ true → fields_from (col ∷ cs) front before fits k r ≡ unread
   turn_malformed m = turned ∙ rw m
 
   module _ (fine : is_malformed held ≡ false) where
     pub turn_goes : fields_from (col ∷ cs) front before fits k r
-        ≡ rest_read cs (leb next (length text)) (drop next text) (is_missing (number_in n)) (fits_after held fits) (suc k) (row_after held r k)
+        ≡ rest_read cs (leb next (length text)) (drop next text) (is_missing (number (field_in cs front))) (fits_after held fits) (suc k) (row_after held r k)
     turn_goes = turned ∙ rw fine
 
     some_number : number (field_in cs front) ≡ bad → ⊥
     some_number e =
-        let h : held ≡ Err Malformed = cell ∙ (ap (cell_of col before) (scanned ∙ e) ∙ bad_malformed col before) in
+        let h : held ≡ Err Malformed = cell ∙ (ap (cell_of col before) e ∙ bad_malformed col before) in
         let no : false ≡ true = sym fine ∙ ap is_malformed h in
         never cc
 

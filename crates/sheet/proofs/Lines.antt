@@ -1,5 +1,5 @@
 -- The line at the front of a text, and the lines after it.
-use Rattle.std.proofs.Common.{◌≡◌, ℕ, suc, ◌+◌, ◌<◌, ◌≤◌, Bool, true, false, eqb, List, [], ◌∷◌, ◌++◌, length, get_or, drop, sym, refl, ap, ◌∙◌, arith, length-drop, drop_of_length-le, drop-cons, drop-drop, ne_eqb, eqb-true}
+use Rattle.std.proofs.Common.{◌≡◌, ℕ, suc, ◌+◌, ◌<◌, ◌≤◌, Bool, true, false, eqb, List, [], ◌∷◌, ◌++◌, length, get_or, drop, sym, refl, ap, ◌∙◌, arith, length-drop, drop_of_length-le, drop-cons, drop-drop, eq-eqb, ne_eqb, eqb-true}
 use lib.Arith.{lt_of_le-ne}
 use borrow.Author.Tests.{eqb-false}
 use Rattle.sheet.specs.declared.line.LineAt.{LineAt}
@@ -11,7 +11,7 @@ use Rattle.sheet.specs.Reading.{lines_read, sheet_lines}
 use Rattle.sheet.specs.Answer.{front_line}
 use Rattle.sheet.specs.Walk.{has, ended, fields_of, fields_from, line_end, LineSays, Names}
 use Rattle.base.proofs.Bools.{never, clash}
-use Rattle.sheet.proofs.Parts.{Cut, whole, cut, cut_at, drop_past, parts_free, parts_cut, parts_some, part_free, part_cut, part_short}
+use Rattle.sheet.proofs.Parts.{Cut, whole, cut, cut_at, drop_past, parts_free, parts_cut, parts_some, part_free, part_cut, part_ends, part_goes, part_short}
 use Rattle.sheet.proofs.Fields.{Front, none, only, tabbed, front_of, fields_only, only_field, fields_tabbed, ended_tabbed, end_tabbed, read_ended}
 use Rattle.sheet.proofs.Columns.{spread}
 use Rattle.sheet.proofs.Turns.{says_as}
@@ -97,17 +97,47 @@ record_empty f = go (eqb (section_of f) SECTIONS) refl
         let h : s < SECTIONS = lt_of_le-ne (section_most f) (eqb-false s SECTIONS e) in
         record_some f [] h ∙ fields h
 
-pub section_byte : (f : List ℕ) → length f ≡ 1 → section_of f ≡ place_of (get_or f 0 0) letters 0
-unfolding section_of
-section_byte [] h = absurd (omega arith)
-section_byte (b ∷ []) h = refl
-section_byte (b ∷ c ∷ f) h = absurd (omega arith)
+-- A line's first field names a section where it is one byte, a section's letter.
 
-pub section_other : (f : List ℕ) → (length f ≡ 1 → ⊥) → section_of f ≡ SECTIONS
+first_tab : (b : ℕ) (t : List ℕ) → eqb b TAB ≡ true → section_of (part_of TAB (b ∷ t)) ≡ SECTIONS
 unfolding section_of
-section_other [] n = refl
-section_other (b ∷ []) n = absurd (n refl)
-section_other (b ∷ c ∷ f) n = refl
+first_tab b t e = rw (part_ends TAB b t e) refl
+
+letter_tab : (b : ℕ) → eqb b TAB ≡ true → place_of b letters 0 ≡ SECTIONS
+unfolding place_of
+letter_tab b e = rw (eqb-true b TAB e) refl
+
+one_byte : (b : ℕ) (t : List ℕ) → part_of TAB t ≡ [] → section_of (part_of TAB (b ∷ t)) ≡ place_of b letters 0
+unfolding section_of
+one_byte b t p = go (eqb b TAB) refl
+  where
+    go : (x : Bool) → eqb b TAB ≡ x → section_of (part_of TAB (b ∷ t)) ≡ place_of b letters 0
+    go true e = first_tab b t e ∙ sym (letter_tab b e)
+    go false e = rw (part_goes TAB b t e, p) refl
+
+two_bytes : (b c : ℕ) (t : List ℕ) → eqb c TAB ≡ false → section_of (part_of TAB (b ∷ c ∷ t)) ≡ SECTIONS
+unfolding section_of
+two_bytes b c t n = go (eqb b TAB) refl
+  where
+    go : (x : Bool) → eqb b TAB ≡ x → section_of (part_of TAB (b ∷ c ∷ t)) ≡ SECTIONS
+    go true e = first_tab b (c ∷ t) e
+    go false e = rw (part_goes TAB b (c ∷ t) e, part_goes TAB c t n) refl
+
+pub section_letter : (t : List ℕ) → 0 < length t → (1 < length t → get_or t 1 0 ≡ TAB) → section_of (part_of TAB t) ≡ place_of (get_or t 0 0) letters 0
+unfolding has
+section_letter [] h e = absurd (omega arith)
+section_letter (b ∷ []) h e = one_byte b [] (part_free TAB [] refl)
+section_letter (b ∷ c ∷ t) h e = one_byte b (c ∷ t) (part_ends TAB c t (eq-eqb c TAB (e (omega arith))))
+
+pub section_nothing : (t : List ℕ) → length t < 1 → section_of (part_of TAB t) ≡ SECTIONS
+unfolding has section_of
+section_nothing [] h = rw (part_free TAB [] refl) refl
+section_nothing (b ∷ t) h = absurd (omega arith)
+
+pub section_longer : (t : List ℕ) → 1 < length t → (get_or t 1 0 ≡ TAB → ⊥) → section_of (part_of TAB t) ≡ SECTIONS
+section_longer [] h n = absurd (omega arith)
+section_longer (b ∷ []) h n = absurd (omega arith)
+section_longer (b ∷ c ∷ t) h n = two_bytes b c t (ne_eqb c TAB n)
 
 -- What `line_at` finds: the part of the text that a tab ends names a section, or none.
 

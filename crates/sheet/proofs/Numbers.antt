@@ -1,22 +1,13 @@
 -- The number that a field writes.
-use Rattle.std.proofs.Common.{◌≡◌, ℕ, suc, ◌+◌, ◌-◌, ◌*◌, ◌^◌, ◌<◌, ◌≤◌, Bool, true, false, ◌&&◌, eqb, leb, List, [], ◌∷◌, ◌++◌, length, get_or, drop, sym, refl, ap, ◌∙◌, pow-suc, arith, drop_of_length-le, drop-cons, eq-eqb, ne_eqb, le-leb}
+use Rattle.std.proofs.Common.{◌≡◌, ℕ, suc, ◌+◌, ◌-◌, ◌*◌, ◌^◌, ◌<◌, ◌≤◌, Bool, true, false, not, ◌&&◌, eqb, leb, List, [], ◌∷◌, ◌++◌, length, get_or, drop, sym, refl, ap, ◌∙◌, subst, pow-suc, arith, drop_of_length-le, drop-cons, eq-eqb, ne_eqb, le-leb, leb-true}
 use Rattle.std.specs.Prelude.{Some, None}
 use native.Mathlib.Nat.{pow-le-pow_right}
 use borrow.Author.Tests.{lt-leb}
+use Rattle.base.proofs.Bools.{and_left, and_right, never}
 use Rattle.sheet.specs.Number.{Number, bad, missing, plus, minus, digit, all_digits, value_from, plain, no_leading_zero, unsigned, signed, number, ZERO, NINE, MINUS, digits_most}
 use Rattle.sheet.specs.Walk.{plus_in, digits_read, DigitSays}
 
 -- Digits, one after the other.
-
--- what the code tells of a byte
-pub digit_yes : (b : ℕ) → ZERO ≤ b → b ≤ NINE → DigitSays b (Some (b - ZERO))
-digit_yes b l h = (rw (le-leb ZERO b l, le-leb b NINE h), omega arith, omega arith)
-
-pub digit_low : (b : ℕ) → b < ZERO → DigitSays b None
-digit_low b h = rw (lt-leb ZERO b h)
-
-pub digit_high : (b : ℕ) → NINE < b → DigitSays b None
-digit_high b h = rw (le-leb ZERO b (omega arith), lt-leb b NINE h)
 
 digit_true : (d : ℕ) → d < 10 → digit (ZERO + d) ≡ true
 digit_true d h = rw (le-leb ZERO (ZERO + d) (omega arith), le-leb (ZERO + d) NINE (omega arith))
@@ -201,3 +192,54 @@ module _ (s : ℕ) (d : digit s ≡ false) (m : eqb s MINUS ≡ false) where
       go : (e : Bool) → eqb x MINUS ≡ e → number (x ∷ (a ++ s ∷ b)) ≡ bad
       go true e = rw (e, number) (signed_broken a b)
       go false e = rw (e, number) (rw (plain_broken (x ∷ a) b, unsigned))
+
+abbrev plus_of : Number → ℕ
+plus_of (plus v) = v
+plus_of bad = 0
+plus_of missing = 0
+plus_of (minus v) = 0
+
+plus_same : {v w : ℕ} → plus v ≡ plus w → v ≡ w
+plus_same e = ap plus_of e
+
+-- A number without a sign that a field writes is below the least one of eleven digits.
+
+value_short : (bs : List ℕ) (v k : ℕ) → all_digits bs ≡ true → v < 10 ^ k → value_from v bs < 10 ^ (k + length bs)
+unfolding all_digits value_from
+value_short [] v k d h = subst (λ (m : ℕ). v < 10 ^ m) (omega arith) h
+value_short (b ∷ bs) v k d h =
+    let high : b ≤ NINE = leb-true b NINE (and_right (leb ZERO b) (leb b NINE) (and_left (digit b) (all_digits bs) d)) in
+    let rest = value_short bs (v * 10 + (b - ZERO)) (suc k) (and_right (digit b) (all_digits bs) d) (value_grows k v (b - ZERO) h (omega arith)) in
+    subst (λ (m : ℕ). value_from (v * 10 + (b - ZERO)) bs < 10 ^ m) (omega arith) rest
+
+unsigned_short : (bs : List ℕ) (v : ℕ) → unsigned bs ≡ plus v → v < 10 ^ digits_most
+unfolding unsigned plain
+unsigned_short bs v e = go (plain bs) refl
+  where
+    go : (x : Bool) → plain bs ≡ x → v < 10 ^ digits_most
+    go false p = let no : bad ≡ plus v = rw (p, unsigned) at e in never cc
+    go true p =
+        let is : plus (value_from 0 bs) ≡ plus v = rw (p, unsigned) at e in
+        let few : length bs ≤ digits_most = leb-true (length bs) digits_most (and_right (all_digits bs && no_leading_zero bs) (leb (length bs) digits_most) p) in
+        let digits = and_left (all_digits bs) (no_leading_zero bs) (and_left (all_digits bs && no_leading_zero bs) (leb (length bs) digits_most) p) in
+        let same : value_from 0 bs ≡ v = plus_same is in
+        let low : value_from 0 bs < 10 ^ length bs = subst (λ (m : ℕ). value_from 0 bs < 10 ^ m) (omega arith) (value_short bs 0 0 digits (omega arith)) in
+        omega (arith, power_small (length bs) few)
+
+signed_minus_only : (bs : List ℕ) (v : ℕ) → signed bs ≡ plus v → v < 10 ^ digits_most
+unfolding signed
+signed_minus_only [] v e = let no : missing ≡ plus v = e in never cc
+signed_minus_only (b ∷ bs) v e = go (plain (b ∷ bs) && not (eqb (value_from 0 (b ∷ bs)) 0)) refl
+  where
+    go : (x : Bool) → (plain (b ∷ bs) && not (eqb (value_from 0 (b ∷ bs)) 0)) ≡ x → v < 10 ^ digits_most
+    go true p = let no : minus (value_from 0 (b ∷ bs)) ≡ plus v = rw (p, signed) at e in never cc
+    go false p = let no : bad ≡ plus v = rw (p, signed) at e in never cc
+
+pub number_short : (f : List ℕ) (v : ℕ) → number f ≡ plus v → v < 10 ^ digits_most
+unfolding number
+number_short [] v e = let no : bad ≡ plus v = e in never cc
+number_short (b ∷ bs) v e = go (eqb b MINUS) refl
+  where
+    go : (x : Bool) → eqb b MINUS ≡ x → v < 10 ^ digits_most
+    go true p = signed_minus_only bs v (rw (p, number) at e)
+    go false p = unsigned_short (b ∷ bs) v (rw (p, number) at e)

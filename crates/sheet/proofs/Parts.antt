@@ -1,12 +1,10 @@
 -- Parts of a text: where one ends, what stands behind it, and that the sheet walker goes along them.
-use Rattle.std.proofs.Common.{◌≡◌, ℕ, suc, ◌+◌, ◌-◌, ◌<◌, ◌≤◌, Bool, true, false, not, ◌||◌, cond, eqb, ltb, List, [], ◌∷◌, ◌++◌, length, take, drop, sym, refl, ap, ◌∙◌, subst, add-suc, one-add, arith, length-append, length-drop, take-append-drop, take_all, drop_of_length-le, drop-drop, ltb-false, ltb-true, lt-ltb, eq-eqb, eqb-true}
-use Rattle.std.specs.Prelude.{Some, None}
-use Rattle.std.specs.List.{position, position_or_len}
-use Rattle.std.proofs.lemmas.Option.{cond_some}
+use Rattle.std.proofs.Common.{◌≡◌, ℕ, suc, ◌+◌, ◌-◌, ◌<◌, ◌≤◌, Bool, true, false, ◌||◌, eqb, ltb, List, [], ◌∷◌, ◌++◌, length, get_or, take, drop, sym, refl, ap, ◌∙◌, subst, add-suc, add-one, arith, length-append, length-drop, take-append-drop, drop_of_length-le, drop-cons, drop-drop, ne_eqb, ltb-true, lt-ltb, eq-eqb, eqb-true}
+use native.Mathlib.Nat.{add-sub_cancel_left}
 use Rattle.sheet.specs.Text.{on_first, parts, first_part, part_of}
 use Rattle.sheet.specs.Places.{part_end, behind_part, Along}
 use Rattle.sheet.specs.Walk.{has}
-use Rattle.base.proofs.Bools.{never, or_left, or_right}
+use Rattle.base.proofs.Bools.{or_left, or_right}
 
 -- behind some bytes and one more
 pub drop_past : (f : List ℕ) (b : ℕ) (u : List ℕ) → drop (suc (length f)) (f ++ b ∷ u) ≡ u
@@ -71,7 +69,7 @@ module _ (s : ℕ) where
   part_cut f u h = ap first_part (parts_cut f u h)
 
   -- a part, one byte further, and behind bytes without that which ends it
-  part_ends : (b : ℕ) (t : List ℕ) → eqb b s ≡ true → part_of s (b ∷ t) ≡ []
+  pub part_ends : (b : ℕ) (t : List ℕ) → eqb b s ≡ true → part_of s (b ∷ t) ≡ []
   unfolding part_of parts first_part
   part_ends b t e = rw (e, parts)
 
@@ -98,48 +96,20 @@ module _ (s : ℕ) where
       go (whole t h) = rw (parts_free t h)
       go (cut f u h) = rw (parts_cut f u h)
 
-  -- a part is what stands before the first byte that ends one
-  part_first : (t : List ℕ) → take (position_or_len (λ b. eqb b s) t) t ≡ part_of s t
+  -- The search for a part's end, at a place: past the text's end the part is empty.
+  pub part_none : (t : List ℕ) (i : ℕ) → length t ≤ i → part_of s (drop i t) ≡ []
   unfolding part_of parts first_part
-  part_first [] = refl
-  part_first (b ∷ t) = go (eqb b s) refl (part_first t)
-    where
-      go : (x : Bool) → eqb b s ≡ x → take (position_or_len (λ b. eqb b s) t) t ≡ part_of s t
-          → take (cond (not x) (1 + position_or_len (λ b. eqb b s) t) 0) (b ∷ t) ≡ part_of s (b ∷ t)
-      go true e h = sym (part_ends b t e)
-      go false e h = ap (λ (n : ℕ). take n (b ∷ t)) (one-add (position_or_len (λ b. eqb b s) t)) ∙ (ap (λ (l : List ℕ). b ∷ l) h ∙ sym (part_goes b t e))
+  part_none t i h = rw (drop_of_length-le t {i = i} h)
 
-  -- The search for a part's end: it is found, or all the bytes are the part.
-  part_found : (t : List ℕ) (n : ℕ) → position (λ b. eqb b s) t ≡ Some n → take n t ≡ part_of s t
-  part_found t n e = ap (λ (k : ℕ). take k t) (sym (cond_some _ _ _ e).1) ∙ part_first t
+  -- the search stops at a byte that ends the part
+  pub part_stops : (t : List ℕ) (i : ℕ) → i < length t → get_or t i 0 ≡ s → part_of s (drop i t) ≡ []
+  part_stops t i h e = rw (drop-cons t i 0 h) (part_ends (get_or t i 0) (drop (suc i) t) (eq-eqb (get_or t i 0) s e))
 
-  part_whole : (t : List ℕ) → position (λ b. eqb b s) t ≡ None → t ≡ part_of s t
-  part_whole t e = go (ltb k (length t)) refl e
-    where
-      k : ℕ
-      k = position_or_len (λ b. eqb b s) t
-
-      go : (x : Bool) → ltb k (length t) ≡ x → cond x (Some k) None ≡ None → t ≡ part_of s t
-      go true p q = never cc
-      go false p q = sym (take_all k t (ltb-false k (length t) p)) ∙ part_first t
-
-  -- so the part at a place is found, and past the text's end it is empty
-  module _ (t : List ℕ) (at : ℕ) where
-    pub none_there : length t ≤ at → [] ≡ part_of s (drop at t)
-    unfolding part_of parts first_part
-    none_there h = rw (drop_of_length-le t {i = at} h)
-
-    abbrev rest : List ℕ
-    rest = take (length t - at) (drop at t)
-
-    rest_is : rest ≡ drop at t
-    rest_is = take_all (length t - at) (drop at t) (omega (arith, length-drop at t))
-
-    pub found_there : (n : ℕ) → Some n ≡ position (λ b. eqb b s) rest → take n rest ≡ part_of s (drop at t)
-    found_there n p = part_found rest n (sym p) ∙ ap (part_of s) rest_is
-
-    pub found_whole : None ≡ position (λ b. eqb b s) rest → rest ≡ part_of s (drop at t)
-    found_whole p = part_whole rest (sym p) ∙ ap (part_of s) rest_is
+  -- at any other it goes on: a part with one byte more in front ends where it did
+  pub part_on : (t : List ℕ) (i : ℕ) → i < length t → (get_or t i 0 ≡ s → ⊥) → part_end s t i ≡ part_end s t (i + 1)
+  part_on t i h p =
+      let f : part_of s (drop i t) ≡ get_or t i 0 ∷ part_of s (drop (i + 1) t) = rw (drop-cons t i 0 h, add-one i) (part_goes (get_or t i 0) (drop (suc i) t) (ne_eqb (get_or t i 0) s p)) in
+      omega (arith, ap length f)
 
   -- a part is the front of the text that it is taken of
   part_front : (t : List ℕ) → take (length (part_of s t)) t ≡ part_of s t
@@ -155,6 +125,13 @@ module _ (s : ℕ) where
   part_short t =
       let n = length (part_of s t) in
       omega (arith, ap length (part_front t), length-append (take n t) (drop n t), ap length (take-append-drop n t))
+
+  -- so the text between its start and its end, which is not past the text's
+  pub part_between : (t : List ℕ) (at : ℕ) → take (part_end s t at - at) (drop at t) ≡ part_of s (drop at t)
+  part_between t at = rw (add-sub_cancel_left at (length (part_of s (drop at t)))) (part_front (drop at t))
+
+  pub part_inside : (t : List ℕ) (at : ℕ) → at ≤ length t → part_end s t at ≤ length t
+  part_inside t at h = omega (arith, part_short (drop at t), length-drop at t)
 
   pub part_room : (t : List ℕ) (at most : ℕ) → at ≤ most → length t ≤ most → at + length (part_of s (drop at t)) ≤ most
   part_room t at most h l = omega (arith, part_short (drop at t), length-drop at t)
@@ -192,3 +169,7 @@ module _ (s : ℕ) where
         more = λ h. rw (place h) (parts_more u (omega (arith, length-drop at t)));
         last = λ h. parts_last u (omega (arith, length-drop at t));
       }
+
+-- A search that has come to where nothing is left of its part has come to the part's end.
+pub at_end : (i end : ℕ) (f : List ℕ) → end ≡ i + length f → f ≡ [] → i ≡ end
+at_end i end f e p = omega (arith, ap length p)

@@ -1,17 +1,21 @@
 -- The loop along the fields of a record: what holds whenever its test is reached, and one turn.
-use Rattle.std.proofs.Common.{◌≡◌, ℕ, zero, suc, ◌+◌, ◌-◌, ◌<◌, ◌≤◌, Bool, true, false, cond, leb, List, [], ◌∷◌, length, get_or, drop, sym, ap, ◌∙◌, add-one, arith, length-drop, drop_of_length-le, drop-cons, ne_eqb, le-leb}
-use Rattle.std.proofs.lemmas.List.{get_or_default}
+use Rattle.std.proofs.Common.{◌≡◌, ℕ, zero, suc, ◌+◌, ◌-◌, ◌<◌, ◌≤◌, Bool, true, false, ◌&&◌, cond, leb, List, [], ◌∷◌, ◌++◌, length, get_or, drop, sym, refl, ap, subst, ◌∙◌, add-one, arith, length-drop, drop_of_length-le, drop-cons, ne_eqb, le-leb}
 use borrow.Author.Tests.{lt-leb}
-use Rattle.sheet.specs.declared.number.Scanned.{Scanned}
 use Rattle.sheet.specs.declared.line.CellFault.{CellFault}
+use Rattle.sheet.specs.declared.line.CellFault.TheVariants.{OutOfRange, Malformed}
+use Rattle.sheet.specs.declared.line.FieldAt.{FieldAt}
 use Rattle.sheet.specs.declared.table.Column.{Column}
-use Rattle.std.specs.Prelude.{Option, None, Some, Result}
+use Rattle.std.specs.Prelude.{Option, None, Some, Result, Ok, Err}
 use Rattle.sheet.specs.declared.line.LineAt.{LineAt}
-use Rattle.sheet.specs.Text.{part_of}
+use lib.ListN.{length-append, get_or-append}
+use lib.Seq.{get_or-append-add}
+use borrow.Author.Tests.{le-ltb, lt-ltb}
+use Rattle.std.proofs.lemmas.List.{get_or_default}
+use Rattle.sheet.specs.Text.{TAB, NEWLINE, part_of}
 use Rattle.sheet.specs.Number.{number}
 use Rattle.sheet.specs.Table.{MISSING, SECTIONS, columns_of, id}
 use Rattle.sheet.specs.Record.{Line, unread, row, empty_row, cell_of}
-use Rattle.sheet.specs.Walk.{separator_at, ended, fields_from, line_end, number_in, is_gone, is_malformed, fits_after, row_after, LineRead, LineSays}
+use Rattle.sheet.specs.Walk.{separator_at, ended, fields_from, line_end, is_gone, is_malformed, fits_after, row_after, FieldSays, LineRead, LineSays}
 use Rattle.base.proofs.RunLaws.{zeros_at}
 use Rattle.sheet.proofs.Parts.{part_short}
 use Rattle.sheet.proofs.Cells.{gone_after}
@@ -49,29 +53,18 @@ along_start text at s r h l p =
       ends = λ o. rw some;
     }
 
--- what the field at `next` holds in the i-th column, as the code found it: the part shown, its number, and the cell
-pub record Taken (text : List ℕ) (s : ℕ) (r : List ℕ) (next i : ℕ) (field : List ℕ) (n : Option Scanned) (held : Result ℕ CellFault) : Type 0 where
-  pub more : i < length (columns_of s)
-  pub shown : field ≡ part_of (separator_at i (length (columns_of s) - 1)) (drop next text)
-  pub scanned : number_in n ≡ number field
-  pub cell : held ≡ cell_of (get_or (columns_of s) i id) (is_gone (get_or r i 0)) (number_in n)
+-- a record is in range where what it had was and the field is
+fits_both : (held : Result ℕ CellFault) (fits : Bool) → (fits && fits_after held true) ≡ fits_after held fits
+fits_both (Ok v) true = refl
+fits_both (Ok v) false = refl
+fits_both (Err OutOfRange) true = refl
+fits_both (Err OutOfRange) false = refl
+fits_both (Err Malformed) true = refl
+fits_both (Err Malformed) false = refl
 
-pub taken : {columns : List Column} {text : List ℕ} {s : ℕ} {r : List ℕ} {next i sep : ℕ} {field : List ℕ} {n : Option Scanned} {held : Result ℕ CellFault} (none : Column)
-    → columns ≡ columns_of s → i < length columns → sep ≡ separator_at i (length columns - 1) → field ≡ part_of sep (drop next text) → number_in n ≡ number field
-    → held ≡ cell_of (get_or columns i none) (is_gone (get_or r i 0)) (number_in n) → Taken text s r next i field n held
-taken {columns} {text} {s} {r} {next} {i} {n = n} none t h e f g c =
-    let more : i < length (columns_of s) = omega (arith, h, ap length t) in
-    record {
-      more = more;
-      shown = f ∙ ap (λ (b : ℕ). part_of b (drop next text)) (e ∙ ap (λ (l : List Column). separator_at i (length l - 1)) t);
-      scanned = g;
-      cell = c ∙ ap (λ (x : Column). cell_of x (is_gone (get_or r i 0)) (number_in n))
-          (ap (λ (l : List Column). get_or l i none) t ∙ get_or_default (columns_of s) i none id more);
-    }
-
--- one turn
-module _ {text : List ℕ} {at s : ℕ} {r : List ℕ} {fits : Bool} {next i : ℕ} {field : List ℕ} {n : Option Scanned} {held : Result ℕ CellFault}
-    (a : Along text at s r fits next i) (f : Taken text s r next i field n held) where
+-- one turn: the field at `next` in the i-th column
+module _ {text : List ℕ} {at s : ℕ} {r : List ℕ} {fits : Bool} {next i : ℕ} (a : Along text at s r fits next i) (more : i < length (columns_of s)) {end : ℕ}
+    (ends_in : end ≡ separator_at i (length (columns_of s) - 1)) where
   abbrev left : List Column
   left = drop (suc i) (columns_of s)
 
@@ -81,11 +74,14 @@ module _ {text : List ℕ} {at s : ℕ} {r : List ℕ} {fits : Bool} {next i : �
   abbrev before : Bool
   before = is_gone (get_or r i 0)
 
+  abbrev field : List ℕ
+  field = part_of end (drop next text)
+
   few : length (columns_of s) ≤ 15
   few = (spread s a.known).few
 
   next_column : drop i (columns_of s) ≡ column ∷ left
-  next_column = drop-cons (columns_of s) i id f.more
+  next_column = drop-cons (columns_of s) i id more
 
   line_now : fields_from (columns_of s) (drop at text) false true 1 (empty_row s) ≡ fields_from (column ∷ left) (drop next text) before fits (suc i) r
   line_now = a.line ∙ ap (λ (cs : List Column). rest_read cs (leb next (length text)) (drop next text) before fits (suc i) r) next_column
@@ -94,43 +90,75 @@ module _ {text : List ℕ} {at s : ℕ} {r : List ℕ} {fits : Bool} {next i : �
   ends_now = rw next_column at a.ends
 
   field_now : field ≡ field_in left (drop next text)
-  field_now = f.shown
-      ∙ ap (λ (b : ℕ). part_of b (drop next text)) (separator_is (columns_of s) i)
+  field_now = ap (λ (b : ℕ). part_of b (drop next text)) (ends_in ∙ separator_is (columns_of s) i)
 
-  scanned_now : number_in n ≡ number (field_in left (drop next text))
-  scanned_now = f.scanned ∙ ap number field_now
+  pub turn_inside : next + length field ≤ length text + suc i
+  turn_inside = omega (arith, a.inside, ap length field_now, part_short (sep_before left) (drop next text), length-drop next text)
 
-  cell_now : held ≡ cell_of column before (number_in n)
-  cell_now = f.cell
+  -- what it holds, as the code found it, and where the next field starts
+  module _ {held : Result ℕ CellFault} (cell : held ≡ cell_of column before (number field)) where
+    cell_now : held ≡ cell_of column before (number (field_in left (drop next text)))
+    cell_now = cell ∙ ap (λ (f : List ℕ). cell_of column before (number f)) field_now
 
-  behind_now : next + length field + 1 ≡ next + length (field_in left (drop next text)) + 1
-  behind_now = ap (λ (l : List ℕ). next + length l + 1) field_now
+    behind_now : next + length field + 1 ≡ next + length (field_in left (drop next text)) + 1
+    behind_now = ap (λ (l : List ℕ). next + length l + 1) field_now
 
-  pub along_malformed : is_malformed held ≡ true → fields_from (columns_of s) (drop at text) false true 1 (empty_row s) ≡ unread
-  along_malformed m = line_now ∙ turn_malformed column left before fits (suc i) r text next n held (next + length field + 1) scanned_now cell_now behind_now m
+    along_malformed : is_malformed held ≡ true → fields_from (columns_of s) (drop at text) false true 1 (empty_row s) ≡ unread
+    along_malformed m = line_now ∙ turn_malformed column left before fits (suc i) r text next held (next + length field + 1) cell_now behind_now m
 
-  pub along_inside : next + length field ≤ length text + suc i
-  along_inside = omega (arith, a.inside, ap length field_now, part_short (sep_before left) (drop next text), length-drop next text)
+    along_turn : is_malformed held ≡ false → (r' : List ℕ) (fits' : Bool) → r' ≡ row_after held r (i + 1) → fits' ≡ fits_after held fits
+        → Along text at s r' fits' (next + length field + 1) (i + 1)
+    along_turn m r' fits' pr pf =
+        let o = turn_open column left before fits (suc i) r text next held (next + length field + 1) cell_now behind_now m in
+        let r'' : r' ≡ row_after held r (suc i) = rw (sym (add-one i)) pr in
+        let gone = gone_after column before (sound_column s i a.known more) r (suc i) (omega (arith, a.size, more, few)) (a.blank (suc i) (omega arith))
+        (number (field_in left (drop next text))) held cell_now m in
+        record {
+          high = omega (arith, more);
+          inside = omega (arith, turn_inside);
+          size = ap length pr ∙ (keep-length held r (i + 1) ∙ a.size);
+          section = ap (λ (q : List ℕ). get_or q 0 0) pr ∙ (keep_others held r (i + 1) 0 (λ (e : 0 ≡ i + 1). omega arith) ∙ a.section);
+          known = a.known;
+          blank = λ j h. ap (λ (q : List ℕ). get_or q j 0) pr ∙ (keep_others held r (i + 1) j (λ (e : j ≡ i + 1). omega arith) ∙ a.blank j (omega arith));
+          line = line_now
+              ∙ (turn_goes column left before fits (suc i) r text next held (next + length field + 1) cell_now behind_now m
+              ∙ rw (add-one i, r'', pf, gone));
+          ends = rw (add-one i) (λ (h : Open left text (next + length field + 1)). ends_now (o h).0 ∙ (o h).1);
+        }
 
-  pub along_turn : is_malformed held ≡ false → (r' : List ℕ) (fits' : Bool) → r' ≡ row_after held r (i + 1) → fits' ≡ fits_after held fits
-      → Along text at s r' fits' (next + length field + 1) (i + 1)
-  along_turn m r' fits' pr pf =
-      let o = turn_open column left before fits (suc i) r text next n held (next + length field + 1) scanned_now cell_now behind_now m in
-      let r'' : r' ≡ row_after held r (suc i) = rw (sym (add-one i)) pr in
-      let gone = gone_after column before (sound_column s i a.known f.more) r (suc i) (omega (arith, a.size, f.more, few)) (a.blank (suc i) (omega arith))
-      (number_in n) held cell_now m in
-      record {
-        high = omega (arith, f.more);
-        inside = omega (arith, along_inside);
-        size = ap length pr ∙ (keep-length held r (i + 1) ∙ a.size);
-        section = ap (λ (q : List ℕ). get_or q 0 0) pr ∙ (keep_others held r (i + 1) 0 (λ (e : 0 ≡ i + 1). omega arith) ∙ a.section);
-        known = a.known;
-        blank = λ j h. ap (λ (q : List ℕ). get_or q j 0) pr ∙ (keep_others held r (i + 1) j (λ (e : j ≡ i + 1). omega arith) ∙ a.blank j (omega arith));
-        line = line_now
-            ∙ (turn_goes column left before fits (suc i) r text next n held (next + length field + 1) scanned_now cell_now behind_now m
-            ∙ rw (add-one i, r'', pf, gone));
-        ends = rw (add-one i) (λ (h : Open left text (next + length field + 1)). ends_now (o h).0 ∙ (o h).1);
-      }
+  -- the same by what `field_at` says of it, whose column and places are read otherwise
+  module _ {col : Column} {j k : ℕ} (is : col ≡ column) (here : j ≡ i) (there : k ≡ i + 1) (r' : List ℕ) where
+    abbrev Says : Column → ℕ → ℕ → Option FieldAt → Type 0
+    Says col j k = FieldSays (cell_of col (is_gone (get_or r j 0)) (number field)) (next + length field + 1) k r r'
+
+    said : (x : Option FieldAt) → Says col j k x → Says column i (i + 1) x
+    said x = subst (λ (d : Column). Says col j k x → Says d i (i + 1) x) is
+        (subst (λ (m : ℕ). Says col j k x → Says col m (i + 1) x) here (subst (λ (m : ℕ). Says col j k x → Says col j m x) there (λ h. h)))
+
+    pub turn_unread : Says col j k None → fields_from (columns_of s) (drop at text) false true 1 (empty_row s) ≡ unread
+    turn_unread m = along_malformed refl (said None m)
+
+    pub turn_read : (x : FieldAt) → Says col j k (Some x) → (fits' : Bool) → fits' ≡ (fits && x.fits) → Along text at s r' fits' x.next (i + 1)
+    turn_read x m fits' f =
+        let h = said (Some x) m in
+        rw h.2 (along_turn refl h.0 r' fits' h.3 (f ∙ (ap (λ (b : Bool). fits && b) h.1 ∙ fits_both (cell_of column before (number field)) fits)))
+
+-- The columns of a section but the last, and the last.
+module _ (s : ℕ) (columns front : List Column) (last : Column) (is : columns ≡ columns_of s) (cut : columns ≡ front ++ last ∷ []) where
+  pub front_long : suc (length front) ≡ length (columns_of s)
+  front_long = omega (arith, ap length (sym is ∙ cut), length-append front (last ∷ []))
+
+  pub front_column : (none : Column) (i : ℕ) → i < length front → get_or front i none ≡ get_or (columns_of s) i id
+  front_column none i h = get_or_default front i none id h ∙ (sym (get_or-append front (last ∷ []) id i h) ∙ ap (λ (l : List Column). get_or l i id) (sym cut ∙ is))
+
+  pub last_column : (i : ℕ) → i ≡ length front → last ≡ get_or (columns_of s) i id
+  last_column i h = sym (get_or-append-add front (last ∷ []) 0 id) ∙ (ap (λ (m : ℕ). get_or (front ++ last ∷ []) m id) (omega arith) ∙ ap (λ (l : List Column). get_or l i id) (sym cut ∙ is))
+
+  pub front_ends : (i : ℕ) → i < length front → TAB ≡ separator_at i (length (columns_of s) - 1)
+  front_ends i h = sym (rw (lt-ltb i (length (columns_of s) - 1) (omega (arith, front_long))) refl)
+
+  pub last_ends : (i : ℕ) → i ≡ length front → NEWLINE ≡ separator_at i (length (columns_of s) - 1)
+  last_ends i h = sym (rw (le-ltb i (length (columns_of s) - 1) (omega (arith, front_long))) refl)
 
 -- no column is left: the record is whole where the text has the byte behind its last field
 module _ {text : List ℕ} {at s : ℕ} {r : List ℕ} {fits : Bool} {next i : ℕ} (a : Along text at s r fits next i) (over : length (columns_of s) ≤ i) where

@@ -12,7 +12,7 @@ use Rattle.sheet.specs.Reading.{sheet_lines, row_of, rows_from, Before, after, n
 use Rattle.sheet.specs.Answer.{front_line, row_at, AtLine}
 use Rattle.sheet.specs.Walk.{ended, line_end, LineRead, all_read}
 use Rattle.base.proofs.Bools.{never}
-use Rattle.sheet.proofs.Lines.{lines_none, lines_ended, lines_unended}
+use Rattle.sheet.proofs.Lines.{lines_ended, lines_unended}
 use Rattle.sheet.proofs.Surveys.{line_read_lem, front_read}
 
 -- What an accepted sheet has.
@@ -165,12 +165,6 @@ unfolding rows_from
 walk_more most text l e k at w h =
     let some = lines_some (drop at text) (omega (arith, length-drop at text)) in
     omega (arith, ap length w.lines ∙ length-drop k (sheet_lines text), ap length (accepted_rows most text l e) ∙ length-map (sheet_lines text) row_of)
-
-pub walk_done : (most : Counts) (text : List ℕ) (l : List (List ℕ)) → reading most text ≡ rows l → (k at : ℕ) → AtLine text k at → length text ≤ at → length l ≤ k
-unfolding rows_from
-walk_done most text l e k at w h =
-    let none : sheet_lines (drop at text) ≡ [] = ap sheet_lines (drop_of_length-le text {i = at} h) ∙ lines_none in
-    omega (arith, ap length none, ap length w.lines ∙ length-drop k (sheet_lines text), ap length (accepted_rows most text l e) ∙ length-map (sheet_lines text) row_of)
 
 -- Filling rows: one more.
 pub fill_step : (text : List ℕ) (old now : List (List ℕ)) (k : ℕ) (r : List ℕ) → k < length old → now ≡ paste old 0 (rows_from text) k

@@ -5,6 +5,7 @@ use Rattle.sheet.specs.declared.number.Scanned.TheVariants.{Missing, Plus, Minus
 use Rattle.sheet.specs.declared.line.CellFault.{CellFault}
 use Rattle.sheet.specs.declared.line.CellFault.TheVariants.{OutOfRange, Malformed}
 use Rattle.sheet.specs.declared.table.Column.{Column}
+use Rattle.sheet.specs.declared.line.FieldAt.{FieldAt}
 use Rattle.sheet.specs.declared.line.LineAt.{LineAt}
 use Rattle.base.specs.declared.refusal.Reason.TheVariants.{TooMany, OutOfRange as NotInRange}
 use Rattle.base.specs.declared.refusal.Refusal.{Refusal}
@@ -62,6 +63,11 @@ abbrev pub row_after : Result ℕ CellFault → List ℕ → ℕ → List ℕ
 row_after (Ok v) r k = slice_set r k v
 row_after (Err OutOfRange) r k = r
 row_after (Err Malformed) r k = r
+
+-- what is said of a field that goes into a row as its k-th number, where the next field starts at `next`: it may not stand there, or it leaves what it holds
+abbrev pub FieldSays : Result ℕ CellFault → ℕ → ℕ → List ℕ → List ℕ → Option FieldAt → Type 0
+FieldSays held next k before after None = is_malformed held ≡ true
+FieldSays held next k before after (Some x) = (is_malformed held ≡ false) × (x.fits ≡ fits_after held true) × (x.next ≡ next) × (after ≡ row_after held before k)
 
 -- what is said of the place of a section's letter: there is none, or that section
 abbrev pub Names : ℕ → Option ℕ → Type 0

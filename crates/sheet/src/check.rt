@@ -1,7 +1,5 @@
 // Refusals 1 to 3 over a whole sheet, in one pass, which keeps the rows of the lines as far as rows are lent.
 ghost use Rattle.std.specs.Prelude.{◌≡◌, ℕ, cond, drop};
-ghost use Rattle.base.specs.declared.refusal.Reason.TheVariants.{Unread};
-ghost use Rattle.base.specs.Refusal.{refusal};
 ghost use Rattle.sheet.specs.Reading.{read_lines, sheet_lines};
 ghost use Rattle.sheet.specs.Answer.{front_line};
 ghost use Rattle.sheet.specs.Walk.{survey_of, survey_by, first_of, line_end, LineKept, SurveyedAs};
@@ -10,16 +8,6 @@ use crate::line::{LineAt, line_at};
 use crate::{Counts, Survey};
 use base::refusal::{Reason, Refusal};
 use base::rows::Record;
-
-// A line that can't be read, or stands out of order.
-fn unread(line: usize) -> Refusal
-    ensures { result ≡ refusal Unread line }
-{
-    Refusal {
-        reason: Reason::Unread,
-        place: line,
-    }
-}
 
 // The first line found: an earlier one, or this line.
 fn first_of(found: Option<usize>, here: bool, line: usize) -> Option<usize>
@@ -39,6 +27,7 @@ fn rest_of(so_far: usize, has_row: bool, next: usize) -> usize
 fn line_into(text: &[u8], at: usize, rows: &mut [Record], k: usize) -> Option<LineAt>
     ensures { LineKept (front_line (sheet_lines (drop at text.now))) (line_end at (drop at text.now)) result k rows.old rows.new }
 {
+    // Stays (unproved): what `get_mut` promises says nothing of what the slice is left as.
     if k < rows.len() {
         return line_at(text, at, &mut rows[k]);
     }
@@ -51,14 +40,8 @@ fn survey_by(over: Option<usize>, wide: Option<usize>, found: Survey) -> Result<
     ensures { result ≡ survey_by over wide found }
 {
     match (over, wide) {
-        (Some(place), _) => Err(Refusal {
-            reason: Reason::TooMany,
-            place,
-        }),
-        (None, Some(place)) => Err(Refusal {
-            reason: Reason::OutOfRange,
-            place,
-        }),
+        (Some(line), _) => Err(Reason::TooMany.at(line)),
+        (None, Some(line)) => Err(Reason::OutOfRange.at(line)),
         (None, None) => Ok(found),
     }
 }
@@ -75,14 +58,15 @@ pub fn survey_rows(text: &[u8], most: [usize; 6], rows: &mut [Record]) -> Result
     let mut at = 0;
     let mut rest = 0;
     let mut k = 0;
+    // Stays (no plainer): only a line itself tells where the next one starts.
     while at < text.len() {
         let line = k + 1;
         let Some(l) = line_into(text, at, rows, k) else {
-            return Err(unread(line));
+            return Err(Reason::Unread.at(line));
         };
         let s = l.section;
         if s < section {
-            return Err(unread(line));
+            return Err(Reason::Unread.at(line));
         }
         let n = counts[s];
         over = first_of(over, most[s] <= n, line);
@@ -94,7 +78,7 @@ pub fn survey_rows(text: &[u8], most: [usize; 6], rows: &mut [Record]) -> Result
         k = line;
     }
     let found = Survey {
-        counts: Counts::from_list(counts),
+        counts: Counts::from(counts),
         lines: k,
         rest,
     };

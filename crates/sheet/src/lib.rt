@@ -21,7 +21,7 @@ pub mod write;
 
 // How many records of each section: P, N, C, F, X, W. Of a sheet, or the most that a caller takes.
 #[repr(C)]
-#[derive(Clone, Copy)]
+#[derive(Clone, Copy, Default)]
 pub struct Counts {
     pub pages: usize,
     pub nodes: usize,
@@ -42,21 +42,21 @@ pub struct Survey {
 // The row of one line, and where in the text a walk goes on after it.
 #[derive(Clone, Copy)]
 pub struct RowAt {
-    pub row: [u32; 16],
+    pub row: Record,
     pub next: usize,
 }
 
-impl Counts {
-    // The six numbers, by section.
-    pub fn list(self) -> [usize; 6]
-        ensures { result ≡ listed self }
+// The six numbers, by section.
+impl From<Counts> for [usize; 6] {
+    fn from(c: Counts) -> Self
+        ensures { result ≡ listed c }
     {
-        [
-            self.pages, self.nodes, self.chips, self.inner, self.execs, self.wires,
-        ]
+        [c.pages, c.nodes, c.chips, c.inner, c.execs, c.wires]
     }
+}
 
-    pub fn from_list(l: [usize; 6]) -> Self
+impl From<[usize; 6]> for Counts {
+    fn from(l: [usize; 6]) -> Self
         ensures { result ≡ counts_from l }
     {
         Counts {
@@ -71,6 +71,7 @@ impl Counts {
 }
 
 // The most records that the library takes.
+// Stays (no plainer): a function promises, once, that these numbers are those of the rules; a constant promises nothing, so each caller would compare the six.
 pub fn library_most() -> Counts
     ensures { result ≡ library_most }
 {
@@ -102,7 +103,7 @@ pub fn program_most() -> Counts
 pub fn check_sheet(text: &[u8], most: Counts) -> Result<Counts, Refusal>
     ensures { result ≡ checked_of (reading most text.now) }
 {
-    let found = survey_sheet(text, most.list())?;
+    let found = survey_sheet(text, <[usize; 6]>::from(most))?;
     Ok(found.counts)
 }
 
@@ -110,7 +111,7 @@ pub fn check_sheet(text: &[u8], most: Counts) -> Result<Counts, Refusal>
 pub fn check_rows(text: &[u8], most: Counts, rows: &mut [Record]) -> Result<Survey, Refusal>
     ensures { SurveyedAs (reading most text.now) text.now rows.new result }
 {
-    survey_rows(text, most.list(), rows)
+    survey_rows(text, <[usize; 6]>::from(most), rows)
 }
 
 // The row of the line that starts at `at`.
@@ -134,13 +135,13 @@ fn row_at(text: &[u8], at: usize) -> RowAt
 pub fn row_of(text: &[u8], rows: &[Record], k: usize, at: usize) -> RowAt
     ensures { result ≡ row_from text.now rows.now k at }
 {
-    if k < rows.len() {
-        return RowAt {
-            row: rows[k],
+    match rows.get(k) {
+        Some(row) => RowAt {
+            row: *row,
             next: at,
-        };
+        },
+        None => row_at(text, at),
     }
-    row_at(text, at)
 }
 
 // Fills the rows with those of the lines from the text's start on: there is one for each.
@@ -161,13 +162,10 @@ fn fill_rows(text: &[u8], rows: &mut [Record])
 pub fn read_sheet(text: &[u8], most: Counts, rows: &mut [Record]) -> Result<Counts, Refusal>
     ensures { (result ≡ read_of (length rows.old) (reading most text.now)) × (rows.new ≡ rows_after rows.old (reading most text.now)) }
 {
-    let found = survey_sheet(text, most.list())?;
+    let found = survey_sheet(text, <[usize; 6]>::from(most))?;
     let lines = found.lines;
     if rows.len() < lines {
-        return Err(Refusal {
-            reason: Reason::NoRoom,
-            place: 0,
-        });
+        return Err(Reason::NoRoom.at(0));
     }
     fill_rows(text, &mut rows[..lines]);
     Ok(found.counts)

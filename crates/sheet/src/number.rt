@@ -13,7 +13,7 @@ pub enum Scanned {
     Minus(u64),
 }
 
-// The number of a digit. Any other byte gives one above nine, so that one test tells them apart.
+// The number of a digit, or none for any other byte: what is taken from that gives a number above nine, so one test tells them apart.
 fn digit_of(b: u8) -> Option<u64>
     ensures { DigitSays b result }
 {

@@ -21,6 +21,12 @@ pub struct Column {
     pub gap: Gap,
 }
 
+// How far a coordinate may lie from 0.
+const COORDINATE_MOST: u32 = 1_000_000;
+
+// The greatest id, and the greatest line.
+const ID_MOST: u32 = 1_000_000;
+
 // A field whose number is held as it is.
 macro_rules! between {
     ($low:expr, $high:expr, $gap:ident) => {
@@ -38,16 +44,16 @@ macro_rules! coordinate {
     ($gap:ident) => {
         Column {
             origin: ORIGIN,
-            low: ORIGIN - 1_000_000,
-            high: ORIGIN + 1_000_000,
+            low: ORIGIN - COORDINATE_MOST,
+            high: ORIGIN + COORDINATE_MOST,
             gap: Gap::$gap,
         }
     };
 }
 
-const ID: Column = between!(0, 1_000_000, Never);
+const ID: Column = between!(0, ID_MOST, Never);
 
-const ID_OR_NONE: Column = between!(0, 1_000_000, May);
+const ID_OR_NONE: Column = between!(0, ID_MOST, May);
 
 const PORT: Column = between!(0, 65_535, Never);
 
@@ -80,17 +86,19 @@ const EXEC_COLUMNS: [Column; 2] = [ID, PORT];
 
 const WIRE_COLUMNS: [Column; 4] = [ID, PORT, ID, PORT];
 
+const TABLES: [&[Column]; 6] = [
+    &PAGE_COLUMNS,
+    &NODE_COLUMNS,
+    &CHIP_COLUMNS,
+    &INNER_COLUMNS,
+    &EXEC_COLUMNS,
+    &WIRE_COLUMNS,
+];
+
 // The fields of a section, by its number.
 pub fn columns_of(s: usize) -> &'static [Column]
     requires { s < SECTIONS }
     ensures { result.now ≡ columns_of s }
 {
-    match s {
-        0 => &PAGE_COLUMNS,
-        1 => &NODE_COLUMNS,
-        2 => &CHIP_COLUMNS,
-        3 => &INNER_COLUMNS,
-        4 => &EXEC_COLUMNS,
-        _ => &WIRE_COLUMNS,
-    }
+    TABLES[s]
 }

@@ -1,8 +1,9 @@
 // The sheet walker: it borrows the text that it walks, and shows each part of it that a byte ends: a line ends at byte 10, and a field of a line at a tab. The
 // searching is done over a plain slice and a place; the walker's methods only wrap it.
-ghost use Rattle.std.specs.Prelude.{◌≡◌, ◌==◌, position, drop};
+// Stays (no plainer): the functions that read a line take text and place by themselves, since what they give is a place alone and one text serves all.
+ghost use Rattle.std.specs.Prelude.{◌≡◌, drop};
 ghost use Rattle.sheet.specs.Text.{part_of};
-ghost use Rattle.sheet.specs.Places.{behind_part};
+ghost use Rattle.sheet.specs.Places.{part_end, behind_part};
 
 // A text and a place in it. A place past the end stands for the end.
 #[derive(Clone, Copy)]
@@ -11,11 +12,19 @@ pub struct SheetWalker<'a> {
     pub at: usize,
 }
 
-// Where the byte `end` first stands.
-fn first_end(bytes: &[u8], end: u8) -> Option<usize>
-    ensures { result ≡ position (λ b. b == end) bytes.now }
+// Where the part that starts here ends: at the next byte `end`, or with the text.
+fn part_end(text: &[u8], at: usize, end: u8) -> usize
+    ensures { result ≡ part_end end text.now at }
 {
-    bytes.iter().position(|b| *b == end)
+    // Stays (slower): `position` counts from the part's start, so its place is added to that again for each field: to read a sheet takes one instruction in a hundred more.
+    let mut i = at;
+    while i < text.len() {
+        if text[i] == end {
+            return i;
+        }
+        i += 1;
+    }
+    i
 }
 
 // The part that starts here, without the byte that ends it.
@@ -25,19 +34,14 @@ fn part_at(text: &[u8], at: usize, end: u8) -> &[u8]
     if text.len() < at {
         return &[];
     }
-    let rest = &text[at..];
-    match first_end(rest, end) {
-        Some(n) => &rest[..n],
-        None => rest,
-    }
+    &text[at..part_end(text, at, end)]
 }
 
 // The place behind the part that starts here, and behind the byte that ends it: or the text's end.
 pub fn behind_part(text: &[u8], at: usize, end: u8) -> usize
     ensures { result ≡ behind_part end text.now at }
 {
-    let part_end = at + part_at(text, at, end).len();
-    part_end.saturating_add(1).min(text.len())
+    part_end(text, at, end).saturating_add(1).min(text.len())
 }
 
 impl<'a> SheetWalker<'a> {

@@ -1,4 +1,5 @@
 // Writing: numbers and lines appended to a lent buffer. Each function takes the place to write at and gives the place behind what it wrote.
+// Stays (no plainer): a struct of buffer and place would hold a `&mut` slice, and what it leaves is told by nested pairs.
 ghost use Rattle.std.specs.Prelude.{◌≡◌, ℕ, ◌+◌, ◌<◌, ◌≤◌, List, [], ◌∷◌, length};
 ghost use Rattle.sheet.specs.Written.{Wrote, digits_of, decimal, coordinate_text, number_text};
 
@@ -22,7 +23,7 @@ fn put_digits(out: &mut [u8], at: usize, most: usize, n: u32) -> usize
         return at;
     }
     if n < 10 {
-        return put_byte(out, at, ZERO + (n % 10) as u8);
+        return put_byte(out, at, ZERO + n as u8);
     }
     let last = put_digits(out, at, most - 1, n / 10);
     put_byte(out, last, ZERO + (n % 10) as u8)
@@ -48,6 +49,7 @@ pub fn put_coordinate(out: &mut [u8], at: usize, held: u32) -> usize
 }
 
 // A number, or `-` for one that is missing.
+// Stays (C interface): n is a row's number as it stands.
 pub fn put_number(out: &mut [u8], at: usize, n: u32) -> usize
     requires { at + 10 ≤ length out.old }
     ensures { Wrote out.old at (number_text n) out.new result }

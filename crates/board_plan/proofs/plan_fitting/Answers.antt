@@ -1,4 +1,5 @@
-use mathlib.Core.Path.{◌≡◌, refl, sym, ◌∙◌}
+use mathlib.Core.Path.{◌≡◌, refl, sym, ap, ◌∙◌}
+use Rattle.std.proofs.Common.{Err}
 use mathlib.Core.Bool.{true, false}
 use Rattle.board_plan.specs.TextPlan.{fits_counts, fits_lent}
 use Rattle.board_plan.proofs.Reading.{counts_few, fits_counted, lent_unfit, lent_fits, board_read}
@@ -10,7 +11,7 @@ fits-requires c = let b = c.requires.board_checked in counts_few b.0 c.args.coun
 pub returns-then-not-fits : goal.returns-then-not-fits
 returns-then-not-fits c b checked = let a = c.args in
     let e : fits_counts a.lent a.counts ≡ false = sym c.fits.ensures ∙ c.if-not-fits.true in
-    rw (lent_unfit (fits_lent a.lent) b (fits_counted a.lent b a.counts false checked.counted e)) refl
+    rw (lent_unfit (fits_lent a.lent) b (fits_counted a.lent b a.counts false checked.counted e)) (ap Err c.at.ensures)
 
 pub plan_rows-requires : goal.plan_rows-requires
 plan_rows-requires c =

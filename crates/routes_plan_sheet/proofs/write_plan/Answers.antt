@@ -4,4 +4,4 @@ use Rattle.routes_plan_sheet.proofs.write_plan.Goals as goal
 
 pub returns : goal.returns
 returns c b ps h =
-    wrote_plan b ps _ _ _ _ _ _ h _ _ _ _ _ c.count_deliveries-deliveries.ensures.0 c.totals-t.ensures c.put_plan.ensures
+    wrote_plan b ps _ _ _ _ _ _ h _ _ _ _ _ c.count_deliveries-deliveries.ensures.0 c.totals.ensures c.put_plan.ensures

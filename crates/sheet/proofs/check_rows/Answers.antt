@@ -3,4 +3,4 @@ use Rattle.sheet.proofs.Answers.{surveyed_is}
 use Rattle.sheet.proofs.check_rows.Goals as goal
 
 pub returns : goal.returns
-returns c = surveyed_is c.args.most c.args.text.now c.list.result c.list.ensures c.survey_rows.ensures
+returns c = surveyed_is c.args.most c.args.text.now c.from.result c.from.ensures c.survey_rows.ensures

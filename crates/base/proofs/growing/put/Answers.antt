@@ -1,8 +1,10 @@
 -- `put` meets its contract. Assumes nothing.
-use native.Mathlib.Numerals.{add-one}
-use mathlib.Core.Path.{refl, ap}
-use lib.ListN.{get_or, set}
+use Rattle.std.proofs.Common.{arith}
+use mathlib.Core.Path.{refl}
 use Rattle.base.proofs.growing.put.Goals as goal
 
+pub take_one-requires : goal.take_one-requires
+take_one-requires g c = (omega arith, omega arith)
+
 pub returns : goal.returns
-returns g c = let a = c.args in record { onward = ap (set a.nexts.now a.k) (add-one (get_or a.nexts.now a.k 0)); value = refl }
+returns g c = record { onward = c.take_one.ensures.1; value = rw c.take_one.ensures.0 refl }

@@ -1,14 +1,10 @@
 -- `enter_id` meets its contract. Assumes nothing.
 use mathlib.Core.Path.{sym, ◌∙◌}
-use Rattle.board.proofs.Faults.{entered_there}
+use Rattle.board.proofs.Faults.{entered_there, entered_new}
 use Rattle.board.proofs.walks.enter_id.Goals as goal
 
-pub returns-then-has_id : goal.returns-then-has_id
-returns-then-has_id c = entered_there _ _ _ _ (sym c.if-has_id.true ∙ c.has_id.ensures)
+pub returns-then-has : goal.returns-then-has
+returns-then-has c = rw (c.at.ensures) (entered_there (sym c.if-has.true ∙ c.has.ensures))
 
 pub returns : goal.returns
-returns c = record {
-  answer = sym c.if-has_id.false ∙ c.has_id.ensures;
-  added = λ z. c.add_id.ensures.index_after;
-  index = λ z. c.add_id.ensures.index_2;
-}
+returns c = entered_new (sym c.if-has.false ∙ c.has.ensures) c.add_id.ensures.index_after c.add_id.ensures.index_2

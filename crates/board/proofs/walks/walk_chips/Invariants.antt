@@ -8,5 +8,5 @@ use Rattle.board.proofs.walks.walk_chips.Given as goal
 
 -- The first c chips are behind.
 abbrev pub invariant-loop-c : goal.invariant-loop-c
-invariant-loop-c l = let b = sheet_board l.text in
-    Walking l.text l.rows l.first l.n l.c (chip_id b) (chip_twice b) (parent_missing b) l.initial.w.missing l.w.missing l.w.place l.index × (l.w.unplaced ≡ l.initial.w.unplaced)
+invariant-loop-c l = let b = sheet_board l.lines.text.now in
+    Walking l.lines.text.now l.lines.rows.now l.lines.first l.lines.count l.c (chip_id b) (chip_twice b) (parent_missing b) l.initial.w.missing l.w.missing l.w.place l.index × (l.w.unplaced ≡ l.initial.w.unplaced)

@@ -8,5 +8,5 @@ use Rattle.board.proofs.walks.walk_inner.Given as goal
 
 -- The first f nodes are behind.
 abbrev pub invariant-loop-f : goal.invariant-loop-f
-invariant-loop-f l = let b = sheet_board l.text in
-    Walking l.text l.rows l.first l.n l.f (inner_id b) (inner_twice b) (chip_missing b) l.initial.w.missing l.w.missing l.w.place l.index × (l.w.unplaced ≡ l.initial.w.unplaced)
+invariant-loop-f l = let b = sheet_board l.lines.text.now in
+    Walking l.lines.text.now l.lines.rows.now l.lines.first l.lines.count l.f (inner_id b) (inner_twice b) (chip_missing b) l.initial.w.missing l.w.missing l.w.place l.index × (l.w.unplaced ≡ l.initial.w.unplaced)

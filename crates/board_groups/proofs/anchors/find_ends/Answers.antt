@@ -7,5 +7,5 @@ use Rattle.board_groups.proofs.anchors.find_ends.Goals as goal
 
 pub returns : goal.returns
 returns c = λ b n p f e k.
-    let long : length b.inner ≡ length c.args.inner.now = ap length f in
-    c.write_ends.ensures b n p f e (none_asked b 4096 (omega (arith, long, c.requires.indexes.few_inner))) k
+    let long : length b.inner ≡ length c.args.named.sections.inner.now = ap length f in
+    c.write_ends.ensures b n p f e (none_asked b 4096 (omega (arith, long, c.args.named.indexed.few_inner))) k

@@ -13,6 +13,6 @@ loop-w-preserved c = λ b n p f e a k.
     let x = c.find_end-source.ensures b n p f i.2 in
     let y = c.find_end-target.ensures b n p f x.1 in (
       ends_nodes b c.loop-w.facts c.loop-w.w _ _ _ room i.0,
-      ends_more b c.loop-w.facts c.loop-w.w _ _ _ room _ e _ _ c.wire_open-passes.result x.0 y.0 c.wire_open-passes.ensures (c.from.ensures ∙ byte_flag c.wire_open-passes.result) i.1,
+      ends_more b c.loop-w.facts c.loop-w.w _ _ _ room _ e _ _ c.wire_open-passes.result (c.held.ensures _ x.0.0, x.0.1) (c.held-in-loop-w.ensures _ y.0.0, y.0.1) c.wire_open-passes.ensures (c.from.ensures ∙ byte_flag c.wire_open-passes.result) i.1,
       y.1,
     )

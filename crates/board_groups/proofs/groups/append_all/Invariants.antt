@@ -10,5 +10,5 @@ use Rattle.board_groups.specs.Shares.{Wired, Appended}
 use Rattle.board_groups.proofs.groups.append_all.Given as goal
 
 abbrev pub invariant-loop-w : goal.invariant-loop-w
-invariant-loop-w l = (l.m ≤ l.w) × Wired l.wires l.taps l.m
-    × ((b : Board) → b.nodes ≡ l.nodes → b.wires ≡ l.wires → NodeFacts b l.facts → TapTargets b l.facts → Appended b l.taps l.m (fold (add_wire b) [] (upto l.w)))
+invariant-loop-w l = (l.m ≤ l.w) × Wired l.s.wires.now l.taps l.m
+    × ((b : Board) → b.nodes ≡ l.s.nodes.now → b.wires ≡ l.s.wires.now → NodeFacts b l.facts → TapTargets b l.facts → Appended b l.taps l.m (fold (add_wire b) [] (upto l.w)))

@@ -16,5 +16,5 @@ returns-clause-result_after c = λ b n e k t.
     let room : m ≤ length taps = omega arith in
     let front : length (take m taps) ≡ m = length-take-le m taps room in
     let long : length c.share_groups.new.taps ≡ m = omega (arith, front, c.share_groups.auto.taps) in
-    appended_all b c.args.wires.now taps _ m (taps_of b) e (c.append_all-m.ensures.appended b n e k t)
-    (shared_front c.args.wires.now taps c.share_groups.new.taps m room long (rw front at c.share_groups.ensures))
+    appended_all b c.args.s.wires.now taps _ m (taps_of b) e (c.append_all-m.ensures.appended b n e k t)
+    (shared_front c.args.s.wires.now taps c.share_groups.new.taps m room long (rw front at c.share_groups.ensures))

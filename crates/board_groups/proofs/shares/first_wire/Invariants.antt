@@ -4,5 +4,5 @@ use mathlib.Core.Path.{◌≡◌}
 use Rattle.board_groups.specs.Shares.{key_of}
 use Rattle.board_groups.proofs.shares.first_wire.Given as goal
 
-abbrev pub invariant-loop-j : goal.invariant-loop-j
-invariant-loop-j l = (i : ℕ) → i < l.j → key_of l.wires l.taps i ≡ key_of l.wires l.taps l.k → ⊥
+abbrev pub invariant-loop-tap : goal.invariant-loop-tap
+invariant-loop-tap l = (i : ℕ) → i < l.tap-index → key_of l.wires l.taps i ≡ key_of l.wires l.taps l.k → ⊥

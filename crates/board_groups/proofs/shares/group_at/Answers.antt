@@ -10,5 +10,5 @@ pub returns-then-have_one_key : goal.returns-then-have_one_key
 returns-then-have_one_key c =
     let a = c.args in
     let m = c.requires.by_index in
-    group_goes_on a.wires.now a.taps.now a.keys.now m.0 m.2 a.p c.tap_at-k.result m.1 c.tap_at-k.ensures c.tap_at-j.result c.tap_at-j.ensures (sym c.have_one_key.ensures ∙ c.if-have_one_key.true)
+    group_goes_on a.wires.now a.taps.now a.keys.now m.0 m.2 a.p c.number_behind-k.result m.1 c.number_behind-k.ensures c.number_behind.result c.number_behind.ensures (sym c.have_one_key.ensures ∙ c.if-have_one_key.true)
     (c.requires.leads_in (starts_later a.keys.now a.p (sym c.starts_run.ensures ∙ c.if-starts_run.false)))

@@ -5,5 +5,5 @@ use mathlib.Core.Bool.{false}
 use Rattle.board_lanes.specs.PagePlan.{NoneAsks}
 use Rattle.board_lanes.proofs.demands.has_none.Given as goal
 
-abbrev pub invariant-loop-i : goal.invariant-loop-i
-invariant-loop-i l = l.hit ≡ false → NoneAsks l.marks l.p l.j (l.j + l.i)
+abbrev pub invariant-loop-mark : goal.invariant-loop-mark
+invariant-loop-mark l = l.hit ≡ false → NoneAsks l.marks l.p l.j (l.j + l.mark-index)

@@ -9,6 +9,3 @@ invariant-loop-j l = (l.k ≤ l.j) × (l.j ≤ length l.marks) × NoneAsks l.mar
 
 abbrev pub decreases-loop-j : goal.decreases-loop-j
 decreases-loop-j l = length l.marks - l.j
-
-abbrev pub invariant-loop-i : goal.invariant-loop-i
-invariant-loop-i l = NoneAsks l.marks l.p l.k l.i

@@ -11,5 +11,5 @@ pub returns : goal.returns
 returns c = record {
   without = λ h. clash (ap not (ne_eqb _ MISSING c.if-page.false)) h;
   within = λ h. c.plan_page.ensures;
-  few = page_few c.args.taps.now c.args.groups.now c.args.marks.now (length c.args.taps.now) c.args.p c.requires.packable _ c.plan_page.result c.plan_page.ensures;
+  few = page_few c.args.asking.taps.now c.args.groups.now c.args.asking.marks.now (length c.args.asking.taps.now) c.args.p c.requires.packable _ c.plan_page.result c.plan_page.ensures;
 }

@@ -5,7 +5,7 @@ use mathlib.Core.List.{[], Memᴰ}
 use lib.ListN.{length, get_or}
 use Rattle.board.specs.Board.{field}
 use Rattle.board.specs.Groups.{taps_of}
-use Rattle.board.specs.Tables.{tap_in}
+use Rattle.board.specs.Tables.{held, tap_in}
 use Rattle.base.proofs.Views.{view_mem}
 use Rattle.board_groups.specs.Collecting.{head_page}
 use Rattle.board_groups.proofs.Filling.{filled_more}
@@ -14,7 +14,7 @@ use Rattle.board_lanes.proofs.needs.mark_heads.Goals as goal
 
 pub loop-k-preserved : goal.loop-k-preserved
 loop-k-preserved c =
-    let group-inside : field c.args.taps.now c.loop-k.k 1 < length c.args.wires.now = c.requires.by_index c.loop-k.k (omega arith) in
+    let group-inside : field c.args.taps.now c.loop-k.k 1 < length c.args.s.wires.now = c.requires.by_index c.loop-k.k (omega arith) in
     let g = field c.args.taps.now c.loop-k.k 1 in
     let tap = tap_in (get_or c.args.taps.now c.loop-k.k []) in
     λ b n e f v z.
@@ -26,6 +26,6 @@ loop-k-preserved c =
     let source = source_held b g t.first t.leads (field c.args.facts.now g 2) (f.sources g in-wires) in
     let low = source_below b g t.first t.leads in
     let o = ap length n in
-    filled_more (λ j. head_page b (taps_of b) (tap_in (get_or c.args.taps.now j []))) c.loop-k.marks c.loop-k.k c.head_page.result 0 (omega arith) (c.loop-k.invariant b n e f v z)
-    (c.head_page.ensures b (taps_of b) n source (omega arith)
-    (row_first b (taps_of b) tap there _ (get_or c.args.groups.now g []) (z g in-wires)) (row_last b (taps_of b) tap there _ (get_or c.args.groups.now g []) (z g in-wires)) (row_crosses b (taps_of b) tap there _ (get_or c.args.groups.now g []) (z g in-wires)))
+    filled_more (λ j. held (head_page b (taps_of b) (tap_in (get_or c.args.taps.now j [])))) c.loop-k.marks c.loop-k.k c.held.result 0 (omega arith) (c.loop-k.invariant b n e f v z)
+    (c.held.ensures (head_page b (taps_of b) tap) (c.head_page.ensures b (taps_of b) n source (omega arith)
+    (row_first b (taps_of b) tap there _ (get_or c.args.groups.now g []) (z g in-wires)) (row_last b (taps_of b) tap there _ (get_or c.args.groups.now g []) (z g in-wires)) (row_crosses b (taps_of b) tap there _ (get_or c.args.groups.now g []) (z g in-wires))))

@@ -10,4 +10,4 @@ use Rattle.board.specs.Tables.{tap_in, group_row, WireFacts}
 use Rattle.board_lanes.proofs.needs.sum_taps.Given as goal
 
 abbrev pub invariant-loop-tap : goal.invariant-loop-tap
-invariant-loop-tap l = ((g : ℕ) → g < length l.wires → field l.groups g 2 ≤ l.tap-index) × ((b : Board) → b.nodes ≡ l.nodes → b.wires ≡ l.wires → WireFacts b l.facts → view tap_in l.taps (length l.taps) ≡ taps_of b → (g : ℕ) → g < length l.wires → get_or l.groups g [] ≡ group_row b (view tap_in l.taps l.tap-index) g MISSING)
+invariant-loop-tap l = ((g : ℕ) → g < length l.s.wires.now → field l.groups g 2 ≤ l.tap-index) × ((b : Board) → b.nodes ≡ l.s.nodes.now → b.wires ≡ l.s.wires.now → WireFacts b l.facts → view tap_in l.taps (length l.taps) ≡ taps_of b → (g : ℕ) → g < length l.s.wires.now → get_or l.groups g [] ≡ group_row b (view tap_in l.taps l.tap-index) g MISSING)

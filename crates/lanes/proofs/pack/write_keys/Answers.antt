@@ -12,15 +12,17 @@ use Rattle.base.proofs.Filling.{copied_more, copied_all}
 use Rattle.lanes.proofs.pack.write_keys.Goals as goal
 
 pub key_row-requires : goal.key_row-requires
+unfolding demand_of
 key_row-requires g c =
-    let there : demand_in c.demand_in.result ≡ get_or (map demand_of c.args.demands.now) c.loop-i.i no_demand = c.demand_in.ensures ∙ demand_read c.args.demands.now c.loop-i.i c.index-demands-i.result c.index-demands-i.is (omega arith) in
+    let there : demand_in c.from-demand.result ≡ get_or (map demand_of c.args.demands.now) c.loop-i.i no_demand = c.from-demand.ensures ∙ demand_read c.args.demands.now c.loop-i.i c.index-demands-i.result c.index-demands-i.is (omega arith) in
     ap faulty there ∙ c.requires.keys_len.2 c.loop-i.i (omega (arith, length-map c.args.demands.now demand_of))
 
 pub loop-i-preserved : goal.loop-i-preserved
+unfolding demand_of
 loop-i-preserved g c =
-    let there : demand_in c.demand_in.result ≡ get_or (map demand_of c.args.demands.now) c.loop-i.i no_demand = c.demand_in.ensures ∙ demand_read c.args.demands.now c.loop-i.i c.index-demands-i.result c.index-demands-i.is (omega arith) in
+    let there : demand_in c.from-demand.result ≡ get_or (map demand_of c.args.demands.now) c.loop-i.i no_demand = c.from-demand.ensures ∙ demand_read c.args.demands.now c.loop-i.i c.index-demands-i.result c.index-demands-i.is (omega arith) in
     copied_more (map key_of (entries 0 (map demand_of c.args.demands.now))) c.loop-i.keys c.loop-i.i [] c.key_row.result
-    (key_at_lem (map demand_of c.args.demands.now) c.loop-i.i c.key_row.result (demand_in c.demand_in.result) (omega (arith, length-map c.args.demands.now demand_of)) c.key_row.ensures there)
+    (key_at_lem (map demand_of c.args.demands.now) c.loop-i.i c.key_row.result (demand_in c.from-demand.result) (omega (arith, length-map c.args.demands.now demand_of)) c.key_row.ensures there)
     (omega arith) (omega (arith, length_keys 0 (map demand_of c.args.demands.now), length-map c.args.demands.now demand_of)) c.loop-i.invariant
 
 pub returns : goal.returns

@@ -9,6 +9,3 @@ invariant-loop-passed l = (l.passed ≤ l.count) × Passed (ends_before l.first)
 
 abbrev pub decreases-loop-passed : goal.decreases-loop-passed
 decreases-loop-passed l = l.count - l.passed
-
-abbrev pub invariant-loop-l : goal.invariant-loop-l
-invariant-loop-l l = Passed (ends_before l.first) l.ends l.l

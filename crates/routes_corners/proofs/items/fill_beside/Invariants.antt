@@ -1,5 +1,5 @@
 -- `fill_beside` meets its contract: the rerouters' items, stored one behind the other. Assumes nothing.
-use Rattle.std.proofs.Common.{◌≡◌, ℕ, ◌+◌, ◌-◌, ◌<◌, ◌≤◌, [], length, get_or}
+use Rattle.std.proofs.Common.{◌≡◌, ℕ, ◌+◌, ◌<◌, [], length, get_or}
 use Rattle.routes.specs.Buffers.{rerouter_in}
 use Rattle.routes_corners.specs.Listing.{BesideIs}
 use Rattle.routes_corners.proofs.items.fill_beside.Given as goal

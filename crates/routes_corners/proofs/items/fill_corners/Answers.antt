@@ -5,6 +5,6 @@ use Rattle.routes_corners.proofs.items.fill_corners.Goals as goal
 pub returns-clause-corner_items : goal.returns-clause-corner_items
 returns-clause-corner_items c = let a = c.args in
     let stored =
-    items_stored a.nodes.now a.facts.now a.classes.now a.list.now _ a.rerouters.now _ c.fill_bricks.new.items c.fill_beside.new.items c.fill_questions.new.items
+    items_stored a.t.s.nodes.now a.t.facts.now a.t.classes.now a.t.list.now _ a.rerouters.now _ c.fill_bricks.new.items c.fill_beside.new.items c.fill_questions.new.items
     c.requires.turns_listed c.fill_bricks.ensures c.fill_beside.ensures.by_index c.fill_beside.ensures.by_index_2 c.fill_questions.ensures.by_index c.fill_questions.ensures.by_index_2 in
-    λ b bus pages wires of. items_held b bus pages a.nodes.now wires a.facts.now a.classes.now a.list.now _ a.rerouters.now _ _ of c.requires.bricks_askable c.requires.turns_listed stored
+    λ b bus pages wires of. items_held b bus pages a.t.s.nodes.now wires a.t.facts.now a.t.classes.now a.t.list.now _ a.rerouters.now _ _ of c.requires.bricks_askable c.requires.turns_listed stored

@@ -1,5 +1,4 @@
 -- `class_along` meets its contract: the wires passed have their classes. Assumes nothing.
-use Rattle.std.proofs.Common.{◌-◌, ◌≤◌, length}
 use Rattle.routes_corners.proofs.PortLaws.{Walked}
 use Rattle.routes_corners.proofs.ports.class_along.Given as goal
 

@@ -1,5 +1,5 @@
 -- `fill_keys` meets its contract: the wires passed have their keys. Assumes nothing.
-use Rattle.std.proofs.Common.{◌≡◌, ℕ, ◌+◌, ◌-◌, ◌*◌, ◌<◌, ◌≤◌, length, get_or}
+use Rattle.std.proofs.Common.{◌≡◌, ℕ, ◌+◌, ◌*◌, ◌<◌, get_or}
 use Rattle.routes_corners.specs.Ports.{wire_key}
 use Rattle.routes_corners.proofs.ports.fill_keys.Given as goal
 

@@ -1,68 +1,77 @@
 -- `flag_port` meets its contract: the class of the wire at the port's place gets its flag if the wire leads to the port; else no wire does. Assumes nothing.
-use Rattle.std.proofs.Common.{◌<◌, ◌≤◌, length, get_or, sym, ap, ◌∙◌, arith}
-use Rattle.routes_corners.specs.Ports.{the_port, goes_to}
+use Rattle.std.proofs.Common.{◌≡◌, ℕ, ◌+◌, ◌*◌, ◌%◌, ◌<◌, ◌≤◌, List, length, get_or, take, length-take-le, get_or-take, sym, ap, ◌∙◌, subst, arith, rules}
+use Rattle.base.specs.Keys.{Rising, FirstNotBelow}
+use Rattle.routes.specs.Buffers.{port_in}
+use Rattle.routes_corners.specs.Ports.{wire_at, goes_to, Ported}
 use Rattle.routes_corners.proofs.PortLaws.{port_nowhere, flag_none, flag_found}
 use Rattle.routes_corners.proofs.ports.flag_port.Goals as goal
 
-pub returns-then-n-p : goal.returns-then-n-p
-returns-then-n-p c = let a = c.args in record {
-  upper_bound = c.seek_key-p.ensures.within;
-  by_index = λ test h. flag_none a.wires.now a.classes.now a.flags.now c.requires.ported.0.classed (the_port a.node a.port) test h
-      (port_nowhere a.wires.now a.keys.now c.requires.ported.0.keyed a.node a.port c.pack_key.result c.seek_key-p.result c.pack_key.ensures c.seek_key-p.ensures (λ b. absurd (omega (arith, c.if-n-p.true))));
-}
+-- The keys of the wires alone are in rising order.
+rising_in : {wires : List (List ℕ)} {classes keys : List ℕ} → Ported wires classes keys → Rising (take (length wires) keys) (length (take (length wires) keys))
+rising_in {wires = wires} {keys = keys} k i j b c =
+    let n = length wires in
+    let long = length-take-le n keys k.keyed.long in
+    rw (get_or-take n keys i 0 (omega (arith, b, c, long)), get_or-take n keys j 0 (omega (arith, c, long))) (k.keyed.rising i j b (omega (arith, c, long)))
 
-pub goes_to-requires : goal.goes_to-requires
-goes_to-requires c =
-    let wire-there : c.wire_at-w.result < length c.args.wires.now = let at = (c.requires.ported.0.keyed.comes c.seek_key-p.result c.if-n-p.false).0 in
-    omega (arith, c.wire_at-w.ensures) in
-    wire-there
-
-pub bounds-classes-w : goal.bounds-classes-w
-bounds-classes-w c =
-    let wire-there : c.wire_at-w.result < length c.args.wires.now = let at = (c.requires.ported.0.keyed.comes c.seek_key-p.result c.if-n-p.false).0 in
-    omega (arith, c.wire_at-w.ensures) in
-    omega (arith, wire-there)
-
-pub overflow_cast-flags : goal.overflow_cast-flags
-overflow_cast-flags c =
-    let wire-there : c.wire_at-w.result < length c.args.wires.now = let at = (c.requires.ported.0.keyed.comes c.seek_key-p.result c.if-n-p.false).0 in
-    omega (arith, c.wire_at-w.ensures) in
-    let class-there : (get_or c.args.classes.now c.wire_at-w.result 0 < length c.args.wires.now) × (length c.args.wires.now ≤ 8192) = let b = wire-there in
-    let low = c.requires.ported.0.classed.low c.wire_at-w.result b in
-    (omega arith, c.requires.ported.0.keyed.few) in
-    let h = class-there in omega (arith, h)
-
-pub offset_bounds-flags-classes : goal.offset_bounds-flags-classes
-offset_bounds-flags-classes c =
-    let wire-there : c.wire_at-w.result < length c.args.wires.now = let at = (c.requires.ported.0.keyed.comes c.seek_key-p.result c.if-n-p.false).0 in
-    omega (arith, c.wire_at-w.ensures) in
-    let class-there : (get_or c.args.classes.now c.wire_at-w.result 0 < length c.args.wires.now) × (length c.args.wires.now ≤ 8192) = let b = wire-there in
-    let low = c.requires.ported.0.classed.low c.wire_at-w.result b in
-    (omega arith, c.requires.ported.0.keyed.few) in
-    let h = class-there in omega (arith, h)
-
-pub bounds-flags-classes : goal.bounds-flags-classes
-bounds-flags-classes c =
-    let wire-there : c.wire_at-w.result < length c.args.wires.now = let at = (c.requires.ported.0.keyed.comes c.seek_key-p.result c.if-n-p.false).0 in
-    omega (arith, c.wire_at-w.ensures) in
-    let class-there : (get_or c.args.classes.now c.wire_at-w.result 0 < length c.args.wires.now) × (length c.args.wires.now ≤ 8192) = let b = wire-there in
-    let low = c.requires.ported.0.classed.low c.wire_at-w.result b in
-    (omega arith, c.requires.ported.0.keyed.few) in
-    let h = class-there in omega (arith, h)
-
-pub returns-then-goes_to : goal.returns-then-goes_to
-returns-then-goes_to c =
-    let wire-there : c.wire_at-w.result < length c.args.wires.now = let at = (c.requires.ported.0.keyed.comes c.seek_key-p.result c.if-n-p.false).0 in
-    omega (arith, c.wire_at-w.ensures) in
-    let a = c.args in record {
-      upper_bound = c.seek_key-p.ensures.within;
-      by_index = λ test h. flag_found a.wires.now a.classes.now a.flags.now c.requires.ported.0.classed (the_port a.node a.port) test h c.requires.port_room.flag_room c.wire_at-w.result (wire-there) (sym c.goes_to.ensures ∙ c.if-goes_to.true);
+-- A place among them is one among all keys.
+first_in : {wires : List (List ℕ)} {classes keys : List ℕ} {key p : ℕ} → Ported wires classes keys → FirstNotBelow (take (length wires) keys) (length (take (length wires) keys)) key p
+    → FirstNotBelow keys (length wires) key p
+first_in {wires = wires} {keys = keys} {key = key} {p = p} k f =
+    let n = length wires in
+    let long = length-take-le n keys k.keyed.long in
+    record {
+      within = omega (arith, f.within, long);
+      before = λ i h. subst (λ (v : ℕ). v < key) (get_or-take n keys i 0 (omega (arith, h, f.within, long))) (f.before i h);
+      here = λ h. subst (λ (v : ℕ). key ≤ v) (get_or-take n keys p 0 h) (f.here (omega (arith, h, long)));
     }
 
+-- The wire whose key is read at a place among them, and its class.
+record Read (wires : List (List ℕ)) (classes keys : List ℕ) (p w : ℕ) : Type 0 where
+  place : p < length wires
+  is : w ≡ wire_at keys p
+  wire : w < length wires
+  class : get_or classes w 0 < length wires
+
+read : {wires : List (List ℕ)} {classes keys : List ℕ} → Ported wires classes keys → (p w found : ℕ) → p < length (take (length wires) keys) → found ≡ get_or (take (length wires) keys) p 0 → w ≡ found % 8192
+    → Read wires classes keys p w
+read {wires = wires} {keys = keys} k p w found low at behind =
+    let n = length wires in
+    let here : p < n = omega (arith, low, length-take-le n keys k.keyed.long) in
+    let same : w ≡ wire_at keys p = behind ∙ ap (λ (v : ℕ). v % 8192) (at ∙ get_or-take n keys p 0 here) in
+    let there : w < n = omega (arith, same, (k.keyed.comes p here).0) in
+    record { place = here; is = same; wire = there; class = omega (arith, there, k.classed.low w there) }
+
+pub first_not_below-p-requires : goal.first_not_below-p-requires
+first_not_below-p-requires c = rising_in c.requires.ported
+
+pub returns-in_default : goal.returns-in_default
+returns-in_default c = let a = c.args in
+    let k = c.requires.ported in
+    let beyond : length (take (length a.t.wires.now) a.t.keys.now) ≤ c.first_not_below-p.result = search rules in
+    λ test h. flag_none a.t.wires.now a.t.classes.now a.flags.now k.classed (port_in a.port) test h
+    (port_nowhere a.t.wires.now a.t.keys.now k.keyed (get_or a.port 0 0) (get_or a.port 1 0) c.with_number-key.result c.first_not_below-p.result (c.with_number-key.ensures ∙ ap (λ (v : ℕ). v * 8192 + 0) c.port_key.ensures) (first_in k c.first_not_below-p.ensures)
+    (λ b. absurd (omega (arith, beyond, b, length-take-le (length a.t.wires.now) a.t.keys.now k.keyed.long))))
+
+pub bounds-flags-t : goal.bounds-flags-t
+bounds-flags-t c = let a = c.args in
+    let here : c.in-Some.found.now ≡ get_or (take (length a.t.wires.now) a.t.keys.now) c.first_not_below-p.result 0 = search rules in
+    let low : c.first_not_below-p.result < length (take (length a.t.wires.now) a.t.keys.now) = search rules in
+    let r = read c.requires.ported _ _ _ low here c.number_behind-w.ensures in
+    omega (arith, r.class, c.requires.port_room.flag_room)
+
+pub returns-then-goes_to : goal.returns-then-goes_to
+returns-then-goes_to c = let a = c.args in
+    let here : c.in-Some.found.now ≡ get_or (take (length a.t.wires.now) a.t.keys.now) c.first_not_below-p.result 0 = search rules in
+    let low : c.first_not_below-p.result < length (take (length a.t.wires.now) a.t.keys.now) = search rules in
+    let r = read c.requires.ported _ _ _ low here c.number_behind-w.ensures in
+    λ test h. flag_found a.t.wires.now a.t.classes.now a.flags.now c.requires.ported.classed (port_in a.port) test h c.requires.port_room.flag_room c.number_behind-w.result r.wire (sym c.goes_to.ensures ∙ c.if-goes_to.true)
+
 pub returns-else-goes_to : goal.returns-else-goes_to
-returns-else-goes_to c = let a = c.args in record {
-  upper_bound = c.seek_key-p.ensures.within;
-  by_index = λ test h. flag_none a.wires.now a.classes.now a.flags.now c.requires.ported.0.classed (the_port a.node a.port) test h
-      (port_nowhere a.wires.now a.keys.now c.requires.ported.0.keyed a.node a.port c.pack_key.result c.seek_key-p.result c.pack_key.ensures c.seek_key-p.ensures
-      (λ b. ap (goes_to a.wires.now (the_port a.node a.port)) (sym c.wire_at-w.ensures) ∙ (sym c.goes_to.ensures ∙ c.if-goes_to.false)));
-}
+returns-else-goes_to c = let a = c.args in
+    let k = c.requires.ported in
+    let here : c.in-Some.found.now ≡ get_or (take (length a.t.wires.now) a.t.keys.now) c.first_not_below-p.result 0 = search rules in
+    let low : c.first_not_below-p.result < length (take (length a.t.wires.now) a.t.keys.now) = search rules in
+    let r = read k _ _ _ low here c.number_behind-w.ensures in
+    λ test h. flag_none a.t.wires.now a.t.classes.now a.flags.now k.classed (port_in a.port) test h
+    (port_nowhere a.t.wires.now a.t.keys.now k.keyed (get_or a.port 0 0) (get_or a.port 1 0) c.with_number-key.result c.first_not_below-p.result (c.with_number-key.ensures ∙ ap (λ (v : ℕ). v * 8192 + 0) c.port_key.ensures) (first_in k c.first_not_below-p.ensures)
+    (λ b. ap (goes_to a.t.wires.now (port_in a.port)) (sym r.is) ∙ (sym c.goes_to.ensures ∙ c.if-goes_to.false)))

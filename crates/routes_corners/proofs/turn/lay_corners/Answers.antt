@@ -29,7 +29,7 @@ returns c = let a = c.args in
     λ b bus old old_wires is classed h rows all.
     let m = length-take-le a.count.rerouters a.rerouters.now c.requires.rows_room.rerouters_there in
     let count = h.rerouter_count in
-    let of = turns_of b bus a.pages.now a.nodes.now a.wires.now a.facts.now a.classes.now a.list.now (length a.list.now) (take a.count.rerouters a.rerouters.now) (length (take a.count.rerouters a.rerouters.now)) is
+    let of = turns_of b bus a.t.s.pages.now a.t.s.nodes.now a.t.s.wires.now a.t.facts.now a.t.classes.now a.t.list.now (length a.t.list.now) (take a.count.rerouters a.rerouters.now) (length (take a.count.rerouters a.rerouters.now)) is
     c.requires.rows_room.listed all (omega arith) classed (cells_within bus.rerouters a.rerouters.now a.count.rerouters (omega (arith, count)) rows) (omega (arith, m, count)) in
-    laid_by_rows b bus a.pages.now a.nodes.now a.wires.now a.facts.now a.classes.now a.list.now (length a.list.now) a.rerouters.now a.count.rerouters is c.requires.rows_room.listed all c.requires.turns_listed answers (d.ensures b bus a.pages.now a.wires.now of) old old_wires _ _ c.write_corners.result
-    (c.write_corners.ensures b bus old old_wires is (list_ends b bus a.pages.now a.nodes.now a.wires.now a.facts.now a.classes.now a.list.now (length a.list.now) a.rerouters.now a.count.rerouters is c.requires.rows_room.listed all) h)
+    laid_by_rows b bus a.t.s.pages.now a.t.s.nodes.now a.t.s.wires.now a.t.facts.now a.t.classes.now a.t.list.now (length a.t.list.now) a.rerouters.now a.count.rerouters is c.requires.rows_room.listed all c.requires.turns_listed answers (d.ensures b bus a.t.s.pages.now a.t.s.wires.now of) old old_wires _ _ c.write_corners.result
+    (c.write_corners.ensures b bus old old_wires is (list_ends b bus a.t.s.pages.now a.t.s.nodes.now a.t.s.wires.now a.t.facts.now a.t.classes.now a.t.list.now (length a.t.list.now) a.rerouters.now a.count.rerouters is c.requires.rows_room.listed all) h)

@@ -4,4 +4,4 @@ use Rattle.routes_corners.proofs.write.corner_at.Goals as goal
 
 pub returns : goal.returns
 returns c = let a = c.args in
-    λ b wires is. corner_read b a.pages.now a.nodes.now wires a.facts.now a.w a.level c.requires is
+    λ b wires is. corner_read b a.t.s.pages.now a.t.s.nodes.now wires a.t.facts.now a.w a.level c.requires is

@@ -4,7 +4,7 @@ use Rattle.routes_taps.specs.Asking.{link_by}
 use Rattle.routes_emit.proofs.row.with_link.Goals as goal
 
 pub returns-then-answers : goal.returns-then-answers
-returns-then-answers c = let n = c.lane_rerouter in
+returns-then-answers c = let n = c.lane_rerouter-new in
     let a = c.args in record {
       spends = c.hang_on.ensures.spends;
       becomes = λ b ts ps t kn.

@@ -7,13 +7,13 @@ use native.Mathlib.Omega.{arith}
 use Rattle.routes_emit.proofs.serve.serve.Goals as goal
 
 pub deliver-requires : goal.deliver-requires
-deliver-requires c = let w = c.with_gate_side-gated in
+deliver-requires c = let w = c.with_gate_side in
     let h = (w.ensures.spends.spent 0 1 c.requires.ready).wire_room in
     omega arith
 
 pub returns : goal.returns
 returns c = let d = c.deliver in
-    let w = c.with_gate_side-gated in
+    let w = c.with_gate_side in
     let a = c.args in record {
       spends = spends_then _ _ _ _ _ _ _ _ _ 1 1 0 1 w.ensures.spends (d.ensures.spends w.new.rerouters);
       becomes = λ b ts ps kn tg.

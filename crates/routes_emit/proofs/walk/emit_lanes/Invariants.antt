@@ -5,4 +5,4 @@ use Rattle.routes_emit.proofs.Next.{Come}
 use Rattle.routes_emit.proofs.walk.emit_lanes.Given as goal
 
 abbrev pub invariant-loop-k : goal.invariant-loop-k
-invariant-loop-k l = Come l.pages l.nodes l.wires l.facts l.groups l.laid (length l.laid) l.stops (told_in l.asked l.flags (length l.nodes)) l.initial.rerouters l.initial.bus_wires l.rerouters l.bus_wires l.w l.k
+invariant-loop-k l = Come l.s.pages.now l.s.nodes.now l.s.wires.now l.laid.facts.now l.laid.groups.now l.laid.taps.now (length l.laid.taps.now) l.stops (told_in l.asked l.flags (length l.s.nodes.now)) l.initial.rerouters l.initial.bus_wires l.rerouters l.bus_wires l.w l.k

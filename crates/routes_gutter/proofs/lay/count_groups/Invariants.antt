@@ -7,4 +7,4 @@ use Rattle.routes.specs.Plan.{group_count}
 use Rattle.routes_gutter.proofs.lay.count_groups.Given as goal
 
 abbrev pub invariant-loop-k : goal.invariant-loop-k
-invariant-loop-k l = (l.count ≤ l.k) × (l.count ≡ group_count (view tap_in l.laid l.k))
+invariant-loop-k l = (l.count ≤ l.k) × (l.count ≡ group_count (view tap_in l.taps l.k))

@@ -16,6 +16,6 @@ abbrev pub invariant-loop-k : goal.invariant-loop-k
 invariant-loop-k l = (l.count ≤ l.k)
     × StopIndex l.e l.stops l.ends l.count
     × (l.runs.starts ≡ l.initial.runs.starts)
-    × PageRuns (field l.laid l.a 0) (view stop_in l.stops l.count) l.initial.runs.starts l.runs.nexts l.runs.xs
-    × Used l.groups l.laid l.a (l.k - l.a) l.initial.runs.starts l.runs.nexts
-    × ((b : Board) (ps : List PageLanes) → LaidFacts b ps l.facts l.groups l.laid l.e → view stop_in l.initial.stops l.initial.count ≡ stops_of b ps (view tap_in l.laid l.a) → view stop_in l.stops l.count ≡ stops_of b ps (view tap_in l.laid l.k))
+    × PageRuns (field l.laid.taps.now l.a 0) (view stop_in l.stops l.count) l.initial.runs.starts l.runs.nexts l.runs.xs
+    × Used l.laid.groups.now l.laid.taps.now l.a (l.k - l.a) l.initial.runs.starts l.runs.nexts
+    × ((b : Board) (ps : List PageLanes) → LaidFacts b ps l.laid.facts.now l.laid.groups.now l.laid.taps.now l.e → view stop_in l.initial.stops l.initial.count ≡ stops_of b ps (view tap_in l.laid.taps.now l.a) → view stop_in l.stops l.count ≡ stops_of b ps (view tap_in l.laid.taps.now l.k))

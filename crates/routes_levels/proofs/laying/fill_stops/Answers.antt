@@ -17,6 +17,6 @@ loop-k-preserved c = let l = c.loop-k in
       p.1,
       page.ensures.upper_bound.0,
       index_kept i.2 page.auto.stops page.auto.ends page.ensures.stop_index_2.0.lasts,
-      λ h. next_page c.args.groups.now c.args.laid.now (length c.args.laid.now) l.k c.page_end-e.result _ c.requires.0.places p.2 p.0 h (p.3 h) page.ensures.stop_index_2.1,
+      λ h. next_page c.args.laid.groups.now c.args.laid.taps.now (length c.args.laid.taps.now) l.k c.page_end-e.result _ c.requires.0.places p.2 p.0 h (p.3 h) page.ensures.stop_index_2.1,
       λ b ps f. page.ensures.upper_bound.1 b ps (facts_fewer p.1 f) (i.4 b ps f),
     )

@@ -14,10 +14,10 @@ use Rattle.routes_levels.specs.Pages.{NoneFrom}
 use Rattle.routes_levels.proofs.laying.fill_stops.Given as goal
 
 abbrev pub invariant-loop-k : goal.invariant-loop-k
-invariant-loop-k l = (l.k ≤ length l.laid) × (l.count ≤ l.k)
-    × StopIndex (length l.laid) l.stops l.ends l.count
-    × (l.k < length l.laid → NoneFrom (field l.laid l.k 0) (view stop_in l.stops l.count))
-    × ((b : Board) (ps : List PageLanes) → LaidFacts b ps l.facts l.groups l.laid (length l.laid) → view stop_in l.stops l.count ≡ stops_of b ps (view tap_in l.laid l.k))
+invariant-loop-k l = (l.k ≤ length l.laid.taps.now) × (l.count ≤ l.k)
+    × StopIndex (length l.laid.taps.now) l.stops l.ends l.count
+    × (l.k < length l.laid.taps.now → NoneFrom (field l.laid.taps.now l.k 0) (view stop_in l.stops l.count))
+    × ((b : Board) (ps : List PageLanes) → LaidFacts b ps l.laid.facts.now l.laid.groups.now l.laid.taps.now (length l.laid.taps.now) → view stop_in l.stops l.count ≡ stops_of b ps (view tap_in l.laid.taps.now l.k))
 
 abbrev pub decreases-loop-k : goal.decreases-loop-k
-decreases-loop-k l = length l.laid - l.k
+decreases-loop-k l = length l.laid.taps.now - l.k

@@ -3,7 +3,7 @@ use native.Mathlib.Omega.{arith}
 use mathlib.Core.Path.{sym, ap, ◌∙◌}
 use lib.ListN.{length}
 use borrow.Author.Tests.{eq-eqb, ne_eqb}
-use Rattle.routes_levels.specs.Laying.{level_answer}
+use Rattle.board.specs.Index.{found_of}
 use Rattle.routes_levels.specs.Search.{free_in}
 use Rattle.routes_levels.proofs.WindowLaws.{weight_free, along_here, along_next}
 use Rattle.routes_levels.proofs.windows.lowest_in.Goals as goal
@@ -16,4 +16,4 @@ loop-j-preserved c = let l = c.loop-j in
 pub returns-then-loads-j-eq0 : goal.returns-then-loads-j-eq0
 returns-then-loads-j-eq0 c = let l = c.loop-j in
     let a = c.args in
-    λ row lane w. sym (ap level_answer (l.invariant row lane w ∙ along_here (free_in row lane) a.start (length a.loads.now) l.j (omega arith) (sym (weight_free row lane _ _ (w.weights l.j (omega arith))) ∙ eq-eqb _ _ c.if-loads-j-eq0.true)))
+    λ row lane w. sym (ap found_of (l.invariant row lane w ∙ along_here (free_in row lane) a.start (length a.loads.now) l.j (omega arith) (sym (weight_free row lane _ _ (w.weights l.j (omega arith))) ∙ eq-eqb _ _ c.if-loads-j-eq0.true)))

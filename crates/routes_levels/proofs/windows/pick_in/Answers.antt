@@ -14,4 +14,4 @@ pub returns : goal.returns
 returns c = λ row lane few w.
     let a = c.args in
     picked_light row lane _ _ (sym c.in_default.is ∙ c.lowest_in.ensures row lane w)
-    (best_all (open_in lane) (load_in row) a.start (length a.loads.now) 0 _ _ (c.lightest_in.ensures row lane a.start (length a.loads.now) 0 few w (omega arith) (omega arith) (best_start _ _ _ _ _ (omega arith))) (omega arith))
+    (c.level_of.ensures ∙ best_all (open_in lane) (load_in row) a.start (length a.loads.now) 0 _ _ (c.lightest_in.ensures row lane a.start (length a.loads.now) 0 few w (omega arith) (omega arith) (best_start _ _ _ _ _ (omega arith))) (omega arith))

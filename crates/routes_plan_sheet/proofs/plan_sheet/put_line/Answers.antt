@@ -10,7 +10,7 @@ loop-field-init c = (omega arith, wrote_nothing _ _)
 
 pub loop-field-preserved : goal.loop-field-preserved
 loop-field-preserved c =
-    let written = c.put_field-next.ensures in
+    let written = c.put-next.ensures in
     let i = c.loop-field.invariant in (
       omega (arith, written.upper_bound, i.0),
       line_step _ _ _ _ _ _ c.loop-field.field-index c.args.fields.now _ (omega arith) (get_or_default c.args.fields.now c.loop-field.field-index _ _ (omega arith)) (omega (arith, i.0, c.put_byte-next.ensures.place)) c.loop-field.auto.out written.upper_bound i.1 written.wrote,

@@ -1,8 +1,6 @@
--- The targets of deliveries, newest first. The loop's invariant: the keys written so far, then those of the bus wires still left, are those of all.
-use lib.ListN.{length}
-use Rattle.routes_ports.specs.Settling.{key_port}
-use Rattle.routes_ports.proofs.Filling.{Filled, sent_below}
+-- The targets of deliveries, newest first: the keys written so far, then those of the bus wires still left, are those of all.
+use Rattle.routes_ports.proofs.Filling.{SentLeft}
 use Rattle.routes_ports.proofs.settle.gather_targets.Given as goal
 
-abbrev pub invariant-loop-k : goal.invariant-loop-k
-invariant-loop-k l = Filled key_port (sent_below l.bus_wires (length l.bus_wires)) l.initial.keys l.keys l.n (sent_below l.bus_wires l.k)
+abbrev pub invariant-loop-wire : goal.invariant-loop-wire
+invariant-loop-wire l = SentLeft l.bus_wires l.initial.keys l.keys l.n l.wire-iterator.iter.rest.now

@@ -1,9 +1,10 @@
-use Rattle.std.proofs.Common.{refl, add-one}
-use Rattle.routes_rows.proofs.Blocking.{blocks_none, blocks_more}
+use Rattle.std.proofs.Common.{◌≡◌, ℕ, suc, ◌-◌, length, subst, arith}
+use Rattle.routes_rows.proofs.Blocking.{Blocking, blocking_next}
 use Rattle.routes_rows.proofs.blocked.block_cells.Goals as goal
 
-pub loop-cell-init : goal.loop-cell-init
-loop-cell-init c = blocks_none _ _ _ (λ k low. refl)
-
-pub loop-cell-preserved : goal.loop-cell-preserved
-loop-cell-preserved c = rw (add-one c.loop-cell.cell-index) (blocks_more c.loop-cell.invariant c.block.ensures)
+pub loop-k-preserved : goal.loop-k-preserved
+loop-k-preserved c =
+    let a = c.args in
+    let here : c.loop-k.k ≡ suc (c.loop-k.k - 1) = omega arith in
+    let b = subst (λ (k : ℕ). Blocking a.span a.cells.now (length a.cells.now) a.ends.now k c.loop-k.ends) here c.loop-k.invariant.1 in
+    (omega arith, blocking_next a.span a.cells.now (length a.cells.now) a.ends.now (c.loop-k.k - 1) c.loop-k.ends c.block.new.ends b c.block.ensures)

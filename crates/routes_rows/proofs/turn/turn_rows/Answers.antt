@@ -1,10 +1,8 @@
-use Rattle.std.proofs.Common.{◌≡◌, ◌≤◌, length, arith, ltb-true}
+use Rattle.std.proofs.Common.{◌≤◌, arith}
 use lib.ListN.{length-replicate}
-use Rattle.routes_rows.specs.Booking.{order_at, begins, no_cell}
+use Rattle.routes_rows.specs.Booking.{begins, no_cell}
 use Rattle.routes_rows.specs.declared.book.Cell.{Cell}
-use Rattle.routes_rows.specs.Blocked.{count_in}
-use Rattle.routes_rows.specs.Notes.{NOTES}
-use Rattle.routes_rows.proofs.Standings.{standing_start, before_few, held_blocks, span_few, decidable, turned}
+use Rattle.routes_rows.proofs.Standings.{standing_start, before_few, held_blocks, decidable, turned}
 use Rattle.routes_rows.proofs.turn.turn_rows.Goals as goal
 
 pub loop-p-init : goal.loop-p-init
@@ -12,19 +10,10 @@ loop-p-init c =
     let a = c.args in
     standing_start a.items.now a.first a.notes.now a.answers.now _ (length-replicate {A = Cell} 12800 no_cell) c.requires.notes_long c.requires.fresh
 
-pub block_cells-requires : goal.block_cells-requires
-block_cells-requires c =
-    let a = c.args in
-    let l = c.loop-p in
-    let few : count_in c.span_of-span.result ≤ 1000 = span_few a.items.now a.first (order_at a.items.now l.p) c.span_of-span.result (c.requires.asks l.p c.loop-p-test.true) c.span_of-span.ensures in
-    let notes : NOTES ≤ length a.notes.now = c.requires.notes_long in
-    let long : length l.notes ≡ length a.notes.now = l.invariant.ends_long in
-    omega (arith, few, notes, long)
-
 pub decide-c-requires : goal.decide-c-requires
 decide-c-requires c =
-    decidable c.loop-p.invariant c.requires c.loop-p-test.true c.count_before-before.result c.count_held-held.result c.span_of-span.result c.block_cells.new.ends
-    c.count_before-before.ensures c.count_held-held.ensures c.span_of-span.ensures
+    decidable c.loop-p.invariant c.requires c.loop-p-test.true c.count_before-before.result c.count_held-held.result c.span_for-span.result c.block_cells.new.ends
+    c.count_before-before.ensures c.count_held-held.ensures c.span_for-span.ensures
     (held_blocks c.loop-p.cells _ _ _ _ _ _ c.loop-p.invariant.room c.count_held-held.ensures c.block_cells.ensures)
 
 pub count_next-n-requires : goal.count_next-n-requires
@@ -34,16 +23,13 @@ count_next-n-requires c =
     let k : c.args.m ≤ 4294967295 = c.requires.countable in
     omega (arith, h, k, c.loop-p-test.true)
 
-pub append-requires : goal.append-requires
-append-requires c = λ e. let low = ltb-true _ _ e in let room = c.loop-p.invariant.room in omega (arith, low, room)
-
 pub loop-p-preserved : goal.loop-p-preserved
 loop-p-preserved c =
     let s = c.loop-p.invariant in
     turned s c.requires c.loop-p-test.true record {
       stood = c.count_before-before.ensures;
       counts = c.count_held-held.ensures;
-      spans = c.span_of-span.ensures;
+      spans = c.span_for-span.ensures;
       blocks = held_blocks c.loop-p.cells _ _ _ _ _ _ s.room c.count_held-held.ensures c.block_cells.ensures;
       decided = c.decide-c.ensures;
       stores = record { same = c.append.ensures.0; added = c.append.ensures.1; left = c.append.ensures.2 };

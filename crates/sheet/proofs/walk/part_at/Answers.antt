@@ -1,13 +1,13 @@
--- `sheet::walk::part_at` meets its contract: what stands before the first byte that ends a part is the part. Assumes nothing.
-use Rattle.std.proofs.Common.{arith}
-use Rattle.sheet.proofs.Parts.{none_there, found_there, found_whole}
+-- `sheet::walk::part_at` meets its contract: the text up to where the part ends is the part. Assumes nothing.
+use Rattle.std.proofs.Common.{ℕ, ◌-◌, take, drop, sym, ap, ◌∙◌, arith}
+use Rattle.sheet.proofs.Parts.{part_none, part_between, part_inside}
 use Rattle.sheet.proofs.walk.part_at.Goals as goal
 
 pub returns-then-text-at : goal.returns-then-text-at
-returns-then-text-at c = let a = c.args in none_there a.end a.text.now a.at (omega arith)
+returns-then-text-at c = let a = c.args in sym (part_none a.end a.text.now a.at (omega (arith, c.if-text-at.true)))
 
-pub returns-in-Some : goal.returns-in-Some
-returns-in-Some c = let a = c.args in found_there a.end a.text.now a.at _ c.in-Some.ensures
+pub slice_bounds-result-end-2 : goal.slice_bounds-result-end-2
+slice_bounds-result-end-2 c = let a = c.args in omega (arith, c.part_end.ensures, part_inside a.end a.text.now a.at c.if-text-at.false)
 
-pub returns-in-None : goal.returns-in-None
-returns-in-None c = let a = c.args in found_whole a.end a.text.now a.at c.in-None.ensures
+pub returns : goal.returns
+returns c = let a = c.args in ap (λ (to : ℕ). take (to - a.at) (drop a.at a.text.now)) c.part_end.ensures ∙ part_between a.end a.text.now a.at

@@ -1,4 +1,6 @@
-use Rattle.std.proofs.Common.{◌-◌, ◌/◌, arith, rules}
+use Rattle.std.proofs.Common.{◌≡◌, ℕ, ◌+◌, ◌-◌, ◌/◌, ◌%◌, [], ◌∷◌, subst, arith, rules}
+use Rattle.sheet.specs.Number.{ZERO}
+use Rattle.sheet.specs.Written.{Wrote}
 use Rattle.sheet.proofs.Writing.{wrote_none, wrote_one, wrote_last, digits_length}
 use Rattle.sheet.proofs.write.+put_digits.Goals as goal
 
@@ -6,7 +8,9 @@ pub returns-then-most-eq0 : goal.returns-then-most-eq0
 returns-then-most-eq0 t c = wrote_none _ _ _ _ c.if-most-eq0.true
 
 pub returns-then-n-lt10 : goal.returns-then-n-lt10
-returns-then-n-lt10 t c = wrote_one _ _ _ _ _ _ c.if-most-eq0.false (search rules) c.put_byte.ensures
+returns-then-n-lt10 t c = let a = c.args in
+    let small : a.n ≡ a.n % 10 = omega (arith, c.if-n-lt10.true) in
+    wrote_one _ _ _ _ _ _ c.if-most-eq0.false (search rules) (subst (λ (d : ℕ). Wrote a.out.now a.at ((ZERO + d) ∷ []) c.put_byte.new.out c.put_byte.result) small c.put_byte.ensures)
 
 pub put_byte-requires-2 : goal.put_byte-requires-2
 put_byte-requires-2 t c = omega (

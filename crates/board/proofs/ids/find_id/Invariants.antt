@@ -1,9 +1,0 @@
--- `find_id` meets its contract: the link at hand leads to every entry that has the id. Assumes nothing.
-use Rattle.board.proofs.Newest.{IdChain}
-use Rattle.board.proofs.ids.find_id.Given as goal
-
-abbrev pub invariant-loop-link : goal.invariant-loop-link
-invariant-loop-link l = IdChain l.index l.wanted l.n l.link
-
-abbrev pub decreases-loop-link : goal.decreases-loop-link
-decreases-loop-link l = l.link
