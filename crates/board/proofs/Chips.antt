@@ -30,7 +30,8 @@ module _ (b cut : Board) (c : ℕ) (e : cut.chips ≡ take c b.chips) where
       let on : top_chip cut n id ≡ top_chip b n id = top_chip_cut n id (omega arith) in
       λ w. elim (eqb (own w) id) [ true ↦ elim (given (parent w)) [ true ↦ up w | false ↦ id ] | false ↦ on w ]
 
-abbrev of_chips : List (List ℕ) → Board
+-- A board of these chips and nothing else.
+abbrev pub of_chips : List (List ℕ) → Board
 of_chips chips = record { pages = []; nodes = []; chips = chips; inner = []; execs = []; wires = [] }
 
 module _ (chips : List (List ℕ)) (id : ℕ) (b : Board) (e : b.chips ≡ chips) where

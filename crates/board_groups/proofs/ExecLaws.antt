@@ -6,7 +6,9 @@ use mathlib.Core.Path.{◌≡◌, refl, sym, ◌∙◌}
 use mathlib.Core.Bool.{Bool, true, false, ◌&&◌}
 use mathlib.Core.List.{List}
 use lib.Dec.{eqb}
-use lib.ListN.{length, get_or}
+use lib.ListN.{length, get_or, take}
+use lib.Seq.{length-take-le}
+use Rattle.std.proofs.lemmas.List.{get_or-take}
 use Rattle.std.specs.Prelude.{Result, Ok, Err, is_ok, MatchResult}
 use Rattle.std.specs.List.Sorted.{IsBinarySearchResult}
 use Rattle.std.specs.Ordering.{nat_cmp}
@@ -44,6 +46,17 @@ execs_sorted execs given risen room r known =
       rising = r.rising;
       from = λ p h. let f = r.from p h in let k = known f.0 f.1 in (f.0, f.1, sym f.2 ∙ k.0, k.1);
       to = λ e h. let t = r.to e h in (t.0, t.1, t.2 ∙ (known e h).0);
+    }
+
+-- The keys of the X records without what stands behind them.
+pub front_keys : (execs : List (List ℕ)) (keys : List ℕ) → ExecKeys execs keys → ExecKeys execs (take (length execs) keys)
+front_keys execs keys known =
+    let same : (p : ℕ) → p < length execs → get_or (take (length execs) keys) p 0 ≡ get_or keys p 0 = λ p h. get_or-take (length execs) keys p 0 h in
+    record {
+      room = omega (arith, length-take-le (length execs) keys known.room);
+      rising = λ i j h l. let a = same i (omega arith) in let b = same j l in let r = known.rising i j h l in omega arith;
+      from = λ p h. let f = known.from p h in (f.0, f.1, same p h ∙ f.2, f.3);
+      to = λ e h. let t = known.to e h in (t.0, t.1, same t.0 t.1 ∙ t.2);
     }
 
 -- What a search among the keys found tells whether an X names both.

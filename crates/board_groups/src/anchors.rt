@@ -28,9 +28,9 @@ pub fn held(found: Option<u32>) -> u32
 
 // A wire's end: the anchor of its node, and whether the node itself may be on the bus.
 #[derive(Clone, Copy)]
-struct End {
-    anchor: Option<u32>,
-    bussable: bool,
+pub struct End {
+    pub anchor: Option<u32>,
+    pub bussable: bool,
 }
 
 // A board's sections, with the indexes of the ids of its body nodes and of the nodes inside chips.

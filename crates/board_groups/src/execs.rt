@@ -8,12 +8,12 @@ use base::ids::NodeId;
 use base::keys::sort_keys;
 use base::rows::Record;
 
-// The X records, with their keys in rising order.
+// The X records, with their keys in rising order. Keys behind those say nothing.
 #[derive(Clone, Copy)]
 pub struct Execs<'a> {
     pub records: &'a [Record],
     pub keys: &'a [u64],
-    ghost room: { length keys.now ≡ length records.now },
+    ghost room: { length records.now ≤ length keys.now },
     ghost sorted: { ∥ ExecKeys records.now keys.now ∥₁ },
 }
 
@@ -59,6 +59,7 @@ impl Execs<'_> {
     pub fn targets(self, node: NodeId, port: u32) -> bool
         ensures { result ≡ any (λ e. eqb (field self.entry.records.now e 1) node.0 && eqb (field self.entry.records.now e 2) port) (upto (length self.entry.records.now)) }
     {
-        self.keys.binary_search(&exec_key(node, port)).is_ok()
+        let keys = &self.keys[..self.records.len()];
+        keys.binary_search(&exec_key(node, port)).is_ok()
     }
 }

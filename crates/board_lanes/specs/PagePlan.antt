@@ -14,6 +14,7 @@ use Rattle.board.specs.Demands.{lane_in, PageLanes, crowded, planned, plan_lanes
 use Rattle.base.specs.Views.{view}
 use Rattle.board.specs.Tables.{held, tap_in, NodeFacts, WireFacts, GroupFacts, PageFacts}
 use Rattle.board_groups.specs.Collecting.{relaned, head_page, GroupSums}
+use Rattle.board_lanes.specs.declared.demands.BoardPlan.{BoardPlan}
 
 -- What planning leaves: the refusal at the first page that is crowded, or the lanes of all groups and pages.
 abbrev pub IsCrowded : Board → Refusal → Type 0
@@ -90,17 +91,10 @@ pub record Room (pages nodes execs wires : List (List ℕ)) (facts taps groups d
   pub demand_room : (length wires ≤ length demands) × (length wires ≤ length keys) × (length wires ≤ length spare)
   pub page_room : length pages ≤ length facts
 
--- The first m rows are the board's taps.
-abbrev pub TapsThere : Board → List (List ℕ) → ℕ → Type 0
-TapsThere b taps m = (m ≤ length b.wires) × (view tap_in taps m ≡ taps_of b)
-
--- What planning a board answers: the refusal at a crowded page, whose board has its taps all the same, or how many taps there are, each of a group that has its lane if it needs one.
-abbrev pub TapsHeld : Board → (facts taps groups : List (List ℕ)) → Result ℕ Refusal → Type 0
-TapsHeld b facts taps groups (Err r) = ((m : ℕ) × TapsThere b taps m) × IsCrowded b r
-TapsHeld b facts taps groups (Ok m) = TapsThere b taps m × LanesHeld b groups facts
-
--- A planned board: the facts of its nodes and wires, its taps, and its lanes.
-pub record BoardPlanned (b : Board) (facts taps groups : List (List ℕ)) (r : Result ℕ Refusal) : Type 0 where
+-- A planned board: the facts of its nodes and wires, its taps, and its lanes. Where a page is crowded, it has its taps all the same.
+pub record BoardPlanned (b : Board) (facts taps groups : List (List ℕ)) (r : BoardPlan) : Type 0 where
   pub nodes_known : NodeFacts b facts
   pub wires_known : WireFacts b facts
-  pub plan_held : TapsHeld b facts taps groups r
+  pub count : r.taps ≤ length b.wires
+  pub taps_are : view tap_in taps r.taps ≡ taps_of b
+  pub plan_held : PlanHeld b groups facts r.plan

@@ -20,6 +20,13 @@ use board_groups::rows::number_rows;
 use lanes::pack::LanesFull;
 use lanes::rows::pack_rows;
 
+// A board's plan: how many taps it has, and its lanes in the tables, or 8 at the line of its first crowded page.
+#[derive(Clone, Copy)]
+pub struct BoardPlan {
+    pub plan: Result<(), Refusal>,
+    pub taps: usize,
+}
+
 // The demand of a group's row.
 // Stays (C interface): taps, groups and demands are rows of the lent work space, read by places.
 fn demand_row(row: WorkRow, group: u32) -> WorkRow
@@ -204,7 +211,7 @@ fn plan_lanes(
     plan_pages(s.pages, asking, groups, facts, demands, keys, spare)
 }
 
-// Plans a board: its rows, its groups and its lanes. The count of taps comes back.
+// Plans a board: its rows, its groups and its lanes. The count of taps comes back, also where a page is crowded.
 // Stays (C interface): each slice of work space that C lends goes on by itself.
 pub fn plan_board(
     s: Sections<'_>,
@@ -216,7 +223,7 @@ pub fn plan_board(
     demands: &mut [WorkRow],
     keys: &mut [WorkRow],
     spare: &mut [WorkRow],
-) -> Result<usize, Refusal>
+) -> BoardPlan
     requires accepted_nodes { AcceptedNodes s.nodes.now }
     requires indexes { Indexes s.nodes.now s.inner.now body_index.now inner_index.now }
     requires room { Room s.pages.now s.nodes.now s.execs.now s.wires.now facts.old taps.old groups.old demands.old keys.old spare.old }
@@ -231,6 +238,6 @@ pub fn plan_board(
     };
     number_rows(s.nodes, keys, spare, facts);
     let m = collect_bus_groups(named, facts, taps);
-    plan_lanes(s, facts, &taps[..m], groups, demands, keys, spare)?;
-    Ok(m)
+    let plan = plan_lanes(s, facts, &taps[..m], groups, demands, keys, spare);
+    BoardPlan { plan, taps: m }
 }

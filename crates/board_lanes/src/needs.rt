@@ -111,7 +111,7 @@ pub fn mark_heads(
     groups: &[WorkRow],
     marks: &mut [u32],
 )
-    requires in_bounds { (length marks.old ≡ length taps.now) × (length s.wires.now ≤ length facts.now) × (length s.wires.now ≤ length groups.now) }
+    requires in_bounds { (length taps.now ≤ length marks.old) × (length s.wires.now ≤ length facts.now) × (length s.wires.now ≤ length groups.now) }
     requires by_index { (k : ℕ) → k < length taps.now → field taps.now k 1 < length s.wires.now }
     ensures { (b : Board) → b.nodes ≡ s.entry.nodes.now → b.wires ≡ s.entry.wires.now → WireFacts b facts.now
         → view tap_in taps.now (length taps.now) ≡ taps_of b → GroupSums b (taps_of b) groups.now

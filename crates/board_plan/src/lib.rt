@@ -169,19 +169,20 @@ fn plan_rows(
         → LanesPlanned b (plan_lanes b) records.now facts.new taps.new groups.new result }
 {
     let s = cut_sections(records, counts);
+    let planned = plan_board(
+        s,
+        body_index,
+        inner_index,
+        facts,
+        taps,
+        groups,
+        demands,
+        keys,
+        spare,
+    );
     TextPlan {
         counts,
-        taps: plan_board(
-            s,
-            body_index,
-            inner_index,
-            facts,
-            taps,
-            groups,
-            demands,
-            keys,
-            spare,
-        ),
+        taps: planned.plan.and(Ok(planned.taps)),
     }
 }
 

@@ -8,6 +8,8 @@ use lib.Dec.{leb}
 use lib.ListN.{length, take, drop, length-append, length-map}
 use borrow.Author.Tests.{le-leb, lt-leb}
 use Rattle.std.proofs.Common.{Option, Some, None, Result, Ok, Err, take_at}
+use Rattle.base.specs.declared.refusal.Reason.{Reason}
+use Rattle.base.specs.declared.refusal.Reason.TheVariants.{Unread, TooMany, OutOfRange, IdTaken, NotThere, Unplaced, NoRoom, NoLane, BadBox}
 use Rattle.base.specs.declared.refusal.Refusal.{Refusal}
 use Rattle.base.specs.Refusal.{number_of}
 use Rattle.sheet.specs.declared.Counts.{Counts}
@@ -35,7 +37,7 @@ use Rattle.routes_calls.specs.Finish.{PlanTexted}
 use Rattle.routes.specs.declared.bus.BusCounts.{BusCounts}
 use Rattle.routes_calls.specs.declared.route.PlanLaid.{PlanLaid}
 use Rattle.program_answer.specs.Telling.{PlanThere}
-use Rattle.program_answer.specs.Answering.{TOLD_MOST, is_told, answer_of, text_after, Told, Answered, answer_call}
+use Rattle.program_answer.specs.Answering.{TOLD_MOST, is_told, is_line_told, answer_of, text_after, Told, LineTold, Answered, answer_call}
 
 -- An answer that is told or not.
 pub told-not : (call : Routed) (before : List ℕ) → is_told (length before) call ≡ false → Told call before before None
@@ -55,17 +57,52 @@ told_all call before after n e w =
     }
 
 -- The tests of `tell_refusal`, one after the other.
-module _ (e : Refusal) (before : List ℕ) where
-  pub no_room : length before < LINE_MOST → Told (turned_away e) before before None
-  no_room h = told-not (turned_away e) before (rw (lt-leb LINE_MOST (length before) h) refl)
+module _ (number place : ℕ) (before : List ℕ) where
+  line_not : is_line_told (length before) number place ≡ false → LineTold number place before before None
+  line_not e =
+      record { answer = sym (ap (λ (t : Bool). answer_of t (refusal_sheet number place)) e); text_is = sym (ap (λ (t : Bool). text_after t (refusal_sheet number place) before) e) }
 
-  pub place_high : TOLD_MOST < e.place → Told (turned_away e) before before None
-  place_high h = told-not (turned_away e) before (rw (lt-leb e.place TOLD_MOST h) (and_false (leb LINE_MOST (length before))))
+  pub no_room : length before < LINE_MOST → LineTold number place before before None
+  no_room h = line_not (rw (lt-leb LINE_MOST (length before) h) refl)
 
-  pub refusal_told : LINE_MOST ≤ length before → e.place ≤ TOLD_MOST → (after : List ℕ) (n : ℕ) → Wrote before 0 (refusal_sheet (number_of e.reason) e.place) after n → Told (turned_away e) before after (Some n)
+  pub number_high : TOLD_MOST < number → LineTold number place before before None
+  number_high h = line_not (rw (lt-leb number TOLD_MOST h) (and_false (leb LINE_MOST (length before))))
+
+  pub place_high : number ≤ TOLD_MOST → TOLD_MOST < place → LineTold number place before before None
+  place_high h k = line_not (rw (le-leb number TOLD_MOST h, lt-leb place TOLD_MOST k) (and_false (leb LINE_MOST (length before))))
+
+  pub refusal_told : LINE_MOST ≤ length before → number ≤ TOLD_MOST → place ≤ TOLD_MOST → (after : List ℕ) (n : ℕ) → Wrote before 0 (refusal_sheet number place) after n → LineTold number place before after (Some n)
+  refusal_told room h k after n w =
+      let yes : is_line_told (length before) number place ≡ true = rw (le-leb LINE_MOST (length before) room, le-leb number TOLD_MOST h, le-leb place TOLD_MOST k) refl in
+      record {
+        answer = ap Some (let at = w.place in let same : n ≡ length (refusal_sheet number place) = omega arith in same) ∙ sym (ap (λ (t : Bool). answer_of t (refusal_sheet number place)) yes);
+        text_is = written_front before (refusal_sheet number place) after w.buffer ∙ sym (ap (λ (t : Bool). text_after t (refusal_sheet number place) before) yes);
+      }
+
+-- A line holds the number of every reason.
+number_low : (reason : Reason) → number_of reason ≤ TOLD_MOST
+number_low Unread = omega arith
+number_low TooMany = omega arith
+number_low OutOfRange = omega arith
+number_low IdTaken = omega arith
+number_low NotThere = omega arith
+number_low Unplaced = omega arith
+number_low NoRoom = omega arith
+number_low NoLane = omega arith
+number_low BadBox = omega arith
+
+-- So the line of a refusal's number and place is what is told of the refusal.
+module _ (e : Refusal) (before after : List ℕ) (r : Option ℕ) where
+  told_as : is_line_told (length before) (number_of e.reason) e.place ≡ is_told (length before) (turned_away e)
+  told_as = rw (le-leb (number_of e.reason) TOLD_MOST (number_low e.reason)) refl
+
+  pub line_of_refusal : LineTold (number_of e.reason) e.place before after r → Told (turned_away e) before after r
   unfolding sheet_of
-  refusal_told room h after n w =
-      told_all (turned_away e) before after n (rw (le-leb LINE_MOST (length before) room, le-leb e.place TOLD_MOST h) refl) w
+  line_of_refusal told =
+      record {
+        answer = told.answer ∙ ap (λ (t : Bool). answer_of t (refusal_sheet (number_of e.reason) e.place)) told_as;
+        text_is = told.text_is ∙ ap (λ (t : Bool). text_after t (refusal_sheet (number_of e.reason) e.place) before) told_as;
+      }
 
 -- What an answer of `route_within` says of the planning.
 pub record PlanTold (p : Planning) (old old_wires oldPorts oldAnswers rerouters bus_wires ports answers : List (List ℕ)) (c : Counts) (held : BusCounts) (g : ℕ) : Type 0 where

@@ -6,13 +6,15 @@ use Rattle.sheet.specs.declared.Counts.{Counts}
 use Rattle.sheet.specs.Table.{program_most}
 use Rattle.board_plan.specs.declared.Lent.{Lent}
 use Rattle.board_plan.specs.TextPlan.{fits_lent, shortest, LINE_MOST}
+use Rattle.routes.specs.PlanSheet.{refusal_sheet}
 use Rattle.routes.specs.Route.{Routed, turned_away, plan, routed, sheet_of}
 use Rattle.routes_gutter.specs.Calls.{rerouters_after, bus_wires_after, ports_after, answers_after}
 
--- S16: the greatest place that an E line holds. Its number is at most 9.
+-- S16: the greatest number and place that an E line holds.
 abbrev pub TOLD_MOST : ℕ
 TOLD_MOST = 4294967294
 
+-- S16: whether an answer can be told. A refusal's number is at most 9.
 abbrev pub sayable : Routed → Bool
 sayable (turned_away e) = leb e.place TOLD_MOST
 sayable (plan b ps bus laid) = true
@@ -33,6 +35,15 @@ text_after false bytes before = before
 pub record Told (call : Routed) (before after : List ℕ) (r : Option ℕ) : Type 0 where
   pub answer : r ≡ answer_of (is_told (length before) call) (sheet_of call)
   pub text_is : after ≡ text_after (is_told (length before) call) (sheet_of call) before
+
+-- S16: whether the line of a number and a place is written into so many bytes.
+abbrev pub is_line_told : ℕ → ℕ → ℕ → Bool
+is_line_told room number place = leb LINE_MOST room && (leb number TOLD_MOST && leb place TOLD_MOST)
+
+-- S16, E12: the E line of any number and place, and the text buffer behind it.
+pub record LineTold (number place : ℕ) (before after : List ℕ) (r : Option ℕ) : Type 0 where
+  pub answer : r ≡ answer_of (is_line_told (length before) number place) (refusal_sheet number place)
+  pub text_is : after ≡ text_after (is_line_told (length before) number place) (refusal_sheet number place) before
 
 -- The answer and every buffer.
 pub record Answered (call : Routed) (before : List ℕ) (old old_wires oldPorts oldAnswers : List (List ℕ)) (after : List ℕ) (rerouters bus_wires ports answers : List (List ℕ)) (r : Option ℕ) : Type 0 where

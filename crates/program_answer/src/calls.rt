@@ -82,7 +82,7 @@ pub fn answer_for_program(
         out.old rerouters.old bus_wires.old ports.old answers.old out.new rerouters.new bus_wires.new ports.new answers.new result }
 {
     if INPUT_MOST < text.len() {
-        return tell_refusal(out, Reason::TooMany.at(0));
+        return tell_refusal(out, Reason::TooMany.number(), 0);
     }
     answer_within(
         text,

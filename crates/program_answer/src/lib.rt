@@ -1,7 +1,6 @@
 // `answer`: sheet bytes in, the plan sheet's bytes or the E line out.
 #![tactic(auto)]
 
-use base::refusal::Refusal;
 use base::rows::{BusWireRow, PageRow, PortRow, Record, RerouterRow, WorkRow};
 
 pub mod calls;
@@ -14,8 +13,7 @@ ghost use Rattle.board.specs.Walk.{WithinLibrary};
 ghost use Rattle.board_plan.specs.TextPlan.{work_rows};
 ghost use Rattle.routes.specs.Plan.{finished, laid_groups};
 ghost use Rattle.routes.specs.PlanSheet.{plan_sheet};
-ghost use Rattle.routes.specs.Route.{turned_away};
-ghost use Rattle.program_answer.specs.Answering.{Told, Answered, answer_lent, answer_call};
+ghost use Rattle.program_answer.specs.Answering.{LineTold, Answered, answer_lent, answer_call};
 ghost use Rattle.program_answer.specs.Telling.{PlanThere};
 
 use board_plan::{Asked, LINE_MOST, Lent, shortest_of, work_lengths};
@@ -24,20 +22,23 @@ use routes_plan_sheet::plan_sheet::{PlanRows, put_refusal};
 use routes_plan_sheet::write_plan;
 use sheet::Counts;
 
-// The greatest place that an E line holds.
+// The greatest number that an E line holds.
 const TOLD_MOST: usize = 4_294_967_294;
 
-// The E line, and how many bytes it has; nothing where there is no room for a line, or where its place is above the greatest that it holds.
-pub fn tell_refusal(out: &mut [u8], refusal: Refusal) -> Option<usize>
-    ensures { Told (turned_away refusal) out.old out.new result }
+// S16, E12: the E line, and how many bytes it has; nothing where there is no room for a line, or where its number or its place is above the greatest that it holds.
+pub fn tell_refusal(out: &mut [u8], number: usize, place: usize) -> Option<usize>
+    ensures { LineTold number place out.old out.new result }
 {
     if out.len() < LINE_MOST {
         return None;
     }
-    if TOLD_MOST < refusal.place {
+    if TOLD_MOST < number {
         return None;
     }
-    Some(put_refusal(out, 0, refusal))
+    if TOLD_MOST < place {
+        return None;
+    }
+    Some(put_refusal(out, 0, number as u32, place as u32))
 }
 
 // The plan sheet of a finished plan that stands in front of the buffers: how many bytes it has.
@@ -100,7 +101,7 @@ pub fn answer_within(
         text, asked, rerouters, bus_wires, ports, answers, records, facts, taps, groups, demands,
         keys, marks,
     ) {
-        Err(refusal) => tell_refusal(out, refusal),
+        Err(refusal) => tell_refusal(out, refusal.reason.number(), refusal.place),
         Ok(plan) => Some(tell_plan(plan, out, answers, rerouters, bus_wires, ports)),
     }
 }

@@ -10,19 +10,19 @@ use Rattle.routes.specs.declared.bus.End.TheVariants.{Port, Rerouter as AtRerout
 use Rattle.routes.specs.declared.bus.Feed.{Feed}
 use Rattle.routes.specs.declared.bus.Rerouter.{Rerouter}
 use Rattle.routes.specs.declared.bus.BusCount.{BusCount}
-use Rattle.routes.specs.Holding.{end_node, end_port, end_of, feed_of, turns_of, role_of, part_of, rerouter_of, Placing}
+use Rattle.routes.specs.Holding.{end_node, end_port, end_of, feed_of, rerouter_of, Placing}
 
 onward_row : (e : End) (n : ℕ) → wire_row (record { source = end_of e; target = rerouter n; carries = onward }) ≡ end_node e ∷ end_port e ∷ n ∷ MISSING ∷ MISSING ∷ MISSING ∷ []
 onward_row (Port m p) n = refl
 onward_row (AtRerouter k) n = refl
 
 -- `push_bus_node` wrote the rerouter's row and the bus wire's, whose numbers its calls gave.
-module _ (rerouters wires : List (List ℕ)) (count : BusCount) (feed : Feed) (k : Rerouter) (x y z turns role part lane beside en ep : ℕ)
-    (ex : x ≡ outward k.x) (ey : y ≡ outward k.y) (ez : z ≡ outward k.z) (et : turns ≡ turns_of k.rotation) (er : role ≡ role_of k.role) (ep' : part ≡ part_of k.part)
+module _ (rerouters wires : List (List ℕ)) (count : BusCount) (feed : Feed) (k : Rerouter) (x y z lane beside en ep : ℕ)
+    (ex : x ≡ outward k.x) (ey : y ≡ outward k.y) (ez : z ≡ outward k.z)
     (el : lane ≡ unwrap_or k.lane MISSING) (ew : beside ≡ unwrap_or k.row MISSING) (een : en ≡ end_node feed.end) (eep : ep ≡ end_port feed.end) where
   pub placing : Placing rerouters wires count feed k
       (record { count = record { rerouters = count.rerouters + 1; wires = count.wires + 1 }; feed = record { end = AtRerouter (record { 0 = count.rerouters }); depth = feed.depth + 1 } })
-      (set rerouters count.rerouters (x ∷ y ∷ z ∷ turns ∷ role ∷ part ∷ k.colour.0 ∷ k.page ∷ lane ∷ beside ∷ (feed.depth + 1) ∷ []))
+      (set rerouters count.rerouters (x ∷ y ∷ z ∷ k.rotation ∷ k.role ∷ k.part ∷ k.colour.0 ∷ k.page ∷ lane ∷ beside ∷ (feed.depth + 1) ∷ []))
       (set wires count.wires (en ∷ ep ∷ count.rerouters ∷ MISSING ∷ MISSING ∷ MISSING ∷ []))
   placing =
       record {
@@ -40,6 +40,6 @@ module _ (rerouters wires : List (List ℕ)) (count : BusCount) (feed : Feed) (k
             };
       }
     where
-      row : set rerouters count.rerouters (x ∷ y ∷ z ∷ turns ∷ role ∷ part ∷ k.colour.0 ∷ k.page ∷ lane ∷ beside ∷ (feed.depth + 1) ∷ [])
+      row : set rerouters count.rerouters (x ∷ y ∷ z ∷ k.rotation ∷ k.role ∷ k.part ∷ k.colour.0 ∷ k.page ∷ lane ∷ beside ∷ (feed.depth + 1) ∷ [])
           ≡ set rerouters count.rerouters (rerouter_row (fed_by (feed_of feed) (rerouter_of k)))
-      row = λ i. set rerouters count.rerouters (ex i ∷ ey i ∷ ez i ∷ et i ∷ er i ∷ ep' i ∷ k.colour.0 ∷ k.page ∷ el i ∷ ew i ∷ add-one feed.depth i ∷ [])
+      row = λ i. set rerouters count.rerouters (ex i ∷ ey i ∷ ez i ∷ k.rotation ∷ k.role ∷ k.part ∷ k.colour.0 ∷ k.page ∷ el i ∷ ew i ∷ add-one feed.depth i ∷ [])

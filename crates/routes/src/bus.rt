@@ -49,15 +49,17 @@ pub enum Part {
     Corner = 6,
 }
 
-// A rerouter before it is placed, its coordinates as held: what feeds it gives it its depth. It stands in a lane or beside a row.
+// A rerouter before it is placed, its coordinates as held: what feeds it gives it its depth. It stands in a lane or beside a row. Its rotation, role and part are
+// the numbers of its row, which `u32::from` gives of a `Rotation`, a `Role` and a `Part`.
+// Stays (no plainer): `push_bus_node` places a rerouter of any numbers.
 #[derive(Clone, Copy)]
 pub struct Rerouter {
     pub x: u32,
     pub y: u32,
     pub z: u32,
-    pub rotation: Rotation,
-    pub role: Role,
-    pub part: Part,
+    pub rotation: u32,
+    pub role: u32,
+    pub part: u32,
     pub colour: NodeId,
     pub page: u32,
     pub lane: Option<u32>,
@@ -159,9 +161,9 @@ pub fn push_bus_node(
         outward(new.x),
         outward(new.y),
         outward(new.z),
-        u32::from(new.rotation),
-        u32::from(new.role),
-        u32::from(new.part),
+        new.rotation,
+        new.role,
+        new.part,
         new.colour.0,
         new.page,
         new.lane.unwrap_or(MISSING),

@@ -22,7 +22,7 @@ pub(crate) const STARTS: usize = 64 * LANE_MOST + 2;
 pub(crate) const CLAIMS_MOST: usize = 3 * 8_192;
 
 // The number of a lane's run.
-pub(crate) fn lane_key(page: u32, lane: u32) -> usize
+pub fn lane_key(page: u32, lane: u32) -> usize
     requires { (page < 64) × (lane < 512) }
     ensures { result ≡ lane_key page lane }
 {
@@ -76,7 +76,7 @@ fn count_taps(groups: &[WorkRow], taps: &[WorkRow], counts: &mut [u32])
 }
 
 // Where the run of each lane starts.
-pub(crate) fn make_room(laid: Laid<'_>, stops: &[WorkRow], pages: usize, starts: &mut [u32])
+pub fn make_room(laid: Laid<'_>, stops: &[WorkRow], pages: usize, starts: &mut [u32])
     requires few_stops { (length stops.now ≤ length laid.taps.now) × (length laid.taps.now ≤ 8192) × (pages ≤ 64) × (32770 ≤ length starts.old) × ((k : ℕ) → k < length laid.taps.now → TapKeyed laid.groups.now laid.taps.now k) }
     requires by_index { (j : ℕ) → get_or starts.old j 0 ≡ 0 }
     ensures { (k : ℕ) → k ≤ keys_of pages → get_or starts.new k 0 ≡ sums (room_of pages laid.entry.groups.now laid.entry.taps.now (length laid.entry.taps.now) stops.now (length stops.now)) k }
@@ -114,7 +114,7 @@ pub struct ClaimRuns {
 
 impl ClaimRuns {
     // The stops' own levels are the first claims.
-    pub(crate) fn put_stops(&mut self, stops: &[WorkRow], pages: usize)
+    pub fn put_stops(&mut self, stops: &[WorkRow], pages: usize)
         requires room { (pages ≤ 64) × Growing (keys_of pages) self.old.nexts self.old.nexts self.old.xs }
         requires by_index { (k : ℕ) → k < keys_of pages → get_or self.old.nexts k 0 + having (stop_key pages stops.now) k (length stops.now) ≤ get_or self.old.nexts (suc k) 0 }
         ensures same_places { SamePlaces self.old self.new }
@@ -141,7 +141,7 @@ impl ClaimRuns {
     }
 
     // Claims the span at x in the k-th run's lane, where no claim is near it.
-    pub(crate) fn claim_column(&mut self, k: usize, x: u32) -> bool
+    pub fn claim_column(&mut self, k: usize, x: u32) -> bool
         requires claim_room { ClaimRoom 1 self.old.starts self.old.nexts self.old.xs k }
         requires fact { x ≡ MISSING → ⊥ }
         ensures same_places { SamePlaces self.old self.new }

@@ -2,7 +2,7 @@
 use Rattle.std.proofs.Common.{◌≡◌, ℕ, zero, suc, ◌+◌, ◌-◌, ◌*◌, ◌/◌, ◌<◌, ◌≤◌, Bool, true, false, ◌||◌, eqb, List, length, get_or, set, sym, refl, ap, ◌∙◌, subst, arith, length-set, get_or-set_other, get_or-set_same, eq-eqb, ne_eqb, eqb-true}
 use native.Mathlib.Decide.{dec_lt, ℕ_discrete}
 use borrow.Author.Tests.{eqb-false}
-use Rattle.base.specs.Keys.{Risen, FirstNotBelow}
+use Rattle.base.specs.Keys.{Rising, Risen, FirstNotBelow}
 use Rattle.base.proofs.Bools.{clash, both}
 use Rattle.base.proofs.Lists.{same_two}
 use Rattle.board.specs.Board.{field}
@@ -200,6 +200,10 @@ module _ (wires : List (List ℕ)) (keys : List ℕ) (k : PortKeys wires keys) (
       go : (t : Bool) → goes_to wires (the_port node port) w ≡ t → t ≡ false
       go true e = let f = port_here w h e in clash f.1 (no_one f.0)
       go false e = refl
+
+-- A key is looked for from a place on: what stands in front of it is below.
+pub all_below : (keys : List ℕ) (n from key : ℕ) → Rising keys n → from ≤ n → (0 < from → get_or keys (from - 1) 0 < key) → (i : ℕ) → i < from → get_or keys i 0 < key
+all_below keys n from key rising l last i h = let a = rising i (from - 1) (omega (arith, h)) (omega (arith, h, l)) in let b = last (omega (arith, h)) in omega (arith, a, b)
 
 -- The flags with one more port.
 module _ (wires : List (List ℕ)) (classes : List ℕ) (flags : List Bool) (c : Classed wires classes (length wires)) (p : Port) (test : ℕ → Bool) (h : FlaggedBy test wires classes flags) where

@@ -1,6 +1,7 @@
 // Wires by target port: which share one, and which lead to a suppressed one. Their keys are packed and sorted: along them each wire takes the class of
-// the one before, if that leads to the same port, and a port that is handed in is found by halves.
-ghost use Rattle.std.specs.Prelude.{◌≡◌, ℕ, ◌+◌, ◌-◌, ◌*◌, ◌<◌, ◌≤◌, Bool, false, ◌||◌, length, slice_index};
+// the one before, if that leads to the same port, and a port that is handed in is found close behind the one before it, or by halves.
+ghost use Rattle.std.specs.Prelude.{◌≡◌, ℕ, ◌+◌, ◌-◌, ◌*◌, ◌<◌, ◌≤◌, Bool, true, false, ◌||◌, length, slice_index};
+ghost use Rattle.base.specs.Keys.{Rising, FirstNotBelow};
 ghost use Rattle.routes.specs.Bus.{same_port};
 ghost use Rattle.routes.specs.Buffers.{port_in};
 ghost use Rattle.routes_corners.specs.CornerTables.{Classed, flag_at};
@@ -8,6 +9,9 @@ ghost use Rattle.routes_corners.specs.Ports.{port_key, wire_key, PortsLow, wire_
 
 use base::keys::{first_not_below, key_alone, number_behind, sort_keys, with_number};
 use base::rows::{PortRow, Record};
+
+// As many keys are looked at one after the other from the place of the port before on: ports that come in order mostly have theirs among them.
+const NEAR_KEYS: usize = 16;
 
 // The wires, the class of each wire's target port, and in front the sorted keys of those ports, each with its wire's number behind.
 #[derive(Clone, Copy)]
@@ -88,23 +92,52 @@ fn goes_to(wire: &Record, port: PortRow) -> bool
     (wire[3] == port[0]) & (wire[4] == port[1])
 }
 
-// The flag of the class of a suppressed port, if a wire leads to it. Its numbers may be beyond the sheet's, so the wire's own are asked.
-fn flag_port(t: WirePorts<'_>, flags: &mut [bool], port: PortRow)
+// Whether the keys in front of a place are below the key, as the last of them is.
+fn is_behind(keys: &[u64], from: usize, key: u64) -> bool
+    requires { from ≤ length keys.now }
+    ensures { result ≡ true → 0 < from → slice_index keys.now (from - 1) < key }
+{
+    from == 0 || keys[from - 1] < key
+}
+
+// The first of the rising keys that is not below the key, or their count: among the next few from a place on, if it is not in front of that, and else by halves.
+// Ports that come in order are found by one walk.
+fn seek_key(keys: &[u64], from: usize, key: u64) -> usize
+    requires { (from ≤ length keys.now) × Rising keys.now (length keys.now) }
+    ensures { FirstNotBelow keys.now (length keys.now) key result }
+{
+    if is_behind(keys, from, key) {
+        // Stays (no plainer): the place behind the last key is looked at too, and no element stands there.
+        for p in from..from + NEAR_KEYS {
+            if p == keys.len() || key <= keys[p] {
+                return p;
+            }
+        }
+    }
+    first_not_below(keys, key)
+}
+
+// The flag of the class of a suppressed port, if a wire leads to it. Its numbers may be beyond the sheet's, so the wire's own are asked. Its place among the keys,
+// looked for from the one before it on, comes back.
+fn flag_port(t: WirePorts<'_>, from: usize, flags: &mut [bool], port: PortRow) -> usize
     requires ported { Ported t.wires.now t.classes.now t.keys.now }
+    requires from_in_bounds { from ≤ length t.wires.now }
     requires port_room { PortRoom t.wires.now t.classes.now flags.old }
-    ensures { (test : ℕ → Bool) → FlaggedBy test t.entry.wires.now t.entry.classes.now flags.old
+    ensures upper_bound { result ≤ length t.entry.wires.now }
+    ensures by_index { (test : ℕ → Bool) → FlaggedBy test t.entry.wires.now t.entry.classes.now flags.old
         → FlaggedBy (λ w. goes_to t.entry.wires.now (port_in port) w || test w) t.entry.wires.now t.entry.classes.now flags.new }
 {
     let key = with_number(port_key(port[0], port[1]), 0);
     let keys = &t.keys[..t.wires.len()];
-    let p = first_not_below(keys, key);
+    let p = seek_key(keys, from, key);
     let Some(found) = keys.get(p) else {
-        return;
+        return p;
     };
     let w = number_behind(*found);
     if goes_to(&t.wires[w], port) {
         flags[t.classes[w] as usize] = true;
     }
+    p
 }
 
 // The flags of the ports handed in, in whatever order, over flags that are all clear.
@@ -114,7 +147,8 @@ pub fn flag_ports(t: WirePorts<'_>, ports: &[PortRow], flags: &mut [bool])
     requires flags_clear { (k : ℕ) → k < length t.wires.now → flag_at flags.old k ≡ false }
     ensures { FlaggedBy (among_ports t.entry.wires.now ports.now (length ports.now)) t.entry.wires.now t.entry.classes.now flags.new }
 {
+    let mut p = 0;
     for port in ports {
-        flag_port(t, flags, *port);
+        p = flag_port(t, p, flags, *port);
     }
 }

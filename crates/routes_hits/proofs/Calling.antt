@@ -9,7 +9,7 @@ use lib.ListN.{length, take, drop}
 use lib.Seq.{length-take-le}
 use borrow.Author.Tests.{leb-true, leb-false, le-leb, lt-leb}
 use Rattle.base.specs.Views.{view}
-use Rattle.base.proofs.Bools.{and_false}
+use Rattle.base.proofs.Bools.{never, and_false}
 use Rattle.std.proofs.Common.{Result, Ok, Err}
 use Rattle.base.specs.declared.refusal.Reason.TheVariants.{BadBox}
 use Rattle.base.specs.declared.refusal.Refusal.{Refusal}
@@ -40,6 +40,30 @@ use Rattle.routes_hits.specs.Hits.{on_board}
 use Rattle.routes_hits.specs.Listing.{Listed}
 use Rattle.routes_hits.proofs.Listing.{view_front}
 use Rattle.routes_hits.specs.Finding.{HITS_A_WIRE, boxed, hits_fit, hits_call, HitsCalled}
+use Rattle.routes_hits.specs.Boxing.{box_plan}
+
+-- A planned board, by what it tells of its taps.
+abbrev pub with_taps : Counts → Result ℕ Refusal → TextPlan
+with_taps c taps = record { counts = c; taps = taps }
+
+-- Such a board has the box, or has not.
+pub box_yes : (q : PageBox) (c : Counts) (m : ℕ) → on_board q c.pages ≡ true → box_plan q (Ok (with_taps c (Ok m))) ≡ Ok m
+box_yes q c m h = rw (h, box_plan)
+
+pub box_no : (q : PageBox) (c : Counts) (m : ℕ) → on_board q c.pages ≡ false → box_plan q (Ok (with_taps c (Ok m))) ≡ Err (refusal BadBox 0)
+box_no q c m h = rw (h, box_plan)
+
+-- Where no refusal is left, the pages have lanes and the box is on the board.
+pub box_laned : (q : PageBox) (t : TextPlan) (m : ℕ) → box_plan q (Ok t) ≡ Ok m → (t.taps ≡ Ok m) × (on_board q t.counts.pages ≡ true)
+box_laned q t m e = go t.taps refl e
+  where
+    off : (k : ℕ) → t.taps ≡ Ok k → (s : Bool) → on_board q t.counts.pages ≡ s → box_plan q (Ok (with_taps t.counts (Ok k))) ≡ Ok m → (t.taps ≡ Ok m) × (on_board q t.counts.pages ≡ true)
+    off k d true o e = (d ∙ (sym (box_yes q t.counts k o) ∙ e), o)
+    off k d false o e = let nine : Err (refusal BadBox 0) ≡ Ok m = sym (box_no q t.counts k o) ∙ e in never cc
+
+    go : (x : Result ℕ Refusal) → t.taps ≡ x → box_plan q (Ok (with_taps t.counts x)) ≡ Ok m → (t.taps ≡ Ok m) × (on_board q t.counts.pages ≡ true)
+    go (Err f) d e = never cc
+    go (Ok k) d e = off k d (on_board q t.counts.pages) refl e
 
 -- 21 numbers a wire are lent where the ports told to planning are no more than the hit buffer has room for.
 enough : (h p w : ℕ) → leb w (min p (h / HITS_A_WIRE)) ≡ (leb (HITS_A_WIRE * w) h && leb w p)
@@ -84,8 +108,8 @@ module _ (q : PageBox) (text : List ℕ) (asked : Asked) (h r w p a : ℕ) (leng
 
   module _ (rows facts taps groups : List (List ℕ)) (planned : Result TextPlan Refusal) (told : TextPlanned (fitting asked.most (fits_lent asked.lent) text) rows facts taps groups planned) where
     -- A refusal of the sheet, or 7.
-    pub box_refused : (e : Refusal) → planned ≡ Err e → hits_call q text (hits_fit h r w p a lengths) ≡ turned_away e
-    box_refused e d = away e (text_refusal rows facts taps groups asked.most (fits_lent asked.lent) text planned told e d)
+    sheet_refused : (e : Refusal) → planned ≡ Err e → hits_call q text (hits_fit h r w p a lengths) ≡ turned_away e
+    sheet_refused e d = away e (text_refusal rows facts taps groups asked.most (fits_lent asked.lent) text planned told e d)
 
     module _ (t : TextPlan) (fine : planned ≡ Ok t) where
       -- 8.
@@ -121,6 +145,30 @@ module _ (q : PageBox) (text : List ℕ) (asked : Asked) (h r w p a : ℕ) (leng
             let ports : asked.lent.ports ≡ min p (h / HITS_A_WIRE) = ap (λ (z : Asked). z.lent.ports) is in
             let enough = fits.ports in
             omega arith
+
+    -- A refusal is the call's: one of the sheet, 7, 8, or else 9.
+    pub box_refused : (e : Refusal) → box_plan q planned ≡ Err e → hits_call q text (hits_fit h r w p a lengths) ≡ turned_away e
+    box_refused e d = go planned refl d
+      where
+        off : (t : TextPlan) → planned ≡ Ok t → (m : ℕ) → t.taps ≡ Ok m → (s : Bool) → on_board q t.counts.pages ≡ s → box_plan q (Ok (with_taps t.counts (Ok m))) ≡ Err e
+            → hits_call q text (hits_fit h r w p a lengths) ≡ turned_away e
+        off t is m taps true o d = let both : Ok m ≡ Err e = sym (box_yes q t.counts m o) ∙ d in never cc
+        off t is m taps false o d =
+            let both : Err (refusal BadBox 0) ≡ Err e = sym (box_no q t.counts m o) ∙ d in
+            let nine : refusal BadBox 0 ≡ e = cc in
+            box_away t is m taps o ∙ ap turned_away nine
+
+        tested : (t : TextPlan) → planned ≡ Ok t → (x : Result ℕ Refusal) → t.taps ≡ x → box_plan q (Ok (with_taps t.counts x)) ≡ Err e → hits_call q text (hits_fit h r w p a lengths) ≡ turned_away e
+        tested t is (Err f) taps d =
+            let eight : f ≡ e = cc in
+            box_crowded t is e (taps ∙ ap Err eight)
+        tested t is (Ok m) taps d = off t is m taps (on_board q t.counts.pages) refl d
+
+        go : (x : Result TextPlan Refusal) → planned ≡ x → box_plan q x ≡ Err e → hits_call q text (hits_fit h r w p a lengths) ≡ turned_away e
+        go (Err f) is d =
+            let same : f ≡ e = cc in
+            sheet_refused e (is ∙ ap Err same)
+        go (Ok t) is d = tested t is t.taps refl d
 
 -- A refusal leaves all as it was.
 pub nothing_found : (q : PageBox) (call : Routed) (oldHits : List ℕ) (old old_wires oldPorts oldAnswers : List (List ℕ)) (e : Refusal) → call ≡ turned_away e

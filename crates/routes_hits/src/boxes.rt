@@ -40,7 +40,7 @@ pub fn is_on_board(q: PageBox, pages: usize) -> bool
 }
 
 // H2: whether a rerouter, by its row, is hit.
-pub(crate) fn is_under(q: PageBox, row: &RerouterRow) -> bool
+pub fn is_under(q: PageBox, row: &RerouterRow) -> bool
     ensures { result ≡ is_under q (rerouter_in row.now) }
 {
     let x = lifted(row[0]);
@@ -73,7 +73,7 @@ fn is_run_under(q: PageBox, a: &RerouterRow, b: &RerouterRow) -> bool
 }
 
 // H3: whether a bus wire, by its row, is hit: both of its ends are rerouters, and their run is.
-pub(crate) fn is_wire_under(q: PageBox, rerouters: &[RerouterRow], wire: &BusWireRow) -> bool
+pub fn is_wire_under(q: PageBox, rerouters: &[RerouterRow], wire: &BusWireRow) -> bool
     ensures { result ≡ wire_under q (view rerouter_in rerouters.now (length rerouters.now)) (wire_in wire.now) }
 {
     if wire[1] != MISSING || wire[3] != MISSING {

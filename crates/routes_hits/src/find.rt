@@ -1,6 +1,7 @@
 // `find_hits`: a sheet's board is planned; where the box is on the board (9, after 8) its plan is laid, and the hits are listed.
-ghost use Rattle.std.specs.Prelude.{length};
+ghost use Rattle.std.specs.Prelude.{◌≡◌, length, Ok};
 ghost use Rattle.board_plan.specs.TextPlan.{work_rows};
+ghost use Rattle.routes_hits.specs.Boxing.{box_plan};
 ghost use Rattle.routes_hits.specs.Finding.{hits_fit, hits_call, HitsCalled};
 
 use crate::boxes::{PageBox, is_on_board};
@@ -8,7 +9,7 @@ use crate::list::{HitCounts, list_hits};
 use base::refusal::{Reason, Refusal};
 use base::rows::{BusWireRow, PageRow, PortRow, Record, RerouterRow, WorkRow};
 use board::sections::cut_sections;
-use board_plan::{ask, plan_text, work_lengths};
+use board_plan::{TextPlan, ask, plan_text, work_lengths};
 use routes_calls::route::finish_plan;
 use routes_gutter::laying::BusLaid;
 
@@ -21,6 +22,17 @@ pub const HITS_A_WIRE: usize = 21;
 pub struct HitsFound {
     pub hits: HitCounts,
     pub laid: BusLaid,
+}
+
+// H6: 9, after 8; or how many taps the planned sheet has.
+fn box_plan(q: PageBox, planned: TextPlan) -> Result<usize, Refusal>
+    ensures { result ≡ box_plan q (Ok planned) }
+{
+    let m = planned.taps?;
+    if !is_on_board(q, planned.counts.pages) {
+        return Err(Reason::BadBox.at(0));
+    }
+    Ok(m)
 }
 
 // The hits of a box on the finished plan of a sheet's board, and that plan, or a refusal. Each slice of work space has a row for each record, the marks five; the
@@ -59,12 +71,8 @@ pub fn find_hits(
         text, asked, records, facts, taps, groups, demands, keys, marks,
     )?;
     // Stays (no plainer): as in `route_within`, but 9 is tested between planning and laying, where nothing is written yet.
-    let counts = planned.counts;
-    let m = planned.taps?;
-    if !is_on_board(q, counts.pages) {
-        return Err(Reason::BadBox.at(0));
-    }
-    let s = cut_sections(records, counts);
+    let m = box_plan(q, planned)?;
+    let s = cut_sections(records, planned.counts);
     let taps = &mut taps[..m];
     let laid = finish_plan(
         s, facts, taps, groups, demands, keys, marks, rerouters, bus_wires, ports, answers,

@@ -11,11 +11,11 @@ use crate::windows::{
 };
 
 // The levels of the first window, which do for most stops; of one that does for most rows; and of the windows of a row with more.
-const FEW: usize = 64;
+pub const FEW: usize = 64;
 
-const SOME: usize = 1_024;
+pub const SOME: usize = 1_024;
 
-const MANY: usize = 4_096;
+pub const MANY: usize = 4_096;
 
 // So many levels from `base` on, with what tells of them: the levels in use on a stop's row, and the claims of its lane.
 #[derive(Clone, Copy)]

@@ -1,5 +1,5 @@
 -- The tables of a finished plan give its plan sheet.
-use Rattle.std.proofs.Common.{◌≡◌, ℕ, zero, suc, ◌<◌, ◌≤◌, List, [], ◌∷◌, ◌++◌, map, reverse, length, take, count_by, sym, refl, ap, ◌∙◌, subst, arith, length-append, length-set}
+use Rattle.std.proofs.Common.{◌≡◌, ℕ, zero, suc, ◌+◌, ◌*◌, ◌<◌, ◌≤◌, List, [], ◌∷◌, ◌++◌, map, reverse, length, take, count_by, sym, refl, ap, ◌∙◌, subst, arith, length-append, length-set}
 use lib.ListN.{length-map, length-reverse}
 use Rattle.sheet.specs.Table.{MISSING}
 use Rattle.sheet.specs.Written.{Wrote}
@@ -132,12 +132,19 @@ module _ (b : Board) (ps : List PageLanes) (answers rerouters bus_wires ports : 
       subst (λ text. Wrote out 0 text new r) (ap (rows_text answers rerouters bus_wires ports) same ∙ plan_written) wrote
 
   -- A line's number, and the counts of the last line, are numbers of 32 bits.
-  pub plan_fits_lem : ((length answers < MISSING) × (length rerouters < MISSING) × (length bus_wires < MISSING) × (length ports < MISSING)) × (wires < MISSING) × (groups < MISSING)
+  pub counts_few : ((length answers < MISSING) × (length rerouters < MISSING) × (length bus_wires < MISSING) × (length ports < MISSING)) × (wires < MISSING) × (groups < MISSING)
   unfolding laid_groups
-  plan_fits_lem =
+  counts_few =
       let pages : length ps ≤ 64 = omega (arith, planned_long b ps h.lanes, h.accepted.few_pages) in
       let few = range.few_on_board in (
         (omega (arith, long.0), omega (arith, long.1, range.few_rerouters), omega (arith, long.2, range.few_wires), omega (arith, long.3, range.few_ports)),
         omega (arith, h.wire_count),
         omega (arith, h.group_count, groups_most (laid_taps b (taps_of b) ps), laid_short b ps),
       )
+
+  -- A buffer of 128 bytes for each line has room, each thing of the plan has its row, and the counts are few.
+  pub plan_fits_lem : (out : List ℕ) → 128 * (length answers + length rerouters + length bus_wires + length ports + 1) ≤ length out
+      → (128 * length answers + 128 * length rerouters + 128 * length bus_wires + 128 * length ports + 128 ≤ length out)
+      × ((length answers ≡ length ps) × (length rerouters ≡ length bus.rerouters) × (length bus_wires ≡ length bus.wires) × (length ports ≡ length bus.ports))
+      × ((length answers < MISSING) × (length rerouters < MISSING) × (length bus_wires < MISSING) × (length ports < MISSING)) × (wires < MISSING) × (groups < MISSING)
+  plan_fits_lem out room = (omega arith, long, counts_few.0, counts_few.1, counts_few.2)

@@ -1,14 +1,12 @@
 // The plan sheet: the buffers as text, line by line.
 // Stays (no plainer): a writer takes the lent bytes with the place to write at: a struct of the lent slice and the place would tell what it left by nested pairs.
 ghost use Rattle.std.specs.Prelude.{◌≡◌, ℕ, ◌+◌, ◌*◌, ◌<◌, ◌≤◌, List, [], ◌∷◌, ◌++◌, map, length};
-ghost use Rattle.base.specs.Refusal.{number_of};
 ghost use Rattle.sheet.specs.Text.{NEWLINE};
 ghost use Rattle.sheet.specs.Written.{Wrote, tabbed};
 ghost use Rattle.routes.specs.PlanSheet.{line as lineText, numbered, refusal_sheet};
 ghost use Rattle.routes_plan_sheet.specs.Fields.{field_text, lane_line_in, rerouter_line_in, port_line_in, letter_of, wire_text_in, total_text, rows_text};
 
 use base::numbers::{MISSING, NEWLINE, TAB};
-use base::refusal::Refusal;
 use base::rows::{BusWireRow, PageRow, PortRow, RerouterRow};
 use routes::bus::inward;
 use sheet::write::{put_byte, put_coordinate, put_decimal, put_number};
@@ -200,14 +198,11 @@ fn put_total_line(out: &mut [u8], at: usize, t: Totals) -> usize
 }
 
 // E12: the E line.
-pub fn put_refusal(out: &mut [u8], at: usize, refusal: Refusal) -> usize
-    requires { (at + 128 ≤ length out.old) × (refusal.place < 4294967296) }
-    ensures { Wrote out.old at (refusal_sheet (number_of refusal.reason) refusal.place) out.new result }
+pub fn put_refusal(out: &mut [u8], at: usize, number: u32, place: u32) -> usize
+    requires { at + 128 ≤ length out.old }
+    ensures { Wrote out.old at (refusal_sheet number place) out.new result }
 {
-    let fields = [
-        Field::Decimal(refusal.reason.number() as u32),
-        Field::Decimal(refusal.place as u32),
-    ];
+    let fields = [Field::Decimal(number), Field::Decimal(place)];
     put_line(out, at, b'E', &fields)
 }
 
@@ -221,7 +216,7 @@ pub struct PlanRows<'a> {
 }
 
 // The plan sheet of the plan that the rows hold.
-pub(crate) fn put_plan(out: &mut [u8], rows: PlanRows<'_>, t: Totals) -> usize
+pub fn put_plan(out: &mut [u8], rows: PlanRows<'_>, t: Totals) -> usize
     requires room { 128 * length rows.pages.now + 128 * length rows.rerouters.now + 128 * length rows.bus_wires.now + 128 * length rows.ports.now + 128 ≤ length out.old }
     requires few { (length rows.pages.now < 4294967295) × (length rows.rerouters.now < 4294967295) × (length rows.bus_wires.now < 4294967295) × (length rows.ports.now < 4294967295) }
     ensures { Wrote out.old 0 (rows_text rows.entry.pages.now rows.entry.rerouters.now rows.entry.bus_wires.now rows.entry.ports.now t) out.new result }

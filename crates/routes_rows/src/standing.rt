@@ -12,7 +12,7 @@ use base::numbers::{MISSING, REROUTER_SIZE};
 use base::rows::WorkRow;
 
 // Where levels end: a corner is two wide, and ends within the numbers.
-const LEVELS_END: u32 = MISSING - 1;
+pub const LEVELS_END: u32 = MISSING - 1;
 
 // The level that an answer tells, or none.
 fn level_of(answer: u32) -> Option<u32>
@@ -21,8 +21,16 @@ fn level_of(answer: u32) -> Option<u32>
     (answer < LEVELS_END).then_some(answer)
 }
 
-// The cell of a corner at its level; where it has none, one that overlaps nothing.
-pub(crate) fn corner_cell(y: u32, found: Option<u32>) -> Cell
+// The cell of a corner at the level that is its answer; where it has none, one that overlaps nothing.
+pub fn corner_cell(y: u32, level: u32) -> Cell
+    requires { y < 4294967290 }
+    ensures { cell_of result ≡ corner_box y (level_in level) }
+{
+    found_cell(y, level_of(level))
+}
+
+// The cell of a corner at the level found for it, if one is.
+pub(crate) fn found_cell(y: u32, found: Option<u32>) -> Cell
     requires { (y < 4294967290) × ((l : ℕ) → found ≡ Some l → l < 4294967294) }
     ensures { (f : Found) → found ≡ found_of f → cell_of result ≡ corner_box y f }
 {
@@ -46,7 +54,7 @@ fn booked_cell(items: &[WorkRow], p: usize, first: usize, answers: &[u32]) -> Ce
     if i < first {
         return Cell::from(items[i]);
     }
-    corner_cell(items[i][2], level_of(answers[i - first]))
+    corner_cell(items[i][2], answers[i - first])
 }
 
 // All that is booked on the row before the item that comes p-th blocks; the newest first.

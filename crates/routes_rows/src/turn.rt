@@ -12,7 +12,7 @@ use crate::blocked::{block_cells, spread};
 use crate::book::{Cell, NO_CELL, append, count_before, count_tested};
 use crate::loads::{lay, own_loads};
 use crate::notes::{LOADS, begin_row, has_class};
-use crate::standing::{block_row, corner_cell};
+use crate::standing::{block_row, found_cell};
 use base::numbers::{MISSING, REROUTER_SIZE};
 use base::rows::WorkRow;
 use routes_levels::levels::{STAGGER_STEP, levels_in};
@@ -191,7 +191,7 @@ fn turn(item: Item<'_>, notes: &mut [u32], answers: &mut [u32]) -> Cell
     let i = items[item.p][7] as usize;
     answers[i - item.first] = found.unwrap_or(MISSING);
     lay(notes, items[i][3], items[i][4], found);
-    corner_cell(items[i][2], found)
+    found_cell(items[i][2], found)
 }
 
 // An item: a cell, or a question that is answered. The cell that it books comes back.

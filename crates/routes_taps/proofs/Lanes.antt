@@ -1,5 +1,6 @@
 -- What is read of a lane in the tables is what the rules say of it.
-use Rattle.std.specs.Prelude.{None, Some as Known}
+use Rattle.std.specs.Prelude.{Option, None, Some as Known}
+use Rattle.std.specs.Option.{unwrap_or}
 use Prim.Native.Nat.{ℕ, zero, ◌<◌, min}
 use mathlib.Core.Path.{◌≡◌, refl, ap, sym, ◌∙◌}
 use mathlib.Core.Bool.{Bool, true, false, not, ◌&&◌, ◌||◌}
@@ -19,7 +20,7 @@ use Rattle.board.specs.Groups
 use Rattle.board.specs.Groups.{anchor_of, source_anchor, source_row, taps_in}
 use Rattle.board.specs.Demands.{PageLanes, no_lanes, lane_of, lane_in, lane_y}
 use Rattle.board.specs.Tables.{held}
-use Rattle.base.proofs.Bools.{pick_true, pick_false}
+use Rattle.base.proofs.Bools.{never, pick_true, pick_false}
 use Rattle.routes.specs.Levels.{lane_for}
 use Rattle.routes.specs.Rerouters.{source, chain_rotation}
 use Rattle.routes.specs.Holding.{turns_of}
@@ -139,6 +140,15 @@ module _ (b : Board) (ts : List Groups.Tap) (ps : List PageLanes) (pages nodes w
           away true = refl
           away false = refl
 
+  row_low : (row : ℕ) → row_on_page nodes facts (field facts t.group 2) t.page ≡ Known row → row < MISSING
+  row_low row = go (eqb (field nodes (field facts t.group 2) 10) t.page) refl
+    where
+      go : (c : Bool) → eqb (field nodes (field facts t.group 2) 10) t.page ≡ c → elim c as (λ _. Option ℕ) [ true ↦ Known (field facts (field facts t.group 2) 0) | false ↦ None ] ≡ Known row → row < MISSING
+      go true e h =
+          let small = r.row_small (eqb-true _ t.page e) in
+          let same : field facts (field facts t.group 2) 0 ≡ row = ap (λ (o : Option ℕ). unwrap_or o 0) h in omega arith
+      go false e h = never cc
+
   pub lane_of_lem : LaneOf b ts ps t (lane_read pages nodes wires facts groups t.page t.group)
   lane_of_lem =
       record {
@@ -153,6 +163,7 @@ module _ (b : Board) (ts : List Groups.Tap) (ps : List PageLanes) (pages nodes w
         source_x = λ i. field (sym k.nodes i) (sym anchor_is i) 8;
         source_y = λ i. field (sym k.nodes i) (sym anchor_is i) 9;
         row = row_is;
+        row_small = row_low;
       }
 
 pub lane_ranges : (pages nodes wires facts groups : List (List ℕ)) (page group : ℕ) → LaneInRange pages nodes wires facts groups page group → LaneRanges (lane_read pages nodes wires facts groups page group)

@@ -15,7 +15,7 @@ use line::line_at;
 mod check;
 mod line;
 mod number;
-mod table;
+pub mod table;
 pub mod walk;
 pub mod write;
 

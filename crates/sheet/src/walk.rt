@@ -13,7 +13,7 @@ pub struct SheetWalker<'a> {
 }
 
 // Where the part that starts here ends: at the next byte `end`, or with the text.
-fn part_end(text: &[u8], at: usize, end: u8) -> usize
+pub fn part_end(text: &[u8], at: usize, end: u8) -> usize
     ensures { result ≡ part_end end text.now at }
 {
     // Stays (slower): `position` counts from the part's start, so its place is added to that again for each field: to read a sheet takes one instruction in a hundred more.
@@ -28,7 +28,7 @@ fn part_end(text: &[u8], at: usize, end: u8) -> usize
 }
 
 // The part that starts here, without the byte that ends it.
-fn part_at(text: &[u8], at: usize, end: u8) -> &[u8]
+pub fn part_at(text: &[u8], at: usize, end: u8) -> &[u8]
     ensures { result.now ≡ part_of end (drop at text.now) }
 {
     if text.len() < at {

@@ -9,8 +9,8 @@ use Rattle.sheet.specs.declared.Counts.{Counts}
 use Rattle.board_plan.specs.declared.Lent.{Lent}
 use Rattle.board_plan.specs.TextPlan.{shortest}
 use Rattle.board_plan.proofs.Calling.{work_room}
-use Rattle.program_answer.specs.Answering.{Answered, answer_lent, answer_call}
-use Rattle.program_answer.proofs.Answers.{answered_refused, plan_stands, plan_answered}
+use Rattle.program_answer.specs.Answering.{LineTold, Answered, answer_lent, answer_call}
+use Rattle.program_answer.proofs.Answers.{line_of_refusal, answered_refused, plan_stands, plan_answered}
 use Rattle.program_answer.proofs.answer_within.Goals as goal
 
 -- What is lent, by the buffers.
@@ -46,7 +46,8 @@ returns-in-Err c = let a = c.args in
     let n = c.shortest_of-work in
     counted a.most a.text.now a.out.now a.rerouters.now a.bus_wires.now a.ports.now a.answers.now n.result _ (n.ensures ∙ ap shortest c.work_lengths.ensures)
     (answered_refused a.most a.text.now (lent a.rerouters.now a.bus_wires.now a.ports.now a.answers.now a.out.now n.result) a.rerouters.now a.bus_wires.now a.ports.now a.answers.now
-    r.new.rerouters r.new.bus_wires r.new.ports r.new.answers r.result r.ensures _ c.in-Err.is a.out.now t.new.out t.result t.ensures)
+    r.new.rerouters r.new.bus_wires r.new.ports r.new.answers r.result r.ensures _ c.in-Err.is a.out.now t.new.out t.result
+    (line_of_refusal c.in-Err.refusal a.out.now t.new.out t.result (subst (λ (k : ℕ). LineTold k c.in-Err.refusal.place a.out.now t.new.out t.result) c.number.ensures t.ensures)))
 
 pub returns-in-Ok : goal.returns-in-Ok
 returns-in-Ok c = let a = c.args in

@@ -22,17 +22,14 @@ write_plan-requires c =
     let a = c.args in
     let t = c.requires.2 in
     let bus = a.plan.laid.bus in
-    let rows = plan_fits_lem c.requires.0 c.requires.1 _ _ _ _ _ _ t.held in record {
-      room = omega (
-        arith,
-        t.text_room,
-        length-take-le a.plan.counts.pages a.answers.now t.page_rows,
-        length-take-le bus.rerouters a.rerouters.now t.rerouter_rows,
-        length-take-le bus.bus_wires a.bus_wires.now t.wire_rows,
-        length-take-le bus.ports a.ports.now t.port_rows,
-      );
-      few = rows.0;
-      wires_bound = (rows.1, rows.2);
+    let page_rows = length-take-le a.plan.counts.pages a.answers.now t.page_rows in
+    let rerouter_rows = length-take-le bus.rerouters a.rerouters.now t.rerouter_rows in
+    let wire_rows = length-take-le bus.bus_wires a.bus_wires.now t.wire_rows in
+    let port_rows = length-take-le bus.ports a.ports.now t.port_rows in
+    let fits = plan_fits_lem c.requires.0 c.requires.1 _ _ _ _ _ _ t.held a.out.now (omega (arith, t.text_room, page_rows, rerouter_rows, wire_rows, port_rows)) in record {
+      room = fits.0;
+      few = fits.2;
+      wires_bound = (fits.3, fits.4);
     }
 
 pub returns : goal.returns

@@ -41,37 +41,46 @@ read {wires = wires} {keys = keys} k p w found low at behind =
     let there : w < n = omega (arith, same, (k.keyed.comes p here).0) in
     record { place = here; is = same; wire = there; class = omega (arith, there, k.classed.low w there) }
 
-pub first_not_below-p-requires : goal.first_not_below-p-requires
-first_not_below-p-requires c = rising_in c.requires.ported
+pub seek_key-p-requires : goal.seek_key-p-requires
+seek_key-p-requires c = let k = c.requires.ported in (omega (arith, c.requires.from_in_bounds, length-take-le (length c.args.t.wires.now) c.args.t.keys.now k.keyed.long), rising_in k)
 
 pub returns-in_default : goal.returns-in_default
 returns-in_default c = let a = c.args in
     let k = c.requires.ported in
-    let beyond : length (take (length a.t.wires.now) a.t.keys.now) ≤ c.first_not_below-p.result = search rules in
-    λ test h. flag_none a.t.wires.now a.t.classes.now a.flags.now k.classed (port_in a.port) test h
-    (port_nowhere a.t.wires.now a.t.keys.now k.keyed (get_or a.port 0 0) (get_or a.port 1 0) c.with_number-key.result c.first_not_below-p.result (c.with_number-key.ensures ∙ ap (λ (v : ℕ). v * 8192 + 0) c.port_key.ensures) (first_in k c.first_not_below-p.ensures)
-    (λ b. absurd (omega (arith, beyond, b, length-take-le (length a.t.wires.now) a.t.keys.now k.keyed.long))))
+    let beyond : length (take (length a.t.wires.now) a.t.keys.now) ≤ c.seek_key-p.result = search rules in
+    let first = first_in k c.seek_key-p.ensures in record {
+      upper_bound = first.within;
+      by_index = λ test h. flag_none a.t.wires.now a.t.classes.now a.flags.now k.classed (port_in a.port) test h
+          (port_nowhere a.t.wires.now a.t.keys.now k.keyed (get_or a.port 0 0) (get_or a.port 1 0) c.with_number-key.result c.seek_key-p.result (c.with_number-key.ensures ∙ ap (λ (v : ℕ). v * 8192 + 0) c.port_key.ensures) first
+          (λ b. absurd (omega (arith, beyond, b, length-take-le (length a.t.wires.now) a.t.keys.now k.keyed.long))));
+    }
 
 pub bounds-flags-t : goal.bounds-flags-t
 bounds-flags-t c = let a = c.args in
-    let here : c.in-Some.found.now ≡ get_or (take (length a.t.wires.now) a.t.keys.now) c.first_not_below-p.result 0 = search rules in
-    let low : c.first_not_below-p.result < length (take (length a.t.wires.now) a.t.keys.now) = search rules in
+    let here : c.in-Some.found.now ≡ get_or (take (length a.t.wires.now) a.t.keys.now) c.seek_key-p.result 0 = search rules in
+    let low : c.seek_key-p.result < length (take (length a.t.wires.now) a.t.keys.now) = search rules in
     let r = read c.requires.ported _ _ _ low here c.number_behind-w.ensures in
     omega (arith, r.class, c.requires.port_room.flag_room)
 
 pub returns-then-goes_to : goal.returns-then-goes_to
 returns-then-goes_to c = let a = c.args in
-    let here : c.in-Some.found.now ≡ get_or (take (length a.t.wires.now) a.t.keys.now) c.first_not_below-p.result 0 = search rules in
-    let low : c.first_not_below-p.result < length (take (length a.t.wires.now) a.t.keys.now) = search rules in
+    let here : c.in-Some.found.now ≡ get_or (take (length a.t.wires.now) a.t.keys.now) c.seek_key-p.result 0 = search rules in
+    let low : c.seek_key-p.result < length (take (length a.t.wires.now) a.t.keys.now) = search rules in
     let r = read c.requires.ported _ _ _ low here c.number_behind-w.ensures in
-    λ test h. flag_found a.t.wires.now a.t.classes.now a.flags.now c.requires.ported.classed (port_in a.port) test h c.requires.port_room.flag_room c.number_behind-w.result r.wire (sym c.goes_to.ensures ∙ c.if-goes_to.true)
+    record {
+      upper_bound = (first_in c.requires.ported c.seek_key-p.ensures).within;
+      by_index = λ test h. flag_found a.t.wires.now a.t.classes.now a.flags.now c.requires.ported.classed (port_in a.port) test h c.requires.port_room.flag_room c.number_behind-w.result r.wire (sym c.goes_to.ensures ∙ c.if-goes_to.true);
+    }
 
 pub returns-else-goes_to : goal.returns-else-goes_to
 returns-else-goes_to c = let a = c.args in
     let k = c.requires.ported in
-    let here : c.in-Some.found.now ≡ get_or (take (length a.t.wires.now) a.t.keys.now) c.first_not_below-p.result 0 = search rules in
-    let low : c.first_not_below-p.result < length (take (length a.t.wires.now) a.t.keys.now) = search rules in
+    let here : c.in-Some.found.now ≡ get_or (take (length a.t.wires.now) a.t.keys.now) c.seek_key-p.result 0 = search rules in
+    let low : c.seek_key-p.result < length (take (length a.t.wires.now) a.t.keys.now) = search rules in
     let r = read k _ _ _ low here c.number_behind-w.ensures in
-    λ test h. flag_none a.t.wires.now a.t.classes.now a.flags.now k.classed (port_in a.port) test h
-    (port_nowhere a.t.wires.now a.t.keys.now k.keyed (get_or a.port 0 0) (get_or a.port 1 0) c.with_number-key.result c.first_not_below-p.result (c.with_number-key.ensures ∙ ap (λ (v : ℕ). v * 8192 + 0) c.port_key.ensures) (first_in k c.first_not_below-p.ensures)
-    (λ b. ap (goes_to a.t.wires.now (port_in a.port)) (sym r.is) ∙ (sym c.goes_to.ensures ∙ c.if-goes_to.false)))
+    let first = first_in k c.seek_key-p.ensures in record {
+      upper_bound = first.within;
+      by_index = λ test h. flag_none a.t.wires.now a.t.classes.now a.flags.now k.classed (port_in a.port) test h
+          (port_nowhere a.t.wires.now a.t.keys.now k.keyed (get_or a.port 0 0) (get_or a.port 1 0) c.with_number-key.result c.seek_key-p.result (c.with_number-key.ensures ∙ ap (λ (v : ℕ). v * 8192 + 0) c.port_key.ensures) first
+          (λ b. ap (goes_to a.t.wires.now (port_in a.port)) (sym r.is) ∙ (sym c.goes_to.ensures ∙ c.if-goes_to.false)));
+    }

@@ -6,4 +6,4 @@ pub loop-port-preserved : goal.loop-port-preserved
 loop-port-preserved c =
     let l = c.loop-port in
     let a = c.args in
-    rw (add-one l.port-index) (c.flag_port.ensures (among_ports a.t.wires.now a.ports.now l.port-index) l.invariant)
+    (c.flag_port-p.ensures.upper_bound, rw (add-one l.port-index) (c.flag_port-p.ensures.by_index (among_ports a.t.wires.now a.ports.now l.port-index) l.invariant.1))

@@ -15,7 +15,8 @@ use Rattle.routes_gutter.proofs.Planned.{work_again}
 use Rattle.routes_calls.specs.Finish.{PlanReady}
 use Rattle.routes_calls.proofs.Routing.{plan_cut, taps_there, plan_ready}
 use Rattle.routes_hits.specs.Finding.{HITS_A_WIRE}
-use Rattle.routes_hits.proofs.Calling.{box_refused, box_crowded, box_away, box_told, box_call, box_room, nothing_found, rows_there, list_ready, hits_found}
+use Rattle.routes_hits.specs.Boxing.{box_plan}
+use Rattle.routes_hits.proofs.Calling.{box_laned, box_refused, box_told, box_call, box_room, nothing_found, rows_there, list_ready, hits_found}
 use Rattle.routes_hits.proofs.find.find_hits.Lts as lts
 use Rattle.routes_hits.proofs.find.find_hits.Reads as reads
 use Rattle.routes_hits.proofs.find.find_hits.Tie as tie
@@ -38,7 +39,8 @@ module _ (c : Planned) where
   told =
       let p = c.plan_text in
       let a = c.args in
-      box_told a.q a.text.now c.ask-asked.result (length a.hits.now) (length a.rerouters.now) (length a.bus_wires.now) (length a.ports.now) (length a.answers.now) (work_rows a.records.now a.facts.now a.taps.now a.groups.now a.demands.now a.keys.now a.marks.now) asked p.new.records p.new.facts p.new.taps p.new.groups p.result p.ensures _ c.in_ok-planned.was _ c.in_ok-m.was
+      let laned = box_laned a.q c.in_ok-planned.planned c.in_ok-m.m (sym c.box_plan.ensures ∙ c.in_ok-m.was) in
+      box_told a.q a.text.now c.ask-asked.result (length a.hits.now) (length a.rerouters.now) (length a.bus_wires.now) (length a.ports.now) (length a.answers.now) (work_rows a.records.now a.facts.now a.taps.now a.groups.now a.demands.now a.keys.now a.marks.now) asked p.new.records p.new.facts p.new.taps p.new.groups p.result p.ensures _ c.in_ok-planned.was _ laned.0
 
   ready : let p = c.plan_text in let a = c.args in PlanReady told.on_board told.lanes c.cut_sections-s.result.pages.now c.cut_sections-s.result.nodes.now c.cut_sections-s.result.wires.now p.new.facts (take c.in_ok-m.m p.new.taps) p.new.groups p.new.demands p.new.keys p.new.spare a.rerouters.now a.bus_wires.now a.ports.now a.answers.now
   ready =
@@ -71,7 +73,8 @@ cut_sections-s-requires c =
     let a = c.args in
     let is = asked_is (length a.ports.now) (length a.hits.now) c.ask-asked.ensures c.min.ensures c.work_lengths.ensures in
     let room = asked_room c.ask-asked.result a.records.now a.facts.now a.taps.now a.groups.now a.demands.now a.keys.now a.marks.now is in
-    let t = box_told a.q a.text.now c.ask-asked.result (length a.hits.now) (length a.rerouters.now) (length a.bus_wires.now) (length a.ports.now) (length a.answers.now) (work_rows a.records.now a.facts.now a.taps.now a.groups.now a.demands.now a.keys.now a.marks.now) is p.new.records p.new.facts p.new.taps p.new.groups p.result p.ensures _ c.in_ok-planned.was _ c.in_ok-m.was in
+    let laned = box_laned a.q c.in_ok-planned.planned c.in_ok-m.m (sym c.box_plan.ensures ∙ c.in_ok-m.was) in
+    let t = box_told a.q a.text.now c.ask-asked.result (length a.hits.now) (length a.rerouters.now) (length a.bus_wires.now) (length a.ports.now) (length a.answers.now) (work_rows a.records.now a.facts.now a.taps.now a.groups.now a.demands.now a.keys.now a.marks.now) is p.new.records p.new.facts p.new.taps p.new.groups p.result p.ensures _ c.in_ok-planned.was _ laned.0 in
     let cut = plan_cut c.ask-asked.result.most a.text.now c.ask-asked.result.lent room.1 p.new.records p.new.facts p.new.taps p.new.groups _ _ t a.rerouters.now a.bus_wires.now a.ports.now a.answers.now in
     (t.on_board, cut.0, cut.1, cut.2)
 
@@ -81,7 +84,8 @@ slice_bounds-taps-end c =
     let a = c.args in
     let is = asked_is (length a.ports.now) (length a.hits.now) c.ask-asked.ensures c.min.ensures c.work_lengths.ensures in
     let room = asked_room c.ask-asked.result a.records.now a.facts.now a.taps.now a.groups.now a.demands.now a.keys.now a.marks.now is in
-    let t = box_told a.q a.text.now c.ask-asked.result (length a.hits.now) (length a.rerouters.now) (length a.bus_wires.now) (length a.ports.now) (length a.answers.now) (work_rows a.records.now a.facts.now a.taps.now a.groups.now a.demands.now a.keys.now a.marks.now) is p.new.records p.new.facts p.new.taps p.new.groups p.result p.ensures _ c.in_ok-planned.was _ c.in_ok-m.was in
+    let laned = box_laned a.q c.in_ok-planned.planned c.in_ok-m.m (sym c.box_plan.ensures ∙ c.in_ok-m.was) in
+    let t = box_told a.q a.text.now c.ask-asked.result (length a.hits.now) (length a.rerouters.now) (length a.bus_wires.now) (length a.ports.now) (length a.answers.now) (work_rows a.records.now a.facts.now a.taps.now a.groups.now a.demands.now a.keys.now a.marks.now) is p.new.records p.new.facts p.new.taps p.new.groups p.result p.ensures _ c.in_ok-planned.was _ laned.0 in
     taps_there c.ask-asked.result.most a.text.now c.ask-asked.result.lent room.1 p.new.records p.new.facts p.new.taps p.new.groups _ _ t a.rerouters.now a.bus_wires.now a.ports.now a.answers.now (omega (arith, room.0.lent.taps_lent, p.auto.taps))
 
 pub slice_bounds-taps-end-2 : goal.slice_bounds-taps-end-2
@@ -90,7 +94,8 @@ slice_bounds-taps-end-2 c =
     let a = c.args in
     let is = asked_is (length a.ports.now) (length a.hits.now) c.ask-asked.ensures c.min.ensures c.work_lengths.ensures in
     let room = asked_room c.ask-asked.result a.records.now a.facts.now a.taps.now a.groups.now a.demands.now a.keys.now a.marks.now is in
-    let t = box_told a.q a.text.now c.ask-asked.result (length a.hits.now) (length a.rerouters.now) (length a.bus_wires.now) (length a.ports.now) (length a.answers.now) (work_rows a.records.now a.facts.now a.taps.now a.groups.now a.demands.now a.keys.now a.marks.now) is p.new.records p.new.facts p.new.taps p.new.groups p.result p.ensures _ c.in_ok-planned.was _ c.in_ok-m.was in
+    let laned = box_laned a.q c.in_ok-planned.planned c.in_ok-m.m (sym c.box_plan.ensures ∙ c.in_ok-m.was) in
+    let t = box_told a.q a.text.now c.ask-asked.result (length a.hits.now) (length a.rerouters.now) (length a.bus_wires.now) (length a.ports.now) (length a.answers.now) (work_rows a.records.now a.facts.now a.taps.now a.groups.now a.demands.now a.keys.now a.marks.now) is p.new.records p.new.facts p.new.taps p.new.groups p.result p.ensures _ c.in_ok-planned.was _ laned.0 in
     sym (length-take-le _ _ (taps_there c.ask-asked.result.most a.text.now c.ask-asked.result.lent room.1 p.new.records p.new.facts p.new.taps p.new.groups _ _ t a.rerouters.now a.bus_wires.now a.ports.now a.answers.now (omega (arith, room.0.lent.taps_lent, p.auto.taps))))
 
 pub finish_plan-laid-requires : goal.finish_plan-laid-requires
@@ -136,7 +141,8 @@ list_hits-found-requires c =
     let p = c.plan_text in
     let a = c.args in
     let f = c.finish_plan-laid in
-    list_ready (ready w) f.result.bus (f.ensures (told w).on_board (told w).lanes (ready w)).0 (length a.hits.now) (box_room a.q a.text.now c.ask-asked.result (length a.hits.now) (length a.rerouters.now) (length a.bus_wires.now) (length a.ports.now) (length a.answers.now) (work_rows a.records.now a.facts.now a.taps.now a.groups.now a.demands.now a.keys.now a.marks.now) (asked w) p.new.records p.new.facts p.new.taps p.new.groups p.result p.ensures _ c.in_ok-planned.was _ c.in_ok-m.was) f.auto.rerouters f.auto.bus_wires
+    let laned = box_laned a.q c.in_ok-planned.planned c.in_ok-m.m (sym c.box_plan.ensures ∙ c.in_ok-m.was) in
+    list_ready (ready w) f.result.bus (f.ensures (told w).on_board (told w).lanes (ready w)).0 (length a.hits.now) (box_room a.q a.text.now c.ask-asked.result (length a.hits.now) (length a.rerouters.now) (length a.bus_wires.now) (length a.ports.now) (length a.answers.now) (work_rows a.records.now a.facts.now a.taps.now a.groups.now a.demands.now a.keys.now a.marks.now) (asked w) p.new.records p.new.facts p.new.taps p.new.groups p.result p.ensures _ c.in_ok-planned.was _ laned.0) f.auto.rerouters f.auto.bus_wires
 
 pub returns-in_err-planned : goal.returns-in_err-planned
 returns-in_err-planned c =
@@ -145,7 +151,7 @@ returns-in_err-planned c =
     let is = asked_is (length a.ports.now) (length a.hits.now) c.ask-asked.ensures c.min.ensures c.work_lengths.ensures in
     rw (passed c.from_residual.result _ c.from_residual.ensures.1)
     (nothing_found a.q _ a.hits.now a.rerouters.now a.bus_wires.now a.ports.now a.answers.now _
-    (box_refused a.q a.text.now c.ask-asked.result (length a.hits.now) (length a.rerouters.now) (length a.bus_wires.now) (length a.ports.now) (length a.answers.now) (work_rows a.records.now a.facts.now a.taps.now a.groups.now a.demands.now a.keys.now a.marks.now) is p.new.records p.new.facts p.new.taps p.new.groups p.result p.ensures _ c.in_err-planned.was))
+    (box_refused a.q a.text.now c.ask-asked.result (length a.hits.now) (length a.rerouters.now) (length a.bus_wires.now) (length a.ports.now) (length a.answers.now) (work_rows a.records.now a.facts.now a.taps.now a.groups.now a.demands.now a.keys.now a.marks.now) is p.new.records p.new.facts p.new.taps p.new.groups p.result p.ensures _ (ap (box_plan a.q) c.in_err-planned.was)))
 
 pub returns-in_err-m : goal.returns-in_err-m
 returns-in_err-m c =
@@ -155,16 +161,7 @@ returns-in_err-m c =
     let r = c.from_residual-in_err-m in
     rw (passed r.result _ r.ensures.1)
     (nothing_found a.q _ a.hits.now a.rerouters.now a.bus_wires.now a.ports.now a.answers.now _
-    (box_crowded a.q a.text.now c.ask-asked.result (length a.hits.now) (length a.rerouters.now) (length a.bus_wires.now) (length a.ports.now) (length a.answers.now) (work_rows a.records.now a.facts.now a.taps.now a.groups.now a.demands.now a.keys.now a.marks.now) is p.new.records p.new.facts p.new.taps p.new.groups p.result p.ensures _ c.in_ok-planned.was _ c.in_err-m.was))
-
-pub returns-then-not-is_on_board : goal.returns-then-not-is_on_board
-returns-then-not-is_on_board c =
-    let a = c.args in
-    let p = c.plan_text in
-    let is = asked_is (length a.ports.now) (length a.hits.now) c.ask-asked.ensures c.min.ensures c.work_lengths.ensures in
-    rw c.at.ensures
-    (nothing_found a.q _ a.hits.now a.rerouters.now a.bus_wires.now a.ports.now a.answers.now _
-    (box_away a.q a.text.now c.ask-asked.result (length a.hits.now) (length a.rerouters.now) (length a.bus_wires.now) (length a.ports.now) (length a.answers.now) (work_rows a.records.now a.facts.now a.taps.now a.groups.now a.demands.now a.keys.now a.marks.now) is p.new.records p.new.facts p.new.taps p.new.groups p.result p.ensures _ c.in_ok-planned.was _ c.in_ok-m.was (sym c.is_on_board.ensures ∙ c.if-not-is_on_board.true)))
+    (box_refused a.q a.text.now c.ask-asked.result (length a.hits.now) (length a.rerouters.now) (length a.bus_wires.now) (length a.ports.now) (length a.answers.now) (work_rows a.records.now a.facts.now a.taps.now a.groups.now a.demands.now a.keys.now a.marks.now) is p.new.records p.new.facts p.new.taps p.new.groups p.result p.ensures _ (ap (box_plan a.q) c.in_ok-planned.was ∙ sym c.box_plan.ensures ∙ c.in_err-m.was)))
 
 pub returns : goal.returns
 unfolding told
@@ -174,4 +171,5 @@ returns c =
     let a = c.args in
     let f = c.finish_plan-laid in
     let done = f.ensures (told w).on_board (told w).lanes (ready w) in
-    hits_found (ready w) f.result.bus done.0 a.q _ (box_call a.q a.text.now c.ask-asked.result (length a.hits.now) (length a.rerouters.now) (length a.bus_wires.now) (length a.ports.now) (length a.answers.now) (work_rows a.records.now a.facts.now a.taps.now a.groups.now a.demands.now a.keys.now a.marks.now) (asked w) p.new.records p.new.facts p.new.taps p.new.groups p.result p.ensures _ c.in_ok-planned.was _ c.in_ok-m.was (sym c.is_on_board.ensures ∙ c.if-not-is_on_board.false)) a.hits.now _ c.list_hits-found.result f.result.groups _ (rows_there (ready w) f.result.bus done.0 f.auto.rerouters f.auto.bus_wires) c.list_hits-found.ensures done.1 done.2
+    let laned = box_laned a.q c.in_ok-planned.planned c.in_ok-m.m (sym c.box_plan.ensures ∙ c.in_ok-m.was) in
+    hits_found (ready w) f.result.bus done.0 a.q _ (box_call a.q a.text.now c.ask-asked.result (length a.hits.now) (length a.rerouters.now) (length a.bus_wires.now) (length a.ports.now) (length a.answers.now) (work_rows a.records.now a.facts.now a.taps.now a.groups.now a.demands.now a.keys.now a.marks.now) (asked w) p.new.records p.new.facts p.new.taps p.new.groups p.result p.ensures _ c.in_ok-planned.was _ laned.0 laned.1) a.hits.now _ c.list_hits-found.result f.result.groups _ (rows_there (ready w) f.result.bus done.0 f.auto.rerouters f.auto.bus_wires) c.list_hits-found.ensures done.1 done.2

@@ -4,4 +4,4 @@ use Rattle.routes_plan_sheet.proofs.plan_sheet.put_refusal.Goals as goal
 
 pub returns : goal.returns
 unfolding refusal_sheet
-returns c = rw c.number.ensures at c.put_line.ensures.wrote
+returns c = c.put_line.ensures.wrote

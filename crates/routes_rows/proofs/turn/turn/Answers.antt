@@ -18,11 +18,11 @@ lay-requires c =
     let f = w.few in
     (notes_fit (omega (arith, most)) w, omega (arith, f, most), asks.has_sink, asks.class_few)
 
-pub corner_cell-requires : goal.corner_cell-requires
-corner_cell-requires c = ((askable _ _ _ _ c.requires).low, level_fits _ _ _ _ c.weigh-found.ensures)
+pub found_cell-requires : goal.found_cell-requires
+found_cell-requires c = ((askable _ _ _ _ c.requires).low, level_fits _ _ _ _ c.weigh-found.ensures)
 
 pub returns : goal.returns
 returns c = let a = c.args in
     let w = c.weigh-found in
     let l = c.lay in
-    (decided_corner a.item.items.now a.item.p a.item.first a.answers.now a.notes.now _ _ c.corner_cell.result w.result _ c.unwrap_or.ensures c.requires.question w.ensures l.ensures c.corner_cell.ensures, (l.ensures _ w.ensures.told).rows ∙ w.ensures.rows)
+    (decided_corner a.item.items.now a.item.p a.item.first a.answers.now a.notes.now _ _ c.found_cell.result w.result _ c.unwrap_or.ensures c.requires.question w.ensures l.ensures c.found_cell.ensures, (l.ensures _ w.ensures.told).rows ∙ w.ensures.rows)
