@@ -26,7 +26,7 @@ use Rattle.routes.specs.Rerouters.{source, chain_rotation}
 use Rattle.routes.specs.Holding.{turns_of}
 use Rattle.routes.specs.declared.bus.Rotation.{Rotation}
 use Rattle.routes.specs.declared.bus.Rotation.TheVariants.{Deg90, Deg270}
-use Rattle.routes_taps.specs.Taps.{LaneOf, LaneRanges, LaneInRange, lane_read, rotation_over, row_on_page, Tables}
+use Rattle.routes_taps.specs.Taps.{LaneOf, LaneRead, LaneRanges, LaneInRange, lane_read, rotation_over, row_on_page, Tables}
 
 -- The least is over x exactly when all are.
 ltb-min : (x a b : ℕ) → not (ltb x (min a b)) ≡ not (ltb x a) || not (ltb x b)
@@ -163,8 +163,10 @@ module _ (b : Board) (ts : List Groups.Tap) (ps : List PageLanes) (pages nodes w
         source_x = λ i. field (sym k.nodes i) (sym anchor_is i) 8;
         source_y = λ i. field (sym k.nodes i) (sym anchor_is i) 9;
         row = row_is;
-        row_small = row_low;
       }
+
+  pub lane_read_told : LaneRead b ts ps t (lane_read pages nodes wires facts groups t.page t.group)
+  lane_read_told = record { told = lane_of_lem; row_small = row_low }
 
 pub lane_ranges : (pages nodes wires facts groups : List (List ℕ)) (page group : ℕ) → LaneInRange pages nodes wires facts groups page group → LaneRanges (lane_read pages nodes wires facts groups page group)
 lane_ranges pages nodes wires facts groups page group r =

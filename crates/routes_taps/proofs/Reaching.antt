@@ -19,20 +19,26 @@ use Rattle.routes.specs.Rerouters.{stops_before}
 use Rattle.routes.specs.News.{begins_row, NewsOf}
 use Rattle.routes.specs.declared.news.News.{News}
 use Rattle.routes.specs.Tables.{stop_in}
-use Rattle.routes_taps.specs.Taps.{LaneInRange, lane_read, tap_read, tap_of, Tables, TapOn, TapTarget, LaneOf, AtStop, ReachedNext, NextInRange, WentOn, rows_begun, LaidInRange}
+use Rattle.routes_taps.specs.Taps.{LaneInRange, lane_read, tap_read, tap_of, Tables, TapOn, TapTarget, LaneOf, LaneRead, AtStop, ReachedNext, NextInRange, WentOn, rows_begun, LaidInRange}
 use Rattle.routes_taps.specs.declared.taps.Lane.{Lane}
 use Rattle.routes_taps.specs.declared.taps.Tap.{Tap}
 use Rattle.routes_taps.specs.declared.taps.Reached.{Reached}
-use Rattle.routes_taps.proofs.Lanes.{lane_of_lem}
+use Rattle.routes_taps.proofs.Lanes.{lane_read_told}
 
 -- The lane of the tap that was read, and its target.
+pub lane_read_next : (b : Board) (ts : List Groups.Tap) (ps : List PageLanes) (pages nodes wires facts groups : List (List ℕ)) (row : List ℕ) (t : Tap) (l : Lane)
+    → Tables b ts ps pages nodes wires facts groups → TapOn b ts row → LaneInRange pages nodes wires facts groups (get_or row 0 0) (get_or row 1 0)
+    → t ≡ tap_read row → l ≡ lane_read pages nodes wires facts groups t.page t.group → LaneRead b ts ps (tap_of t) l
+lane_read_next b ts ps pages nodes wires facts groups row t l k on r et el =
+    subst (λ (m : Lane). LaneRead b ts ps (tap_of t) m) (sym el)
+    (subst (λ (u : Tap). LaneRead b ts ps (tap_of u) (lane_read pages nodes wires facts groups u.page u.group)) (sym et)
+    (lane_read_told b ts ps pages nodes wires facts groups k (tap_in row) on.member r))
+
 pub lane_next : (b : Board) (ts : List Groups.Tap) (ps : List PageLanes) (pages nodes wires facts groups : List (List ℕ)) (row : List ℕ) (t : Tap) (l : Lane)
     → Tables b ts ps pages nodes wires facts groups → TapOn b ts row → LaneInRange pages nodes wires facts groups (get_or row 0 0) (get_or row 1 0)
     → t ≡ tap_read row → l ≡ lane_read pages nodes wires facts groups t.page t.group → LaneOf b ts ps (tap_of t) l
 lane_next b ts ps pages nodes wires facts groups row t l k on r et el =
-    subst (λ (m : Lane). LaneOf b ts ps (tap_of t) m) (sym el)
-    (subst (λ (u : Tap). LaneOf b ts ps (tap_of u) (lane_read pages nodes wires facts groups u.page u.group)) (sym et)
-    (lane_of_lem b ts ps pages nodes wires facts groups k (tap_in row) on.member r))
+    (lane_read_next b ts ps pages nodes wires facts groups row t l k on r et el).told
 
 pub target_next : (b : Board) (ts : List Groups.Tap) (row : List ℕ) (t : Tap) → TapOn b ts row → t ≡ tap_read row → TapTarget b t
 target_next b ts row t on et = subst (TapTarget b) (sym et) (record { node = on.node; port = on.port })

@@ -26,7 +26,7 @@ use Rattle.routes_taps.specs.declared.taps.Reached.{Reached}
 abbrev pub tap_of : Tap → Groups.Tap
 tap_of t = record { page = t.page; group = t.group; row = t.row; y = t.y; x = t.x; node = t.node; port = t.port; wire = t.wire }
 
--- The lane of a tap's group holds what the rules say of it. A row that is known is not MISSING.
+-- The lane of a tap's group holds what the rules say of it.
 pub record LaneOf (b : Board) (ts : List Groups.Tap) (ps : List PageLanes) (t : Groups.Tap) (l : Lane) : Type 0 where
   pub page : l.page ≡ t.page
   pub lane : l.lane ≡ lane_for ps t
@@ -39,6 +39,10 @@ pub record LaneOf (b : Board) (ts : List Groups.Tap) (ps : List PageLanes) (t : 
   pub source_x : l.source_x ≡ x_of b (source b ts ps t)
   pub source_y : l.source_y ≡ y_of b (source b ts ps t)
   pub row : l.source_row ≡ found_of (source_row b t.group t.page)
+
+-- So does a lane that is read from the tables, and a row that is known there is not MISSING.
+pub record LaneRead (b : Board) (ts : List Groups.Tap) (ps : List PageLanes) (t : Groups.Tap) (l : Lane) : Type 0 where
+  pub told : LaneOf b ts ps t l
   pub row_small : (row : ℕ) → l.source_row ≡ Some row → row < MISSING
 
 -- The numbers of a lane are in range: it is on a page, and has a number; a rerouter's place left of its source is no negative number.
