@@ -165,6 +165,7 @@ module _ (b : Board) (ts : List Groups.Tap) (ps : List PageLanes) (pages nodes w
         row = row_is;
       }
 
+  -- The same, with what is known of its row.
   pub lane_read_told : LaneRead b ts ps t (lane_read pages nodes wires facts groups t.page t.group)
   lane_read_told = record { told = lane_of_lem; row_small = row_low }
 

@@ -40,7 +40,7 @@ pub record LaneOf (b : Board) (ts : List Groups.Tap) (ps : List PageLanes) (t : 
   pub source_y : l.source_y ≡ y_of b (source b ts ps t)
   pub row : l.source_row ≡ found_of (source_row b t.group t.page)
 
--- So does a lane that is read from the tables, and a row that is known there is not MISSING.
+-- A lane that is read from the tables holds that too, and a row that is known is below MISSING.
 pub record LaneRead (b : Board) (ts : List Groups.Tap) (ps : List PageLanes) (t : Groups.Tap) (l : Lane) : Type 0 where
   pub told : LaneOf b ts ps t l
   pub row_small : (row : ℕ) → l.source_row ≡ Some row → row < MISSING
